@@ -1,4 +1,4 @@
--- What a conveyancer awaits of a unit, and what it sees by that of the unit's entries.
+-- A conveyancer's pending mutations that refer to a unit, and the entries that it sees by them.
 use Rattle.std.proofs.Common.{◌≡◌, ◌&&◌, ◌∙◌, ℕ, Bool, true, false, cond, nat_eq, List, [], ◌∷◌, filter, refl, sym, ap, ap₂}
 use Rattle.std.proofs.lemmas.Bool.{and_parts}
 use Rattle.std.proofs.lemmas.Bool.Decides.{Decides-eqb}
@@ -20,16 +20,16 @@ use Rattle.land_rules.specs.Relations.{is_lodger_on}
 use Rattle.land_rules.specs.Rules.{sees}
 use Rattle.land_select.proofs.ShownByInterest.{only_where}
 use Rattle.land_select.proofs.Viewed.{agreed}
-use Rattle.land_select.specs.Views.{awaited_of, in_sight}
+use Rattle.land_select.specs.Views.{awaited_of, visible_rrrs}
 use Rattle.land_select_joins.proofs.Standing.{entry_there}
 
 -- ---- a unit
 
--- where no undecided mutation of a party names a unit, none names it, be the unit there or not
+-- no pending mutation of a party refers to the unit, regardless of its existence
 pub none_names : (named there : Bool) → false ≡ named → ◌≡◌ {A = Bool × Bool} (false, false) (named && there, named)
 none_names named there is = ap (λ (b : Bool). (b && there, b)) is
 
--- and where one does, the unit is awaited where it stands
+-- one does, so the unit is visible if it exists
 pub one_names : (named there : Bool) → true ≡ named → (it : Bool) → it ≡ there → ◌≡◌ {A = Bool × Bool} (it, true) (named && there, named)
 one_names named there is it same = ap₂ (λ (a b : Bool). (b && a, b)) same is
 
@@ -43,9 +43,9 @@ none_kept p (x ∷ xs) = go (p x) (none_kept p xs)
     go true rest = rest
     go false rest = rest
 
--- of the entries of a unit, what is awaited is in sight
+-- of the entries of a unit, those that a pending mutation shows are visible
 pub awaited_in_sight : WhatIsAwaitedIsSeen → (r : Register) (caller : Caller) (unit : ℕ) → IsSoundOrNothing r → sees_by_awaiting caller.role Rrr ≡ true
-    → awaited_of r caller.party unit (entries_of r unit) ≡ in_sight r caller unit
+    → awaited_of r caller.party unit (entries_of r unit) ≡ visible_rrrs r caller unit
 awaited_in_sight law r caller unit premise by = go (is_lodger_on r caller.party unit) refl
   where
     seen : (e : ℕ × RrrRecord) → Contains (map.entries r.rrrs) e → e.1.unit ≡ unit → sees r caller Rrr e.0 ≡ is_lodger_on r caller.party unit
@@ -57,14 +57,14 @@ awaited_in_sight law r caller unit premise by = go (is_lodger_on r caller.party 
         agreed (λ e. nat_eq e.1.unit unit && b) (λ e. nat_eq e.1.unit unit && sees r caller Rrr e.0) (map.entries r.rrrs)
         (λ e among. only_where (nat_eq e.1.unit unit) b (sees r caller Rrr e.0) (λ same. sym (seen e among ((Decides-eqb e.1.unit unit).0 same) ∙ is)))
 
-    go : (b : Bool) → is_lodger_on r caller.party unit ≡ b → cond b (entries_of r unit) map.empty ≡ in_sight r caller unit
+    go : (b : Bool) → is_lodger_on r caller.party unit ≡ b → cond b (entries_of r unit) map.empty ≡ visible_rrrs r caller unit
     go true is =
         ap (with_entries (map.empty {R = nat_cmp}))
         (agreed (λ e. nat_eq e.1.unit unit) (λ e. nat_eq e.1.unit unit && true) (map.entries r.rrrs) (λ e among. sym (and_true (nat_eq e.1.unit unit))) ∙ kept true is)
     go false is = ap (with_entries (map.empty {R = nat_cmp})) (sym (none_kept (λ e. nat_eq e.1.unit unit) (map.entries r.rrrs)) ∙ kept false is)
 
--- so all of them are, where the unit is awaited
+-- so all of them are, if a pending mutation refers to the unit
 pub entries_awaited : WhatIsAwaitedIsSeen → (r : Register) (caller : Caller) (unit : ℕ) → IsSoundOrNothing r → sees_by_awaiting caller.role Rrr ≡ true → is_awaited r caller UnitKind unit ≡ true
-    → entries_of r unit ≡ in_sight r caller unit
+    → entries_of r unit ≡ visible_rrrs r caller unit
 entries_awaited law r caller unit premise by is =
     sym (ap (λ b. cond b (entries_of r unit) map.empty) (and_parts (is_lodger_on r caller.party unit) (stands r UnitKind unit) is).0) ∙ awaited_in_sight law r caller unit premise by

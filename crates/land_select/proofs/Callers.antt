@@ -1,4 +1,4 @@
--- Whoever holds the role in which it asks stands.
+-- A party that holds the role of its request exists.
 use Rattle.std.proofs.Common.{◌≡◌, ◌∙◌, inl, inr, ℕ, Bool, true, false, nat_eq, cond, None, Some, Option, is_some, refl, sym, ap, subst}
 use Rattle.std.proofs.lemmas.Bool.{false≢true}
 use Rattle.std.proofs.lemmas.Bool.Decides.{Decides-eqb}
@@ -19,7 +19,7 @@ use Rattle.land_rules.specs.Denials.Standing.{one_at}
 use Rattle.land_rules.specs.Laws.{IsSoundOrNothing}
 use Rattle.land_select.specs.Verdicts.{roles_in, somebody}
 
--- ---- who is put in, stands
+-- ---- a placeholder exists
 
 there : {V : Type 0} (n : ℕ) (found : Option V) → map.get (one_at (Some n) found) n ≡ found
 there n None = map.get-empty nat_cmp n
@@ -32,14 +32,14 @@ is_there false = refl
 pub put_there : (n : ℕ) (b : Bool) → is_some (map.get (one_at (Some n) (somebody b)) n) ≡ b
 put_there n b = ap is_some (there n (somebody b)) ∙ is_there b
 
--- ---- who holds a role, stands
+-- ---- a holder of a role exists
 
--- a party of whose kind something is told stands
+-- a party with a kind exists
 party_there : (o : Option PartyRecord) (test : PartyRecord → Bool) → option_map_or test o false ≡ true → is_some o ≡ true
 party_there None test it = it
 party_there (Some p) test it = refl
 
--- in a register that is sound, or holds nothing
+-- in a register that is sound or empty
 holder_stands : SoundnessByLookUps → (r : Register) (caller : Caller) → IsSoundOrNothing r → holds r caller.party caller.role ≡ true → stands r kind.Party caller.party ≡ true
 holder_stands look_ups r caller (inl sound) held = party_there (map.get r.parties caller.party) _ (((look_ups r).0 sound).roles caller.party caller.role held)
 holder_stands look_ups r caller (inr none) held =

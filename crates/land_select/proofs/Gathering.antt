@@ -1,4 +1,4 @@
--- What is put together is what was asked for of each part.
+-- Inserting the parts of each number gives the part of all of them.
 use Rattle.std.proofs.Common.{◌≡◌, ◌⊎◌, ℕ, Bool, true, false, ◌||◌, nat_eq, cond, List, [], ◌∷◌, Option, Some, None, refl, sym, ap, ap₂, subst, ◌∙◌, inl, inr}
 use Rattle.std.proofs.lemmas.Bool.{or_cases, or_left, or_right}
 use Rattle.std.proofs.lemmas.Bool.Decides.{Decides-eqb}
@@ -24,9 +24,9 @@ use Rattle.land_core.specs.declared.source.SourceRecord.{SourceRecord}
 use Rattle.land_core.specs.declared.unit.UnitRecord.{UnitRecord}
 use Rattle.land_select.proofs.Keeping.{entry_found, entry_there, is_kept, none_kept, same_entries, same_kept, was_kept}
 use Rattle.land_select.specs.Slices.Gathered.{KnowsHoldings, KnowsPapers, KnowsPeople, put_all, put_one, with_number, with_person, with_source, with_unit}
-use Rattle.land_select.specs.declared.slices.holdings.Holdings.{Holdings}
-use Rattle.land_select.specs.declared.slices.papers.Papers.{Papers}
-use Rattle.land_select.specs.declared.slices.people.People.{People}
+use Rattle.land_select.specs.declared.slices.units_and_entries.UnitsAndEntries.{UnitsAndEntries}
+use Rattle.land_select.specs.declared.slices.gathered_sources.GatheredSources.{GatheredSources}
+use Rattle.land_select.specs.declared.slices.parties_and_roles.PartiesAndRoles.{PartiesAndRoles}
 use Rattle.land_select_joins.proofs.Containing.{first, first_or_later, in_nothing, later}
 
 -- ---- truths
@@ -44,7 +44,7 @@ module _ {K V : Type 0} {R : K → K → Ordering} (o : IsTotalOrder R) (same : 
     abbrev pub IsWithin : FinMap R V → Type 0
     IsWithin m = (k : K) (v : V) → map.get m k ≡ Some v → map.get all k ≡ Some v
 
-    -- an entry of all, put in
+    -- an inserted entry of the whole map
     put_within : (m : FinMap R V) (e : K × V) → map.get all e.0 ≡ Some e.1 → IsWithin m → IsWithin (map.insert m e.0 e.1)
     put_within m e of within k v is = go (eq_by_cmp R k e.0) refl (sym (map.get-insert o m e.0 e.1 k) ∙ is)
       where
@@ -87,7 +87,7 @@ module _ {K V : Type 0} {R : K → K → Ordering} (o : IsTotalOrder R) (same : 
         go [] a = tt
         go (e ∷ es) a = (within e.0 e.1 a.0, go es a.1)
 
-    -- what is put in comes from one part or the other
+    -- an inserted entry is of one part or the other
     from_either : (es : List (K × V)) (m : FinMap R V) (k : K) (v : V) → map.get (with_entries m es) k ≡ Some v → (map.get m k ≡ Some v) ⊎ Contains es (k, v)
     from_either [] m k v is = inl is
     from_either (e ∷ es) m k v is = elim (from_either es (map.insert m e.0 e.1) k v is) [
@@ -99,7 +99,7 @@ module _ {K V : Type 0} {R : K → K → Ordering} (o : IsTotalOrder R) (same : 
         go true at it = inr (subst (λ (x : K × V). Contains (e ∷ es) x) (two e.0 k e.1 v (sym (same k e.0 (is_equal _ at))) (one it)) (first e es))
         go false apart it = inl it
 
-    -- what either of two tests keeps, put together
+    -- the union of two filtered maps
     pub both_kept : (w u : K → V → Bool) → put_all (only w all) (only u all) ≡ only (λ k v. u k v || w k v) all
     both_kept w u =
         let of = entries_of (only u all) (λ k v is. (was_kept o same u all k v is).0) in
@@ -114,7 +114,7 @@ module _ {K V : Type 0} {R : K → K → Ordering} (o : IsTotalOrder R) (same : 
           | inr old ↦ all_keep (map.entries (only u all)) of (only w all) within k v (is_kept o same w all k v it.0 old)
         ])
 
--- one more record, as the whole has it
+-- one more record of the whole map
 pub one_kept : {V : Type 0} (asked : ℕ → Bool) (all : FinMap nat_cmp V) (n : ℕ) (found : Option V) → found ≡ map.get all n
     → put_one (only (λ k v. asked k) all) n found ≡ only (λ k v. with_number n asked k) all
 one_kept {V} asked all n None is =
@@ -146,14 +146,14 @@ one_kept {V} asked all n (Some value) is =
         let that = was_kept nat_cmp_total nat_cmp-IsAntisymmetric (λ k v. asked k) all k v it in
         is_kept nat_cmp_total nat_cmp-IsAntisymmetric (λ k v. with_number n asked k) all k v that.0 (or_right (nat_eq k n) (asked k) that.1)
 
--- a record alone, as the whole has it
+-- a single record of the whole map
 pub single_kept : {V : Type 0} (all : FinMap nat_cmp V) (n : ℕ) (found : Option V) → found ≡ map.get all n → put_one map.empty n found ≡ only (λ k v. nat_eq k n) all
 single_kept all n found is =
     ap (λ m. put_one m n found) (none_kept nat_cmp_total nat_cmp-IsAntisymmetric all) ∙ one_kept (λ k. false) all n found is
     ∙ same_kept nat_cmp_total nat_cmp-IsAntisymmetric (λ k v. with_number n (λ k. false) k) (λ k v. nat_eq k n) all (λ k v. or_nothing (nat_eq k n))
 
 -- one more party with its roles and its members
-pub person_known : (r : Register) (asked : ℕ → Bool) (known : People) (n : ℕ) (party : Option PartyRecord) (roles : Grants) (members : FinMap nat_cmp Members) → party ≡ map.get r.parties n
+pub person_known : (r : Register) (asked : ℕ → Bool) (known : PartiesAndRoles) (n : ℕ) (party : Option PartyRecord) (roles : Grants) (members : FinMap nat_cmp Members) → party ≡ map.get r.parties n
     → roles ≡ only (λ grant u. nat_eq grant.party n) r.roles → members ≡ only (λ k ms. nat_eq k n) r.members → KnowsPeople r asked known
     → KnowsPeople r (with_number n asked) (with_person known n party roles members)
 person_known r asked known n party roles members party_is roles_are members_are knows = record {
@@ -163,7 +163,7 @@ person_known r asked known n party roles members party_is roles_are members_are 
 }
 
 -- one more unit with its parcels and its entries
-pub unit_known : (r : Register) (asked : ℕ → Bool) (known : Holdings) (n : ℕ) (unit : Option UnitRecord) (parcels : FinMap nat_cmp ParcelRecord) (rrrs : FinMap nat_cmp RrrRecord)
+pub unit_known : (r : Register) (asked : ℕ → Bool) (known : UnitsAndEntries) (n : ℕ) (unit : Option UnitRecord) (parcels : FinMap nat_cmp ParcelRecord) (rrrs : FinMap nat_cmp RrrRecord)
     → unit ≡ map.get r.units n → parcels ≡ only (λ k p. nat_eq p.unit n) r.parcels → rrrs ≡ only (λ k e. nat_eq e.unit n) r.rrrs → KnowsHoldings r asked known
     → KnowsHoldings r (with_number n asked) (with_unit known n unit parcels rrrs)
 unit_known r asked known n unit parcels rrrs unit_is parcels_are rrrs_are knows = record {
@@ -173,6 +173,6 @@ unit_known r asked known n unit parcels rrrs unit_is parcels_are rrrs_are knows 
 }
 
 -- one more source
-pub source_known : (r : Register) (asked : ℕ → Bool) (known : Papers) (n : ℕ) (source : Option SourceRecord) → source ≡ map.get r.sources n → KnowsPapers r asked known
+pub source_known : (r : Register) (asked : ℕ → Bool) (known : GatheredSources) (n : ℕ) (source : Option SourceRecord) → source ≡ map.get r.sources n → KnowsPapers r asked known
     → KnowsPapers r (with_number n asked) (with_source known n source)
 source_known r asked known n source is knows = record { sources = ap (λ m. put_one m n source) knows.sources ∙ one_kept asked r.sources n source is }

@@ -1,4 +1,4 @@
--- What the evidence and what is in sight tell is the verdict on what is asked.
+-- The verdict of the standing rules on the evidence and of the sight rules is the verdict on the request.
 use Rattle.std.proofs.Common.{◌≡◌, ◌∙◌, ◌++◌, ◌&&◌, ◌||◌, ℕ, ℤ, Bool, true, false, cond, [], ◌∷◌, None, Some, Option, Ok, IfSome, IsTrue, refl, sym, ap, ap₂, arith, inl}
 use Rattle.std.proofs.lemmas.Bool.{false≢true}
 use Rattle.std.specs.FinMap as map
@@ -26,7 +26,7 @@ use Rattle.land_tables_schema.specs.Rows.Looks.{IsLook}
 use Rattle.sqlite.specs.State.{HasCleanDisk, State}
 use Rattle.sqlite_trees.specs.Tree.{Trees}
 
--- where the store is open, not to look at it is a look
+-- no read of an open store is a read-only query
 pub looked_at_nothing : {X E : Type 0} (x : X) (Given : X → Type 0) (a : State) → (HasCleanDisk a → IsTrue a.is_open) → (HasCleanDisk a → Given x) → IsLook {X = X} {E = E} (Ok x) Given a a
 looked_at_nothing x Given a is_open given = record {
   given = given;
@@ -35,17 +35,17 @@ looked_at_nothing x Given a is_open given = record {
   survives = record { clean = omega arith; shield = λ x. x; counts = omega arith; limit = refl; closes = λ _ t. inl t; crash = λ _ _ x. inl x };
 }
 
--- two parts of a register are one
+-- two parts of a register as one
 pub both_parts : {T U : Type 0} (f : Register → T) (g : Register → U) (t : ℤ) (db : Trees) (x : T) (y : U) → IsPart f t db x → IsPart g t db y → IsPart {T = T × U} (λ r. (f r, g r)) t db (x, y)
 both_parts f g t db x y one two moments h held r have stand = ap₂ (λ a b. (a, b)) (one moments h held r have stand) (two moments h held r have stand)
 
--- ---- who asks
+-- ---- the caller
 
 at_number : {V : Type 0} (o : Option ℕ) (m : FinMap nat_cmp V) → IfSome o (λ n. record_at m o ≡ map.get m n)
 at_number None m = tt
 at_number (Some n) m = refl
 
--- by the evidence is denied what is denied by all of the register
+-- the evidence is denied by the rules that deny the register
 pub evidence_denies : EvidenceIsEnough → LookedUpIsEnough → (r : Register) (caller : Caller) (a : Ask) (past : Bool) (evidence : Register) → evidence ≡ evidence_in r caller a
     → first_denial (standing_rules evidence caller a past) ≡ first_denial (standing_rules r caller a past)
 evidence_denies enough looked r caller a past evidence is =
@@ -57,12 +57,13 @@ evidence_denies enough looked r caller a past evidence is =
     ap (λ (m : Register). first_denial (standing_rules m caller a past)) is
     ∙ enough (evidence_in r caller a) r caller a past (record { party = put_there caller.party (stands r kind.Party caller.party); role = it.role; entry = it.entry; mutation = it.mutation })
 
--- ---- what is in sight
+-- ---- visibility
 
 denied_is_not_allowed : (j : ℕ) → Denied j ≡ Allowed → ⊥
 denied_is_not_allowed j e = cc
 
--- who is no conveyancer that views a unit is told by what is in sight alone, also where nothing stands
+-- visibility alone decides the verdict, except on a conveyancer's view of a unit; also if the register is
+-- empty
 pub sight_told : SightTellsVerdicts → (r : Register) → IsSoundOrNothing r → (caller : Caller) (k : Kind) (n : ℕ) → is_unit_of_conveyancer caller.role k ≡ false
     → told_by (sees r caller k n) false caller k n ≡ first_denial (view_rules r caller k n)
 sight_told law r premise caller k n other =
@@ -70,7 +71,7 @@ sight_told law r premise caller k n other =
     (and_false (is_unit_of_conveyancer caller.role k) ∙ sym (ap (λ b. b && is_lodger_on r caller.party n) other))
     ∙ sym (law r premise caller k n)
 
--- a conveyancer that views a unit sees it by what it awaits
+-- a conveyancer sees a unit by a pending mutation
 by_awaiting : (role : Role) (k : Kind) → is_unit_of_conveyancer role k ≡ true → (k ≡ kind.Unit) × (sees_by_awaiting role kind.Unit ≡ true)
 by_awaiting role kind.Party is = absurd (false≢true is)
 by_awaiting role kind.Unit is = (refl, is)
@@ -79,7 +80,7 @@ by_awaiting role kind.Rrr is = absurd (false≢true is)
 by_awaiting role kind.Source is = absurd (false≢true is)
 by_awaiting role kind.Mutation is = absurd (false≢true is)
 
--- so it is told by that, and by whether an undecided mutation of its own names the unit
+-- so a pending mutation decides, with its existence apart from that of the unit
 pub unit_told : SightTellsVerdicts → WhatIsAwaitedIsSeen → (r : Register) → IsSoundOrNothing r → (caller : Caller) (k : Kind) (n : ℕ) → is_unit_of_conveyancer caller.role k ≡ true
     → told_by (is_awaited r caller kind.Unit n) (is_lodger_on r caller.party n) caller kind.Unit n ≡ first_denial (view_rules r caller k n)
 unit_told law awaited r premise caller k n is =
@@ -108,11 +109,11 @@ denied_first (x ∷ xs) ys j h = go x.1 (denied_first xs ys j) h
     go true rest h = h
     go false rest h = rest h
 
--- where the standing rules allow, the sight rules say what is said
+-- if the standing rules allow, the verdict is that of the sight rules
 pub sight_says : (now at : Register) (caller : Caller) (a : Ask) (past : Bool) (it : Verdict) → Allowed ≡ first_denial (standing_rules now caller a past) → it ≡ first_denial (sight_rules at caller a)
     → it ≡ verdict_of now at caller a past
 sight_says now at caller a past it allowed is = is ∙ sym (allowed_first (standing_rules now caller a past) (sight_rules at caller a) (sym allowed))
 
--- and what they deny is denied
+-- and if they deny, it is theirs
 pub standing_says : (now at : Register) (caller : Caller) (a : Ask) (past : Bool) (j : ℕ) → Denied j ≡ first_denial (standing_rules now caller a past) → Denied j ≡ verdict_of now at caller a past
 standing_says now at caller a past j denied = sym (denied_first (standing_rules now caller a past) (sight_rules at caller a) j (sym denied))

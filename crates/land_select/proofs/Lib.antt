@@ -1,7 +1,7 @@
--- Lemmas of the keeper over joins.
+-- Lemmas of the indexed keeper.
 pub mod Awaiting
 pub mod Callers
-pub mod Found
+pub mod CachedValue
 pub mod Gathering
 pub mod Judged
 pub mod Keeping

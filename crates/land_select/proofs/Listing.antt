@@ -1,4 +1,4 @@
--- Registers that have the objects of a range alone list them as the whole register does.
+-- A register with only the objects of a range lists them like the whole register.
 use Rattle.std.proofs.Common.{◌≡◌, ◌↔◌, ◌&&◌, ◌++◌, ◌+◌, ◌<◌, ◌≤◌, arith, get_or, length, take, inl, inr, ℕ, Bool, true, false, nat_eq, cond, List, [], ◌∷◌, Option, Some, None, refl, sym, ap, ap₂, subst, ◌∙◌}
 use Rattle.std.proofs.lemmas.Bool.{and_parts, false≢true, le-leb, leb-true}
 use Rattle.std.proofs.lemmas.Bool.Decides.{Decides-eqb}
@@ -34,13 +34,13 @@ use Rattle.land_select_joins.specs.Lookups.Parties.{has_entry_among, of_range}
 use Rattle.land_select_joins.specs.Lookups.Ranges.{is_within}
 use Rattle.sqlite_trees.proofs.ListLemmas.{all-append}
 
--- the numbers that lie in the range are listed alike, so all that lie in it are
+-- the numbers in the range are listed alike, so all numbers of a list in it are
 pub objects_alike : (k : Kind) (first last : ℕ) (one other : Register) → ListsAlike k first last one other → (numbers : List ℕ) → AllByRecursion (λ n. is_within first last n ≡ true) numbers
     → objects_at one k numbers ≡ objects_at other k numbers
 objects_alike k first last one other alike [] all = refl
 objects_alike k first last one other alike (n ∷ ns) all = ap₂ (λ a b. a ++ b) (alike n all.0) (objects_alike k first last one other alike ns all.1)
 
--- ---- a range in which some numbers lie
+-- ---- the range of some numbers
 
 in_range : (first last n : ℕ) → first ≤ n → n ≤ last → is_within first last n ≡ true
 in_range first last n low high = ap₂ (λ a b. a && b) (le-leb first n low) (le-leb n last high)
@@ -56,7 +56,7 @@ all_widened : (first last least most : ℕ) → least ≤ first → last ≤ mos
 all_widened first last least most low high [] all = tt
 all_widened first last least most low high (n ∷ ns) all = (widened first last least most n low high all.0, all_widened first last least most low high ns all.1)
 
--- one number more lies in the range that is widened for it
+-- one more number is in the range that is widened for it
 pub one_more_within : (numbers : List ℕ) (i first last least most : ℕ) → i < length numbers → least ≤ first → last ≤ most → least ≤ get_or numbers i 0 → get_or numbers i 0 ≤ most
     → AllByRecursion (λ n. is_within first last n ≡ true) (take i numbers) → AllByRecursion (λ n. is_within least most n ≡ true) (take (i + 1) numbers)
 one_more_within numbers i first last least most inside low high above below all =
@@ -64,7 +64,7 @@ one_more_within numbers i first last least most inside low high above below all 
     subst (λ (ns : List ℕ). AllByRecursion (λ n. is_within least most n ≡ true) ns) (sym (take_more numbers i 0 inside))
     (all-append (λ n. is_within least most n ≡ true) (take i numbers) (n ∷ []) (all_widened first last least most low high (take i numbers) all) (in_range least most n above below, tt))
 
--- what a map has within the range, it has there alone
+-- the contents of a map in the range are in the filtered map
 found_within : {V : Type 0} (found m : FinMap nat_cmp V) (first last n : ℕ) → found ≡ only (λ k v. is_within first last k) m → is_within first last n ≡ true → map.get found n ≡ map.get m n
 found_within {V = V} found m first last n is within =
     ap (λ (f : FinMap nat_cmp V). map.get f n) is ∙ get-only nat_cmp_total nat_cmp-IsAntisymmetric (λ k v. is_within first last k) m n (λ v. within)
@@ -140,13 +140,13 @@ put_other m k n v apart = map.get-insert nat_cmp_total m k v n ∙ ap (λ b. con
 put_same : (m : FinMap nat_cmp PartyRecord) (n : ℕ) (v : PartyRecord) → map.get (map.insert m n v) n ≡ Some v
 put_same m n v = here m n v
 
--- what is put in for no party of the number leaves what is there
+-- inserting other numbers does not change the record of a number
 none_put : (list : List Numbered) (m : FinMap nat_cmp PartyRecord) (n : ℕ) → ((party : Numbered) → Contains list party → party.0 ≡ n → ⊥) → map.get (with_entries m list) n ≡ map.get m n
 none_put [] m n absent = refl
 none_put (p ∷ ps) m n absent =
     none_put ps (map.insert m p.0 p.1) n (λ party there. absent party (later p ps party there)) ∙ put_other m p.0 n p.1 (absent p (first p ps))
 
--- what is there stays, where all that is put in under the number is it
+-- a record does not change if all that is inserted with its number is equal to it
 stays : (list : List Numbered) (m : FinMap nat_cmp PartyRecord) (n : ℕ) (it : PartyRecord) → map.get m n ≡ Some it → ((party : Numbered) → Contains list party → party.0 ≡ n → party.1 ≡ it)
     → map.get (with_entries m list) n ≡ Some it
 stays [] m n it got all = got
@@ -158,7 +158,7 @@ stays (p ∷ ps) m n it got all = stays ps (map.insert m p.0 p.1) n it (go (nat_
         subst (λ (k : ℕ). map.get (map.insert m k p.1) n ≡ Some it) (sym same) (put_same m n p.1 ∙ ap (λ (x : PartyRecord). Some x) (all p (first p ps) same))
     go false is = put_other m p.0 n p.1 (λ same. false≢true (sym is ∙ (Decides-eqb p.0 n).1 same)) ∙ got
 
--- and what is put in is there
+-- and an inserted record is in the map
 one_put : (list : List Numbered) (m : FinMap nat_cmp PartyRecord) (n : ℕ) (it : PartyRecord) → Contains list (n, it) → ((party : Numbered) → Contains list party → party.0 ≡ n → party.1 ≡ it)
     → map.get (with_entries m list) n ≡ Some it
 one_put [] m n it among all = absurd (in_nothing (n, it) among)
@@ -182,7 +182,7 @@ module _ (found : FinMap nat_cmp RrrRecord) (list : List Numbered) (r : Register
   abbrev alone : Register
   alone = record nothing { rrrs = found; parties = with_entries map.empty list }
 
-  -- the party of an entry of the range is called as it is in the register
+  -- the party of an entry in the range has its name of the register
   called_alike : (n : ℕ) (e : RrrRecord) → is_within first_number last_number n ≡ true → map.get r.rrrs n ≡ Some e → name_at alone e.party ≡ name_at r e.party
   called_alike n e within got = ap (λ (o : Option PartyRecord). option_map_or (λ (p : PartyRecord). p.name) o []) (go (map.get r.parties e.party) refl)
     where

@@ -1,4 +1,4 @@
--- A look, by what it means.
+-- A read-only query, by its meaning.
 use Rattle.std.proofs.Common.{Result}
 use Rattle.std.proofs.lemmas.Result.{IfOk-weaker}
 use Rattle.land_tables_schema.specs.Rows.Looks.{IsLook}

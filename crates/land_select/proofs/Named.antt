@@ -1,4 +1,4 @@
--- Entries with the names of their parties, which are found for the whole unit.
+-- Entries with the names of their parties, which are read for the whole unit.
 use Rattle.std.proofs.Common.{◌≡◌, ◌↔◌, ◌&&◌, ◌∙◌, inl, inr, ℕ, Bool, true, false, nat_eq, if◌then◌else◌, List, [], ◌∷◌, filter, map as map_list, None, Some, Option, refl, sym, ap, ap₂, true≢false}
 use Rattle.std.proofs.lemmas.Bool.Decides.{Decides-eqb}
 use Rattle.std.specs.Cmp.{nat_cmp_total}
@@ -16,7 +16,7 @@ use Rattle.land_core.specs.declared.register.Register.{Register}
 use Rattle.land_core.specs.declared.rrr.RrrRecord.{RrrRecord}
 use Rattle.land_keep.specs.Sheets.{entries_seen, name_at, named_rrr}
 use Rattle.land_rules.specs.Rules.{sees}
-use Rattle.land_select.specs.Views.{in_sight, name_among, named_among, with_name}
+use Rattle.land_select.specs.Views.{visible_rrrs, name_among, named_among, with_name}
 use Rattle.land_select_joins.proofs.Containing.{first, first_or_later, in_nothing, later}
 use Rattle.land_select_joins.proofs.Records.{passes_filter}
 use Rattle.land_select_joins.proofs.Standing.{entry_there}
@@ -29,7 +29,7 @@ PartyVersion = Version (ℕ × PartyRecord)
 abbrev what_of : PartyVersion → ℕ × PartyRecord
 what_of v = v.what
 
--- a party that is not among some has no name among them
+-- a party that is not in a list has no name in it
 none_among : (parties : List PartyVersion) (number : ℕ) → ((party : ℕ × PartyRecord) → Contains (map_list what_of parties) party → party.0 ≡ number → ⊥) → name_among parties number ≡ []
 none_among [] number absent = refl
 none_among (v ∷ vs) number absent =
@@ -39,7 +39,7 @@ none_among (v ∷ vs) number absent =
     go true is rest = absurd (absent v.what (first v.what (map_list what_of vs)) ((Decides-eqb v.what.0 number).0 is))
     go false is rest = rest
 
--- and one that is has its own, where all of its number are it
+-- a party in a list has its own name, if all versions of its number are its own
 one_among : (parties : List PartyVersion) (number : ℕ) (it : PartyRecord) → Contains (map_list what_of parties) (number, it)
     → ((party : ℕ × PartyRecord) → Contains (map_list what_of parties) party → party.0 ≡ number → party.1 ≡ it) → name_among parties number ≡ it.name
 one_among [] number it among all = absurd (in_nothing (number, it) among)
@@ -62,7 +62,7 @@ none_there e = cc
 
 module _ (r : Register) (unit : ℕ) (parties : List PartyVersion)
     (all : (party : ℕ × PartyRecord) → Contains (map_list what_of parties) party ↔ ((has_entry_in r unit party.0 ≡ true) × (map.get r.parties party.0 ≡ Some party.1))) where
-  -- the party of an entry of the unit is called as it is in the register
+  -- the party of an entry of the unit has its name of the register
   name_is : (e : ℕ × RrrRecord) → Contains (map.entries r.rrrs) e → e.1.unit ≡ unit → name_among parties e.1.party ≡ name_at r e.1.party
   name_is e among same = go (map.get r.parties e.1.party) refl
     where
@@ -88,8 +88,8 @@ same_mapped f g (x ∷ xs) same = ap₂ (λ a b. a ∷ b) (same x (first x xs)) 
 abbrev is_seen : Register → Caller → (unit : ℕ) → ℕ × RrrRecord → Bool
 is_seen r caller unit e = nat_eq e.1.unit unit && sees r caller Rrr e.0
 
--- so the entries that are in sight, named, are those that are seen
-pub named_in_sight : (r : Register) (caller : Caller) (unit : ℕ) (entries : FinMap nat_cmp RrrRecord) (parties : List PartyVersion) → entries ≡ in_sight r caller unit
+-- so the visible entries with names are those of the title sheet
+pub named_in_sight : (r : Register) (caller : Caller) (unit : ℕ) (entries : FinMap nat_cmp RrrRecord) (parties : List PartyVersion) → entries ≡ visible_rrrs r caller unit
     → ((party : ℕ × PartyRecord) → Contains (map_list what_of parties) party ↔ ((has_entry_in r unit party.0 ≡ true) × (map.get r.parties party.0 ≡ Some party.1)))
     → named_among parties (map.entries entries) ≡ entries_seen r caller unit
 named_in_sight r caller unit entries parties are all =

@@ -1,4 +1,4 @@
--- Whom and what an act names is what is listed.
+-- The lists of parties and units have the numbers that an act refers to.
 use Rattle.std.proofs.Common.{◌≡◌, ℕ, Bool, true, false, ◌||◌, nat_eq, is_some, List, [], ◌∷◌, Option, Some, None, refl, sym, ap, ap₂, ◌∙◌}
 use Rattle.std.proofs.lemmas.Bool.{false≢true}
 use Rattle.std.proofs.lemmas.Bool.Decides.{Decides-eqb}
@@ -47,7 +47,7 @@ any_same : {X : Type 0} (p q : X → Bool) → ((x : X) → p x ≡ q x) → (xs
 any_same p q same [] = refl
 any_same p q same (x ∷ xs) = ap₂ (λ a b. a || b) (same x) (any_same p q same xs)
 
--- the numbers that are asked for with those of a list
+-- the set of numbers with those of a list
 pub asked_with : (ns : List ℕ) (asked : ℕ → Bool) (n : ℕ) → with_numbers ns asked n ≡ (asked n || lists ns n)
 asked_with [] asked n = sym (or_nothing (asked n))
 asked_with (m ∷ ns) asked n = asked_with ns (with_number m asked) n ∙ turned (nat_eq n m) (asked n) (lists ns n)
@@ -73,7 +73,7 @@ listed_unit n (content.Discharge it) = one_unit n it.unit
 
 -- ---- acts
 
--- the mutation that an act decides is among those that it is about
+-- the mutation that an act decides is one of those that it refers to
 module _ (r : Register) (k : ℕ) (mutations : FinMap nat_cmp MutationRecord) (are : mutations ≡ only (λ n m. nat_eq n k) r.mutations) where
   decided_there : map.get mutations k ≡ map.get r.mutations k
   decided_there = ap (λ ms. map.get ms k) are ∙ get-only nat_cmp_total nat_cmp-IsAntisymmetric (λ n m. nat_eq n k) r.mutations k (λ m. nat_eq_equiv.refl k)

@@ -1,4 +1,4 @@
--- What a caller sees of parties follows from its names and from who is told of a party.
+-- The parties that a caller sees follow from its names and from the viewers of a party.
 use Rattle.std.proofs.Common.{◌≡◌, ◌⊎◌, ◌↔◌, inl, inr, ℕ, ℤ, Bool, true, false, cond, not, ◌&&◌, nat_eq, List, [], ◌∷◌, None, Some, Option, refl, sym, ap, subst, ◌∙◌}
 use Rattle.std.proofs.lemmas.Bool.{eqb-true, false≢true}
 use Rattle.std.proofs.lemmas.Bool.Decides.{Decides-at, Decides-eqb, Decides-like, Decides-or, same_from_decides}
@@ -41,12 +41,12 @@ use Rattle.land_tables_history.specs.declared.history.History.{History}
 
 -- ---- names
 
--- of a citizen those in which it holds
+-- those in which a citizen holds rights
 pub own_of_citizen : (r : Register) (caller : Caller) (names : List ℕ) → is_role caller.role Citizen ≡ true → AreNamesOf r caller names → AreOwnNames caller names r
 own_of_citizen r caller names is are named =
     subst (λ b. Contains names named ↔ (b ≡ true)) (sym (ap (λ b. cond b (is_name_of r (circle_of r caller.party) named) (nat_eq named caller.party)) is)) (are is named)
 
--- of another caller its own
+-- the caller itself, for other roles
 pub own_of_other : (r : Register) (caller : Caller) (names : List ℕ) → is_role caller.role Citizen ≡ false → names ≡ caller.party ∷ [] → AreOwnNames caller names r
 own_of_other r caller names other are named =
     subst (λ b. Contains names named ↔ (b ≡ true)) (sym (ap (λ b. cond b (is_name_of r (circle_of r caller.party) named) (nat_eq named caller.party)) other))
@@ -62,14 +62,14 @@ own_of_other r caller names other are named =
     back is = subst (Contains (caller.party ∷ [])) (sym (eqb-true named caller.party is)) (first caller.party [])
 
 module _ (r : Register) (caller : Caller) (names : List ℕ) (own : AreOwnNames caller names r) where
-  -- a name is listed
+  -- a name is in the list
   pub listed_decides : (named : ℕ) → Decides (list_any (nat_eq named) names) (is_own_name r caller named ≡ true)
   listed_decides named = ((λ is. (own named).0 (Contains-from_any eqb-true named names is)), (λ is. list_any-from_Contains nat_eq_equiv named names ((own named).1 is)))
 
   pub listed_is : (named : ℕ) → list_any (nat_eq named) names ≡ is_own_name r caller named
   listed_is named = same_from_decides _ _ (listed_decides named) (plain (is_own_name r caller named))
 
--- ---- what is seen stands
+-- ---- a visible party exists
 
 last_rule : (a b c d s : Bool) → is_allowed (cond a (Denied 13) (cond b (Denied 17) (cond c (Denied 21) (cond d (Denied 24) (cond (not s) (Denied 27) Allowed))))) ≡ true → s ≡ true
 last_rule a b c d true h = refl
@@ -82,16 +82,16 @@ last_rule false false false false false h = absurd (false≢true h)
 seen_stands : (r : Register) (caller : Caller) (n : ℕ) → sees r caller Party n ≡ true → stands r Party n ≡ true
 seen_stands r caller n = last_rule _ _ _ _ _
 
--- ---- what a party is seen by
+-- ---- why a party is visible
 
 module _ (rules : SelectionsAreTheRules) (seen : SeenIsExactly) (together : CirclesSeeTogether) (r : Register) (t : ℤ) (h : History) (premise : IsSoundOrNothing r) (is : StandsAt t h r) (n : ℕ) where
-  -- who would be shown the party without mandates is given it
+  -- a caller that would see the party without mandates selects it
   alone_decides : (caller : Caller) → Decides (list_any (nat_eq n) (seen_of (without_mandates r) caller Party)) (AnySelects (selections_of caller.role Party) t h caller.party n)
   alone_decides caller =
       let both = rules r h t premise is caller Party n in
       ((λ shown. both.1 (Contains-from_any eqb-true n _ shown)), (λ given. list_any-from_Contains nat_eq_equiv n _ (both.0 given)))
 
-  -- so a citizen sees it that has somebody in its circle who is given it
+  -- so a citizen sees it if one of its circle selects it
   abbrev GivenToCircle : (party : ℕ) → Type 0
   GivenToCircle party = (one : ℕ) × Contains (circle_of r party) one × AnySelects (selections_of Citizen Party) t h one n
 
@@ -100,26 +100,26 @@ module _ (rules : SelectionsAreTheRules) (seen : SeenIsExactly) (together : Circ
       Decides-at _ _ (sym ((seen r (citizen party) Party).exact n) ∙ (together r party Party n).listed)
       (any_decides (λ one. list_any (nat_eq n) (seen_of (without_mandates r) (citizen one) Party)) (λ one. AnySelects (selections_of Citizen Party) t h one n) (circle_of r party) (λ one among. alone_decides (citizen one)))
 
-  -- and whoever asks in another role sees what it is given
+  -- and a caller in another role sees what it selects
   other_decides : (party : ℕ) (role : Role) → is_role role Citizen ≡ false → Decides (sees r (record { party = party; role = role }) Party n) (AnySelects (selections_of role Party) t h party n)
   other_decides party role other =
       Decides-at _ _ (sym ((seen r (record { party = party; role = role }) Party).exact n) ∙ ap (list_any (nat_eq n)) (sym (seen_alike r party role Party (ap (λ b. b && not (sees_all role Party)) other))))
       (alone_decides (record { party = party; role = role }))
 
-  -- a citizen holds in the name of one of its circle, or of a group of which one of it is a member
+  -- a citizen holds rights in the name of one of its circle, or of a group with a member in the circle
   name_decides : (party named : ℕ) → Decides (is_name_of r (circle_of r party) named) ((one : ℕ) × Contains (circle_of r party) one × ((named ≡ one) ⊎ Joins t h named one))
   name_decides party named =
       any_decides (λ one. holds_as r one named) (λ one. (named ≡ one) ⊎ Joins t h named one) (circle_of r party)
       (λ one among. Decides-or (nat_eq named one) (is_member_of r one named) (Decides-eqb named one) (member_decides r t h is named one))
 
-  -- a name of the caller to which the party is told
+  -- a name of the caller that is a viewer of the party
   abbrev ToldBy : Option Relation → Caller → Type 0
   ToldBy None caller = ⊥
   ToldBy (Some relation) caller = (seer : ℕ) × (is_own_name r caller seer ≡ true) × IsSeer relation t h n seer
 
   -- ---- a citizen
 
-  -- what one of the circle is given is a name of the circle, or is told to one
+  -- a party that one of the circle selects is a name of the circle, or has a viewer in it
   named_or_told : (party one : ℕ) → Contains (circle_of r party) one → AnySelects (selections_of Citizen Party) t h one n → (is_name_of r (circle_of r party) n ≡ true) ⊎ ToldBy (Some Holding) (citizen party)
   named_or_told party one among (inl it) = inl ((name_decides party n).1 (one, among, inl (sym it.3 ∙ it.2)))
   named_or_told party one among (inr (inl it)) = inl ((name_decides party n).1 (one, among, inr (it.0, it.1, it.3, it.2)))
@@ -138,7 +138,7 @@ module _ (rules : SelectionsAreTheRules) (seen : SeenIsExactly) (together : Circ
       )
   named_or_told party one among (inr (inr (inr (inr none)))) = absurd none
 
-  -- and what is told to a name of the circle is given to one of it
+  -- and a party with a viewer among the names of the circle is selected for one of it
   told_to_name : (party : ℕ) → ToldBy (Some Holding) (citizen party) → sees r (citizen party) Party n ≡ true
   told_to_name party told =
       let it = (name_decides party told.0).0 told.1 in
@@ -169,7 +169,7 @@ module _ (rules : SelectionsAreTheRules) (seen : SeenIsExactly) (together : Circ
         ],
       )
 
-  -- a name of the circle that stands is seen
+  -- an existing name of the circle is visible
   name_is_seen : (party : ℕ) → is_name_of r (circle_of r party) n ≡ true → stands r Party n ≡ true → sees r (citizen party) Party n ≡ true
   name_is_seen party named there =
       let it = (name_decides party n).0 named in
@@ -193,9 +193,9 @@ module _ (rules : SelectionsAreTheRules) (seen : SeenIsExactly) (together : Circ
   other_name : (party : ℕ) → nat_eq n party ≡ false → selects Itself t h party n → ⊥
   other_name party other it = false≢true (sym other ∙ (Decides-eqb n party).1 (sym it.3 ∙ it.2))
 
-  -- ---- all of them
+  -- ---- all callers
 
-  -- a name of the caller is seen exactly where it stands
+  -- a name of the caller is visible exactly if it exists
   pub named_is : (party : ℕ) (role : Role) → sees_all role Party ≡ false → is_own_name r (record { party = party; role = role }) n ≡ true → stands r Party n ≡ sees r (record { party = party; role = role }) Party n
   named_is party Citizen all named = same_tests _ _ (name_is_seen party named) (seen_stands r (citizen party) n)
   named_is party Conveyancer all named = same_tests _ _ (λ there. (other_decides party Conveyancer refl).1 (itself_is_given party named there _)) (seen_stands r (record { party = party; role = Conveyancer }) n)
@@ -204,7 +204,7 @@ module _ (rules : SelectionsAreTheRules) (seen : SeenIsExactly) (together : Circ
   named_is party CertifiedSurveyor all named = same_tests _ _ (λ there. (other_decides party CertifiedSurveyor refl).1 (itself_is_given party named there _)) (seen_stands r (record { party = party; role = CertifiedSurveyor }) n)
   named_is party StateAdministrator all named = absurd (false≢true (sym all))
 
-  -- another party is seen exactly where it is told to one of the caller's names
+  -- another party is visible exactly if one of the caller's names is its viewer
   pub told_decides : (party : ℕ) (role : Role) → sees_all role Party ≡ false → is_own_name r (record { party = party; role = role }) n ≡ false
       → Decides (sees r (record { party = party; role = role }) Party n) (ToldBy (relation_of role) (record { party = party; role = role }))
   told_decides party Citizen all other = (
@@ -226,23 +226,23 @@ module _ (rules : SelectionsAreTheRules) (seen : SeenIsExactly) (together : Circ
   )
   told_decides party StateAdministrator all other = absurd (false≢true (sym all))
 
-  -- ---- what is looked up
+  -- ---- reads
 
   module _ (caller : Caller) (all : sees_all caller.role Party ≡ false) (names : List ℕ) where
-    -- a party among the caller's names
+    -- a party that is one of the caller's names
     pub name_seen : AreOwnNames caller names r → list_any (nat_eq n) names ≡ true → stands r Party n ≡ sees r caller Party n
     name_seen own listed = named_is caller.party caller.role all (sym (listed_is r caller names own n) ∙ listed)
 
     other_is : AreOtherNames caller names n r → is_own_name r caller n ≡ false
     other_is others = sym (listed_is r caller names others.0 n) ∙ others.1
 
-    -- another one, of which nobody is told
+    -- another one, without viewers
     pub unseen : AreOtherNames caller names n r → relation_of caller.role ≡ None → false ≡ sees r caller Party n
     unseen others none =
         same_from_decides _ _ ((λ e. absurd (false≢true e)), (λ told. absurd told))
         (subst (λ o. Decides (sees r caller Party n) (ToldBy o caller)) none (told_decides caller.party caller.role all (other_is others)))
 
-    -- and one of which some are told
+    -- another one, with viewers
     pub told_seen : (relation : Relation) (seers : List ℕ) → AreOtherNames caller names n r → relation_of caller.role ≡ Some relation → AreAll seers (IsSeer relation t h n)
         → list_any (λ seer. list_any (nat_eq seer) names) seers ≡ sees r caller Party n
     told_seen relation seers others some are =

@@ -1,4 +1,4 @@
--- One after another of some numbers is looked at, until one passes.
+-- A search through numbers, until one passes.
 use Rattle.std.proofs.Common.{◌<◌, ◌||◌, ◌++◌, ◌∙◌, ℕ, ℤ, Bool, true, false, List, [], ◌∷◌, get_or, length, refl, sym, ap₂}
 use Rattle.std.proofs.lemmas.List.Folds.{list_any-append, list_any_at}
 use Rattle.std.specs.List.{list_any}
@@ -19,6 +19,6 @@ module _ (passes : Register → ℕ → Bool) (t : ℤ) (db : Trees) where
   nor_the_next before n none next moments h held r have stands =
       sym (list_any-append (passes r) before (n ∷ []) ∙ ap₂ (λ a b. a || (b || false)) (sym (none moments h held r have stands)) (sym (next moments h held r have stands)))
 
-  -- one that passes settles it
+  -- the first one that passes decides
   pub one_passes : (numbers : List ℕ) (i : ℕ) → i < length numbers → IsPart (λ r. passes r (get_or numbers i 0)) t db true → IsPart (λ r. list_any (passes r) numbers) t db true
   one_passes numbers i there one moments h held r have stands = sym (list_any_at (passes r) numbers i 0 there (sym (one moments h held r have stands)))

@@ -1,4 +1,4 @@
--- What the joins select is what the register's rules let a caller see.
+-- Results of queries on tables are facts of the timeline's registers.
 use Rattle.std.proofs.Common.{◌≡◌, ◌∙◌, ap, refl, sym, Bool, true, false, List, ℕ, Result, Ok, Err, IfOk, arith, subst}
 use Rattle.std.proofs.lemmas.Int.{ints}
 use Rattle.std.specs.Prelude.{ℤ, int_lt}
@@ -17,12 +17,12 @@ use Rattle.land_keep.specs.Timeline.{last_register, register_at}
 use Rattle.land_keep.specs.declared.store_fault.StoreFault.{StoreFault}
 use Rattle.land_rules.specs.Rules.{seen_of, verdict_of}
 use Rattle.land_rules.specs.declared.verdict.Verdict.{Verdict}
-use Rattle.land_select.specs.Asking.{IsAnswer}
+use Rattle.land_select.specs.Results.{IsResult}
 use Rattle.land_select.specs.Slices.Gathered.{IsSo}
-use Rattle.land_select.specs.Kept.{IsFoundFor}
+use Rattle.land_select.specs.Cache.{IsFoundFor}
 use Rattle.land_select.specs.Verdicts.{IsVerdictWith}
 use Rattle.land_select.specs.Views.{IsShownGiven}
-use Rattle.land_select.specs.declared.kept.Found.{Found}
+use Rattle.land_select.specs.declared.cache.CachedValue.{CachedValue}
 use Rattle.land_select_joins.specs.Joins.Sight.{IsSight}
 use Rattle.land_select_joins.specs.Lookups.Parts.{IsPart}
 use Rattle.land_tables.proofs.LookedAt.{IsLookedAt}
@@ -31,8 +31,8 @@ use Rattle.land_tables.proofs.WrittenTimelines.{stays_last}
 use Rattle.land_tables.specs.Standing.{timeline_in}
 use Rattle.sqlite.specs.State.{State}
 
--- what is answered of tables at a moment is seen in the timeline's register there
-pub sight_seen : (s : State) (caller : Caller) (kind : Kind) (t u : ℤ) → IsLookedAt t u → (r : Result (List ℕ) StoreFault) → IfOk r (IsAnswer (IsSight caller kind u) s)
+-- the numbers selected at a time are those that the policy lets the caller see in the register at that time
+pub sight_seen : (s : State) (caller : Caller) (kind : Kind) (t u : ℤ) → IsLookedAt t u → (r : Result (List ℕ) StoreFault) → IfOk r (IsResult (IsSight caller kind u) s)
     → IfOk r (λ it. it ≡ seen_of (register_at (timeline_in s.now.trees) t) caller kind)
 sight_seen s caller kind t u place (Ok it) answer =
     let tl = timeline_in s.now.trees in
@@ -40,8 +40,8 @@ sight_seen s caller kind t u place (Ok it) answer =
     answer.answer holds.listed holds.history holds.holds (register_at tl t) (sound_or_nothing tl t answer.register.sound) (place s answer.register)
 sight_seen s caller kind t u place (Err fault) answer = tt
 
--- what is answered as a part of the register at a moment is that part of the timeline's register there
-pub part_stands : SoundnessByLookUps → {T : Type 0} (part : Register → T) (s : State) (t u : ℤ) → IsLookedAt t u → (r : Result T StoreFault) → IfOk r (IsAnswer (IsPart part u) s)
+-- a part of the register that is read at a time is that of the register at that time
+pub part_stands : SoundnessByLookUps → {T : Type 0} (part : Register → T) (s : State) (t u : ℤ) → IsLookedAt t u → (r : Result T StoreFault) → IfOk r (IsResult (IsPart part u) s)
     → IfOk r (λ it. it ≡ part (register_at (timeline_in s.now.trees) t))
 part_stands look_ups part s t u place (Ok it) answer =
     let tl = timeline_in s.now.trees in
@@ -49,8 +49,8 @@ part_stands look_ups part s t u place (Ok it) answer =
     answer.answer holds.listed holds.history holds.holds (register_at tl t) (have_members look_ups tl t answer.register.sound) (place s answer.register)
 part_stands look_ups part s t u place (Err fault) answer = tt
 
--- what is shown of tables at a moment, given something of the register there, is what is shown of the timeline's register there
-pub given_stands : {T : Type 0} (Given : Register → Type 0) (shown : Register → T) (s : State) (t u : ℤ) → IsLookedAt t u → (it : T) → IsAnswer (IsShownGiven Given shown u) s it
+-- the same for a view, with a premise on the register at that time
+pub given_stands : {T : Type 0} (Given : Register → Type 0) (shown : Register → T) (s : State) (t u : ℤ) → IsLookedAt t u → (it : T) → IsResult (IsShownGiven Given shown u) s it
     → Given (register_at (timeline_in s.now.trees) t) → it ≡ shown (register_at (timeline_in s.now.trees) t)
 given_stands Given shown s t u place it answer given =
     let tl = timeline_in s.now.trees in
@@ -60,9 +60,9 @@ given_stands Given shown s t u place it answer given =
 the_last : IsMoment last_moment
 the_last = (omega (arith, ints), omega (arith, ints))
 
--- the verdict that is answered of tables is told by the timeline's registers, the last one and the one at the moment, and what was found is of
--- the latter
-verdict_stands : SoundnessByLookUps → (s : State) (caller : Caller) (a : Ask) (past : Bool) (t u : ℤ) → IsLookedAt t u → (it : Verdict × Found) → IsAnswer (IsVerdictWith caller a past u) s it
+-- the verdict on the tables is that of the latest register and the register at the time, and the cached value
+-- is correct for the latter
+verdict_stands : SoundnessByLookUps → (s : State) (caller : Caller) (a : Ask) (past : Bool) (t u : ℤ) → IsLookedAt t u → (it : Verdict × CachedValue) → IsResult (IsVerdictWith caller a past u) s it
     → (it.0 ≡ verdict_of (last_register (timeline_in s.now.trees)) (register_at (timeline_in s.now.trees) t) caller a past) × IsFoundFor (register_at (timeline_in s.now.trees) t) caller a it.1
 verdict_stands look_ups s caller a past t u place it answer =
     let tl = timeline_in s.now.trees in
@@ -73,17 +73,17 @@ verdict_stands look_ups s caller a past t u place it answer =
     (holds.stands.stands last_moment the_last) (place s answer.register) in
     (told.0 ∙ ap (λ (now : Register). verdict_of now (register_at tl t) caller a past) last, told.1)
 
--- so it is the verdict on what is asked, and what was found is of the register at the moment that is asked about
-pub verdict_told : SoundnessByLookUps → (s : State) (caller : Caller) (a : Ask) (now t u : ℤ) → t ≡ moment_of a now → IsLookedAt t u → (it : Verdict × Found)
-    → IsAnswer (IsVerdictWith caller a (int_lt t now) u) s it → (it.0 ≡ verdict_at (timeline_in s.now.trees) caller a now) × IsFoundFor (register_at (timeline_in s.now.trees) t) caller a it.1
+-- so it is the verdict on the request, and the cached value is correct at the requested time
+pub verdict_told : SoundnessByLookUps → (s : State) (caller : Caller) (a : Ask) (now t u : ℤ) → t ≡ moment_of a now → IsLookedAt t u → (it : Verdict × CachedValue)
+    → IsResult (IsVerdictWith caller a (int_lt t now) u) s it → (it.0 ≡ verdict_at (timeline_in s.now.trees) caller a now) × IsFoundFor (register_at (timeline_in s.now.trees) t) caller a it.1
 verdict_told look_ups s caller a now t u is_moment place it answer =
     let tl = timeline_in s.now.trees in
     let told = verdict_stands look_ups s caller a (int_lt t now) t u place it answer in
     (subst (λ (x : ℤ). it.0 ≡ verdict_of (last_register tl) (register_at tl x) caller a (int_lt x now)) is_moment told.0, told.1)
 
--- the slice that is answered of tables is that of the timeline's last register; a store that is closed answers none
+-- the slice of the tables is that of the latest register; a closed store has none
 pub slice_stands : SoundnessByLookUps → (s : State) (caller : Caller) (a : Act) (next : ℕ) (before after : Bool) → (r : Result Register StoreFault) → Closes before after r
-    → (before ≡ false → next ≡ (last_register (timeline_in s.now.trees)).next) → IfOk r (IsAnswer (λ db it. IsSo (λ r. r.next ≡ next → it ≡ slice_of r caller a) last_moment db) s)
+    → (before ≡ false → next ≡ (last_register (timeline_in s.now.trees)).next) → IfOk r (IsResult (λ db it. IsSo (λ r. r.next ≡ next → it ≡ slice_of r caller a) last_moment db) s)
     → IfOk r (λ it. it ≡ slice_of (last_register (timeline_in s.now.trees)) caller a)
 slice_stands look_ups s caller a next true after (Ok it) closes is answer = absurd closes
 slice_stands look_ups s caller a next false after (Ok it) closes is answer =

@@ -1,4 +1,4 @@
--- What a citizen or a bank is shown by its interest in a unit.
+-- The objects that a citizen or a bank sees by its interest in a unit.
 use Rattle.std.proofs.Common.{◌≡◌, ◌⊎◌, ◌↔◌, inl, inr, ◌&&◌, ◌++◌, ◌∙◌, ℕ, ℤ, Bool, true, false, nat_eq, List, [], ◌∷◌, filter, refl, sym, ap, subst}
 use Rattle.std.specs.Bool.{Decides}
 use Rattle.std.specs.Cmp.{nat_cmp_total}
@@ -20,7 +20,7 @@ use Rattle.land_rules.specs.Laws.{IsSoundOrNothing}
 use Rattle.land_rules.specs.Relations.{holds_as, is_member_of}
 use Rattle.land_rules.specs.Rules.{sees}
 use Rattle.land_select.proofs.Viewed.{agreed, twice}
-use Rattle.land_select.specs.Views.{in_sight, shown_of}
+use Rattle.land_select.specs.Views.{visible_rrrs, shown_of}
 use Rattle.land_select_joins.proofs.Containing.{any_decides}
 use Rattle.land_select_joins.proofs.Naming.{Joins, member_decides}
 use Rattle.land_select_joins.proofs.Standing.{entry_there}
@@ -32,7 +32,7 @@ use Rattle.land_select_joins.specs.declared.sights.selection.Selection.TheVarian
 use Rattle.land_tables_history.specs.History.{StandsAt}
 use Rattle.land_tables_history.specs.declared.history.History.{History}
 
--- the groups that are selected for some parties are those of which one of them is a member
+-- the groups selected for some parties are those with one of them as a member
 pub groups_are : (r : Register) (t : ℤ) (h : History) → StandsAt t h r → (callers groups : List ℕ) → AreAll groups (AnyGiven (ItsGroups ∷ []) t h callers)
     → (group : ℕ) → Contains groups group ↔ (is_group_of r callers group ≡ true)
 groups_are r t h is callers groups all group = (
@@ -47,7 +47,7 @@ groups_are r t h is callers groups all group = (
     joined party (inl it) = (it.0, it.1, it.3, it.2)
     joined party (inr none) = absurd none
 
--- with the circle itself they are the names in which the circle holds
+-- with the circle itself they are the names in which the circle holds rights
 pub names_are : (r : Register) (party : ℕ) (callers groups : List ℕ) → ((number : ℕ) → Contains callers number ↔ Contains (circle_of r party) number)
     → ((group : ℕ) → Contains groups group ↔ (is_group_of r callers group ≡ true)) → (named : ℕ) → Contains (groups ++ callers) named ↔ (is_name_of r (circle_of r party) named ≡ true)
 names_are r party callers groups are grouped named = (
@@ -69,13 +69,13 @@ names_are r party callers groups are grouped named = (
         any_decides (λ one. holds_as r one named) (λ one. (named ≡ one) ⊎ (is_member_of r one named ≡ true)) (circle_of r party)
         (λ one among. Decides-or (nat_eq named one) (is_member_of r one named) (Decides-eqb named one) (plain (is_member_of r one named)))
 
--- a test that is asked for only where another passes
+-- a test that is needed only if another one passes
 pub only_where : (a b c : Bool) → (a ≡ true → b ≡ c) → (a && b) ≡ (a && c)
 only_where true b c same = same refl
 only_where false b c same = refl
 
--- of the entries of a unit, those that are shown by an interest are in sight
-pub shown_in_sight : InterestsTellSight → (r : Register) (caller : Caller) (unit : ℕ) → IsSoundOrNothing r → sees_by_interest caller.role Rrr ≡ true → shown_of r caller (entries_of r unit) ≡ in_sight r caller unit
+-- the entries of a unit that an interest shows are visible
+pub shown_in_sight : InterestsTellSight → (r : Register) (caller : Caller) (unit : ℕ) → IsSoundOrNothing r → sees_by_interest caller.role Rrr ≡ true → shown_of r caller (entries_of r unit) ≡ visible_rrrs r caller unit
 shown_in_sight law r caller unit premise by =
     ap (with_entries (map.empty {R = nat_cmp}))
     (ap (filter (λ e. shows_entry (interest_at r caller unit) caller.party e.1)) (entries-only nat_cmp_total nat_cmp-IsAntisymmetric (λ n e. nat_eq e.unit unit) r.rrrs)

@@ -1,4 +1,4 @@
--- A slice, from what is gathered for it.
+-- A slice, from the parts that are read for it.
 use Rattle.std.proofs.Common.{◌≡◌, ◌≢◌, ℕ, Bool, true, false, ◌||◌, ◌++◌, List, [], ◌∷◌, inl, refl, sym, ap, ap₂, ◌∙◌, IsTrue, Ok, arith, Result, Err}
 use Rattle.std.proofs.lemmas.List.Folds.{list_any-append}
 use Rattle.std.specs.Cmp.{nat_cmp_total}
@@ -23,15 +23,15 @@ use Rattle.land_select.proofs.Keeping.{none_kept, same_kept}
 use Rattle.land_select.proofs.NamedObjects.{asked_with, office_listed, party_listed, source_listed, unit_listed}
 use Rattle.land_select.specs.Slices.Gathered.{IsKnown, KnowsHoldings, KnowsPapers, KnowsPeople, put_all, with_number, with_numbers}
 use Rattle.land_select.specs.Slices.Named.{parties_of, sources_of, units_of}
-use Rattle.land_select.specs.declared.slices.holdings.Holdings.{Holdings}
-use Rattle.land_select.specs.declared.slices.papers.Papers.{Papers}
-use Rattle.land_select.specs.declared.slices.people.People.{People}
+use Rattle.land_select.specs.declared.slices.units_and_entries.UnitsAndEntries.{UnitsAndEntries}
+use Rattle.land_select.specs.declared.slices.gathered_sources.GatheredSources.{GatheredSources}
+use Rattle.land_select.specs.declared.slices.parties_and_roles.PartiesAndRoles.{PartiesAndRoles}
 use Rattle.land_select.specs.declared.slices.slice.Known.{Known}
 use Rattle.land_tables_schema.proofs.Looking.{look_told}
 use Rattle.land_tables_schema.specs.Rows.Looks.{IsLook}
 use Rattle.sqlite.specs.State.{HasCleanDisk, State}
 
--- no look at all, of a store that is open if its disk is honest
+-- no read of a store that is open if its disk is honest
 pub no_look_needed : {X E : Type 0} (x : X) (Given : X → Type 0) (a : State) → (HasCleanDisk a → IsTrue a.is_open) → Given x → IsLook {X = X} {E = E} (Ok x) Given a a
 no_look_needed x Given a is_open given = record {
   given = λ _. given;
@@ -45,7 +45,7 @@ pub with_last : (ns : List ℕ) (n : ℕ) (asked : ℕ → Bool) → with_number
 with_last [] n asked = refl
 with_last (m ∷ ns) n asked = with_last ns n (with_number m asked)
 
--- ---- what an act is not about
+-- ---- numbers to which an act does not refer
 
 pub about_none : (r : Register) (caller : Caller) (a : Act) → ((it : _) → a ≢ act.Lodge it) → ((it : _) → a ≢ act.Approve it) → ((it : _) → a ≢ act.Refuse it) → map.empty ≡ mutations_looked_at r caller a
 about_none r caller (act.Enrol it) l p q = none_kept nat_cmp_total nat_cmp-IsAntisymmetric r.mutations
@@ -77,9 +77,9 @@ lifts_none r (act.Approve it) l = none_kept nat_cmp_total nat_cmp-IsAntisymmetri
 lifts_none r (act.Refuse it) l = none_kept nat_cmp_total nat_cmp-IsAntisymmetric r.rrrs
 lifts_none r (act.Lift it) l = absurd (l it refl)
 
--- ---- what is gathered, from nothing
+-- ---- parts, starting with empty ones
 
-pub people_gathered : (r : Register) (caller : Caller) (a : Act) (mutations : FinMap nat_cmp MutationRecord) (office : Grants) (it : People) → mutations ≡ mutations_looked_at r caller a
+pub people_gathered : (r : Register) (caller : Caller) (a : Act) (mutations : FinMap nat_cmp MutationRecord) (office : Grants) (it : PartiesAndRoles) → mutations ≡ mutations_looked_at r caller a
     → office ≡ only (λ grant u. is_role grant.role StateAdministrator) r.roles
     → ((asked : ℕ → Bool) → KnowsPeople r asked (record { parties = map.empty; roles = map.empty; members = map.empty })
     → KnowsPeople r (with_numbers (parties_of a mutations ++ map_list (λ grant. grant.party) (grants_in office)) asked) it)
@@ -103,7 +103,7 @@ people_gathered r caller a mutations office it are held grown = record {
         ∙ list_any-append (nat_eq n) (parties_of a mutations) (map_list (λ grant. grant.party) (grants_in office))
         ∙ sym (ap₂ (λ b c. b || c) (party_listed r caller a mutations are n) (office_listed r office held n))
 
-pub holdings_gathered : (r : Register) (caller : Caller) (a : Act) (mutations : FinMap nat_cmp MutationRecord) (it : Holdings) → mutations ≡ mutations_looked_at r caller a
+pub holdings_gathered : (r : Register) (caller : Caller) (a : Act) (mutations : FinMap nat_cmp MutationRecord) (it : UnitsAndEntries) → mutations ≡ mutations_looked_at r caller a
     → ((asked : ℕ → Bool) → KnowsHoldings r asked (record { units = map.empty; parcels = map.empty; rrrs = map.empty }) → KnowsHoldings r (with_numbers (units_of a mutations) asked) it)
     → KnowsHoldings r (λ n. names_unit r a n) it
 holdings_gathered r caller a mutations it are grown = record {
@@ -122,7 +122,7 @@ holdings_gathered r caller a mutations it are grown = record {
     asked : (n : ℕ) → with_numbers (units_of a mutations) (λ n. false) n ≡ names_unit r a n
     asked n = asked_with (units_of a mutations) (λ n. false) n ∙ sym (unit_listed r caller a mutations are n)
 
-pub papers_gathered : (r : Register) (mutations : FinMap nat_cmp MutationRecord) (it : Papers)
+pub papers_gathered : (r : Register) (mutations : FinMap nat_cmp MutationRecord) (it : GatheredSources)
     → ((asked : ℕ → Bool) → KnowsPapers r asked (record { sources = map.empty }) → KnowsPapers r (with_numbers (sources_of mutations) asked) it)
     → KnowsPapers r (λ n. some (λ k m. nat_eq m.source n) mutations) it
 papers_gathered r mutations it grown = record {
@@ -133,27 +133,27 @@ papers_gathered r mutations it grown = record {
 
 -- ---- the slice
 
--- the slice has what is known of it, its sources, and its entries with the one that is lifted
-pub sliced : (r : Register) (caller : Caller) (a : Act) (known : Known) (papers : Papers) (lifted rrrs : FinMap nat_cmp RrrRecord) → IsKnown r caller a known
-    → KnowsPapers r (λ n. some (λ k m. nat_eq m.source n) known.mutations) papers → lifted ≡ only (λ n e. names_rrr r a n) r.rrrs → rrrs ≡ put_all known.holdings.rrrs lifted
+-- the slice consists of its known parts, its sources, and its entries with the lifted one
+pub sliced : (r : Register) (caller : Caller) (a : Act) (known : Known) (gathered_sources : GatheredSources) (lifted rrrs : FinMap nat_cmp RrrRecord) → IsKnown r caller a known
+    → KnowsPapers r (λ n. some (λ k m. nat_eq m.source n) known.mutations) gathered_sources → lifted ≡ only (λ n e. names_rrr r a n) r.rrrs → rrrs ≡ put_all known.units_and_entries.rrrs lifted
     → ◌≡◌ {A = Register} (record {
-      parties = known.people.parties;
-      roles = known.people.roles;
-      members = known.people.members;
-      units = known.holdings.units;
-      parcels = known.holdings.parcels;
+      parties = known.parties_and_roles.parties;
+      roles = known.parties_and_roles.roles;
+      members = known.parties_and_roles.members;
+      units = known.units_and_entries.units;
+      parcels = known.units_and_entries.parcels;
       rrrs = rrrs;
-      sources = papers.sources;
+      sources = gathered_sources.sources;
       mutations = known.mutations;
       mandates = known.mandates;
       next = known.next;
     }) (slice_of r caller a)
-sliced r caller a known papers lifted rrrs is knows lifts puts =
-    alike _ _ _ _ _ _ _ _ _ _ _ _ _ _ _ _ _ _ _ _ is.people.parties is.people.roles is.people.members is.holdings.units is.holdings.parcels entries sources is.mutations is.mandates (sym is.next)
+sliced r caller a known gathered_sources lifted rrrs is knows lifts puts =
+    alike _ _ _ _ _ _ _ _ _ _ _ _ _ _ _ _ _ _ _ _ is.parties_and_roles.parties is.parties_and_roles.roles is.parties_and_roles.members is.units_and_entries.units is.units_and_entries.parcels entries sources is.mutations is.mandates (sym is.next)
   where
     entries : rrrs ≡ only (λ n e. looks_at_rrr r a n e) r.rrrs
     entries =
-        puts ∙ ap₂ put_all is.holdings.rrrs lifts ∙ both_kept nat_cmp_total nat_cmp-IsAntisymmetric r.rrrs (λ n e. names_unit r a e.unit) (λ n e. names_rrr r a n)
+        puts ∙ ap₂ put_all is.units_and_entries.rrrs lifts ∙ both_kept nat_cmp_total nat_cmp-IsAntisymmetric r.rrrs (λ n e. names_unit r a e.unit) (λ n e. names_rrr r a n)
         ∙ same_kept nat_cmp_total nat_cmp-IsAntisymmetric (λ n e. names_rrr r a n || names_unit r a e.unit) (λ n e. looks_at_rrr r a n e) r.rrrs (λ n e. either_way (names_rrr r a n) (names_unit r a e.unit))
       where
         either_way : (b c : Bool) → (b || c) ≡ (c || b)
@@ -162,7 +162,7 @@ sliced r caller a known papers lifted rrrs is knows lifts puts =
         either_way false true = refl
         either_way false false = refl
 
-    sources : papers.sources ≡ only (λ n s. some (λ k m. nat_eq m.source n) (mutations_looked_at r caller a)) r.sources
+    sources : gathered_sources.sources ≡ only (λ n s. some (λ k m. nat_eq m.source n) (mutations_looked_at r caller a)) r.sources
     sources = knows.sources ∙ ap (λ ms. only (λ n s. some (λ k m. nat_eq m.source n) ms) r.sources) is.mutations
 
     alike : (p p' : _) (g g' : _) (m m' : _) (u u' : _) (l l' : _) (e e' : _) (s s' : _) (t t' : _) (d d' : _) (n n' : _) → p ≡ p' → g ≡ g' → m ≡ m' → u ≡ u' → l ≡ l' → e ≡ e' → s ≡ s' → t ≡ t' → d ≡ d' → n ≡ n'
@@ -170,7 +170,7 @@ sliced r caller a known papers lifted rrrs is knows lifts puts =
         (record { parties = p'; roles = g'; members = m'; units = u'; parcels = l'; rrrs = e'; sources = s'; mutations = t'; mandates = d'; next = n' })
     alike p p' g g' m m' u u' l l' e e' s s' t t' d d' n n' a b c f h i j k o q = cc
 
--- what a look gives, in other words, whether it succeeds or not
+-- the result of a read-only query in other words, for success and failure
 pub look_so : {X E : Type 0} {P Q : X → Type 0} (a b : State) (r : Result X E) → IsLook r P a b → ((x : X) → P x → Q x) → IsLook r Q a b
 look_so a b (Ok x) look so = look_told a b (Ok x) look (λ clean given. so x given)
 look_so a b (Err e) look so = record { given = λ _. tt; same = λ _. tt; left = look.left; survives = look.survives }

@@ -1,4 +1,4 @@
--- What the texts of a role's sight give together is what the rules let the caller see without mandates.
+-- The statements of a role's sight together return what the policy, without mandates, lets the caller see.
 use Rattle.std.proofs.Common.{inl, inr, List, [], ◌∷◌, map, sym, subst}
 use Rattle.land_keep.proofs.Timelines.{sound_or_nothing}
 use Rattle.land_keep.specs.Timeline.{register_at}
@@ -15,7 +15,7 @@ use Rattle.land_tables_rows.specs.Writing.History.{HoldsHistory}
 use Rattle.sqlite_rules.specs.Lists.{Has}
 use Rattle.sqlite_value.specs.Order.{Row}
 
--- what the texts of selections give together is what some of the selections gives
+-- the statements of selections together return the union of the selections
 module _ (texts_select : TextsSelect) (it : Asked) (moments : List Moment) (history : History) (holds : HoldsHistory it.db moments history) where
   together : (ss : List Selection) → GiveTogether (map text_of ss) it (AnySelects ss it.moment history it.caller)
   together [] = record {

@@ -1,4 +1,4 @@
--- What look-ups and joins show of a unit is what its view has.
+-- Lookups and queries return the parts of a unit's view.
 use Rattle.std.proofs.Common.{◌≡◌, ◌&&◌, ◌∙◌, ℕ, ℤ, Bool, true, false, nat_eq, cond, List, [], ◌∷◌, filter, map as map_list, None, Some, Option, is_some, refl, sym, ap, ap₂, inl, inr}
 use Rattle.std.specs.Cmp.{nat_cmp_total}
 use Rattle.std.specs.FinMap as map
@@ -22,7 +22,7 @@ use Rattle.land_rules.specs.Denials.Sight.{AllThatStandsIsSeen, sees_all}
 use Rattle.land_rules.specs.Laws.{SeenIsExactly}
 use Rattle.land_rules.specs.Laws.{IsSoundOrNothing}
 use Rattle.land_rules.specs.Rules.{seen_of, sees}
-use Rattle.land_select.specs.Views.{IsShown, in_sight, named_at, view_from}
+use Rattle.land_select.specs.Views.{IsShown, visible_rrrs, named_at, view_from}
 use Rattle.land_select_joins.proofs.Containing.{first, later}
 use Rattle.land_select_joins.proofs.Standing.{entry_there}
 use Rattle.land_select_joins.specs.Joins.Sight.{IsSight}
@@ -31,12 +31,12 @@ use Rattle.land_tables.proofs.Members.{no_members, sound_members}
 use Rattle.land_tables_history.specs.Groups.{HaveMembers}
 use Rattle.sqlite_trees.specs.Tree.{Trees}
 
--- where a register is sound or holds nothing, no group is without members
+-- no group is empty in a register that is sound or empty
 pub have_members : SoundnessByLookUps → (r : Register) → IsSoundOrNothing r → HaveMembers r.members
 have_members look_ups r (inl sound) = sound_members look_ups r sound
 have_members look_ups r (inr none) = rw none no_members
 
--- so a part of it is shown
+-- so a part of it is a fact of it
 pub part_shown : SoundnessByLookUps → {T : Type 0} (part : Register → T) (t : ℤ) (db : Trees) (it : T) → IsPart part t db it → IsShown part t db it
 part_shown look_ups part t db it is moments h held r premise stands = is moments h held r (have_members look_ups r premise) stands
 
@@ -60,7 +60,7 @@ module _ {X : Type 0} where
   alike p q same [] = refl
   alike p q same (x ∷ xs) = ap₂ (λ b rest. cond b (x ∷ rest) rest) (same x) (alike p q same xs)
 
-  -- so it is of tests that agree on what the list has
+  -- so it is for tests that agree on the contents of the list
   pub agreed : (p q : X → Bool) (xs : List X) → ((x : X) → Contains xs x → p x ≡ q x) → filter p xs ≡ filter q xs
   agreed p q [] same = refl
   agreed p q (x ∷ xs) same = ap₂ (λ b rest. cond b (x ∷ rest) rest) (same x (first x xs)) (agreed p q xs (λ y among. same y (later x xs y among)))
@@ -69,16 +69,16 @@ both_true : (a b : Bool) → b ≡ true → a ≡ (a && b)
 both_true true b is = sym is
 both_true false b is = refl
 
--- who is shown all entries sees those of a unit
-pub all_in_sight : AllThatStandsIsSeen → (r : Register) (caller : Caller) (unit : ℕ) → sees_all caller.role Rrr ≡ true → only (λ n e. nat_eq e.unit unit) r.rrrs ≡ in_sight r caller unit
+-- a caller that sees all entries sees those of a unit
+pub all_in_sight : AllThatStandsIsSeen → (r : Register) (caller : Caller) (unit : ℕ) → sees_all caller.role Rrr ≡ true → only (λ n e. nat_eq e.unit unit) r.rrrs ≡ visible_rrrs r caller unit
 all_in_sight law r caller unit all =
     ap (with_entries (map.empty {R = nat_cmp}))
     (agreed (λ e. nat_eq e.1.unit unit) (λ e. nat_eq e.1.unit unit && sees r caller Rrr e.0) (map.entries r.rrrs)
     (λ e among. both_true (nat_eq e.1.unit unit) (sees r caller Rrr e.0) (law r caller Rrr e.0 all ∙ ap is_some (entry_there r.rrrs e among))))
 
--- of the entries of a unit, those that are listed are in sight
+-- the entries of a unit that are in the list are visible
 pub listed_in_sight : SeenIsExactly → (r : Register) (caller : Caller) (unit : ℕ) (listed : List ℕ) → listed ≡ seen_of r caller Rrr
-    → only (λ n e. list_any (nat_eq n) listed) (only (λ n e. nat_eq e.unit unit) r.rrrs) ≡ in_sight r caller unit
+    → only (λ n e. list_any (nat_eq n) listed) (only (λ n e. nat_eq e.unit unit) r.rrrs) ≡ visible_rrrs r caller unit
 listed_in_sight exact r caller unit listed are =
     ap (with_entries (map.empty {R = nat_cmp}))
     (ap (filter (λ e. list_any (nat_eq e.0) listed)) (entries-only nat_cmp_total nat_cmp-IsAntisymmetric (λ n e. nat_eq e.unit unit) r.rrrs)
@@ -97,13 +97,13 @@ composed : (r : Register) (caller : Caller) (unit : ℕ) (t : ℤ) (o : Option U
 composed r caller unit t None = refl
 composed r caller unit t (Some u) = refl
 
--- of the unit that stands, or of none, the view is made
+-- the view is that of the existing unit, or `None`
 pub view_is : (r : Register) (caller : Caller) (unit : ℕ) (t : ℤ) (o : Option UnitRecord) → o ≡ map.get r.units unit → option_map (view_from r caller unit t) o ≡ view_at r caller unit t
 view_is r caller unit t o is =
     composed r caller unit t o
     ∙ ap (λ o. option_map (λ u. record { unit = u; parcels = parcels_at r unit; rrrs = entries_seen r caller unit; at = t }) (option_map (λ u. record { number = unit; name = u.name; checked = u.checked }) o)) is
 
--- a view of one moment that names another
+-- a view with another time
 pub renamed : (r : Register) (caller : Caller) (unit : ℕ) (t u : ℤ) → named_at t (view_at r caller unit u) ≡ view_at r caller unit t
 renamed r caller unit t u = go (unit_at r unit)
   where

@@ -1,4 +1,5 @@
--- Laws over the definitions alone: what the texts of a role's sight give is what the rules let the caller see without mandates.
+-- Laws on definitions only: the SQL statements of a role's sight return what the policy, without mandates,
+-- lets the caller see.
 use Rattle.std.specs.Prelude.{◌≡◌, ℕ, ℤ, pos, List, [], ◌∷◌, map}
 use Rattle.std.specs.List.{Contains}
 use Rattle.land_core.specs.declared.caller.Caller.{Caller}
@@ -21,31 +22,38 @@ use Rattle.sqlite_schema.specs.declared.schema.Index.{Index}
 use Rattle.sqlite_trees.specs.Tree.{Trees}
 use Rattle.sqlite_value.specs.Order.{Row}
 
--- the texts of a role's sight of a kind
+-- the SQL statements of a role's sight of a kind
 abbrev pub sight_texts : Role → Kind → List (List ℕ)
 sight_texts role kind = map text_of (selections_of role kind)
 
--- what texts are asked of: the tables of a register with these indexes and rows, for a caller and a moment
+-- a query: the tables of a register with any indexes, the caller and the time
 pub record Asked : Type 0 where
   pub indexes : List Index
   pub db : Trees
   pub caller : ℕ
   pub moment : ℤ
 
--- these rows are an answer that sqlite gives to a text: parameter 1 is the caller, parameter 2 the moment
+-- these rows are a result of a statement in sqlite; parameter 1 is the caller, parameter 2 the time
 abbrev pub AreAnswer : Asked → (text : List ℕ) → (rows : List Row) → Type 0
 AreAnswer it text rows =
-    Reads (command_in (understood (land_with it.indexes) text)) (record { schema = land_with it.indexes; trees = it.db }) (given it.caller it.moment) rows
+    Reads (command_in (understood (land_with it.indexes) text))
+    (record { schema = land_with it.indexes; trees = it.db }) (given it.caller it.moment) rows
 
--- Texts together give the wanted numbers and no others: each text has an answer, each row of an answer is one wanted number, and each wanted
--- number is a row of every answer to one of the texts.
+-- Statements together return exactly the wanted numbers: each statement has a result, each row of a result is
+-- one wanted number, and each wanted number is a row of all results of one of the statements.
 pub record GiveTogether (texts : List (List ℕ)) (it : Asked) (Wanted : ℕ → Type 0) : Type 0 where
   pub answered : (text : List ℕ) → Contains texts text → (rows : List Row) × AreAnswer it text rows
-  pub none_more : (text : List ℕ) → Contains texts text → (rows : List Row) → AreAnswer it text rows → (row : Row) → Has rows row → (n : ℕ) × (row ≡ Int (pos n) ∷ []) × Wanted n
-  pub none_missing : (n : ℕ) → Wanted n → (text : List ℕ) × Contains texts text × ((rows : List Row) → AreAnswer it text rows → Has rows (Int (pos n) ∷ []))
+  pub none_more : (text : List ℕ) → Contains texts text → (rows : List Row) → AreAnswer it text rows
+      → (row : Row) → Has rows row → (n : ℕ) × (row ≡ Int (pos n) ∷ []) × Wanted n
+  pub none_missing : (n : ℕ) → Wanted n → (text : List ℕ) × Contains texts text
+      × ((rows : List Row) → AreAnswer it text rows → Has rows (Int (pos n) ∷ []))
 
--- Over tables that stand for a sound timeline, whatever indexes they have, the texts of a role's sight of a kind together give at each moment
--- the numbers that the rules let the caller see, without mandates, in the register at that moment: none is missing, and none is more.
+-- On tables that hold a sound timeline, with any indexes, the statements of a role's sight of a kind together
+-- return, at each time, exactly the numbers that the policy, without mandates, lets the caller see in the
+-- register at that time.
 abbrev pub SightTextsAreTheRules : Type 0
-SightTextsAreTheRules = (indexes : List Index) (db : Trees) (tl : Timeline) → HoldsTimeline db tl → IsSoundTimeline tl → (t : ℤ) → IsMoment t → (caller : Caller) (k : Kind)
-    → GiveTogether (sight_texts caller.role k) (record { indexes = indexes; db = db; caller = caller.party; moment = t }) (Contains (seen_of (without_mandates (register_at tl t)) caller k))
+SightTextsAreTheRules = (indexes : List Index) (db : Trees) (tl : Timeline) → HoldsTimeline db tl
+    → IsSoundTimeline tl → (t : ℤ) → IsMoment t → (caller : Caller) (k : Kind)
+    → GiveTogether (sight_texts caller.role k)
+    (record { indexes = indexes; db = db; caller = caller.party; moment = t })
+    (Contains (seen_of (without_mandates (register_at tl t)) caller k))

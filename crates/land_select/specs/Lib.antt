@@ -1,6 +1,6 @@
--- Definitions of what the keeper over joins shows, and of how it judges; the law on its texts.
-pub mod Asking
-pub mod Kept
+-- Definitions of the indexed keeper's results and verdicts, and the law on its SQL statements.
+pub mod Results
+pub mod Cache
 pub mod Laws
 pub mod Listing
 pub mod Parties

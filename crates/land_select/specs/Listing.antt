@@ -1,4 +1,4 @@
--- Objects that are listed from a range of numbers.
+-- Lists of the objects in a range of numbers.
 use Rattle.std.specs.Prelude.{◌≡◌, ℕ, ℤ, true}
 use Rattle.land_core.specs.declared.kind.Kind.{Kind}
 use Rattle.land_core.specs.declared.register.Register.{Register}
@@ -9,10 +9,13 @@ use Rattle.land_tables_history.specs.Groups.{HaveMembers}
 use Rattle.land_tables_history.specs.History.{StandsAt}
 use Rattle.sqlite_trees.specs.Tree.{Trees}
 
--- a register lists the objects of a kind in a range as another does
+-- two registers list the objects of a kind in a range alike
 abbrev pub ListsAlike : Kind → (first last : ℕ) → (one other : Register) → Type 0
-ListsAlike k first last one other = (number : ℕ) → is_within first last number ≡ true → named_at one k number ≡ named_at other k number
+ListsAlike k first last one other =
+    (number : ℕ) → is_within first last number ≡ true → named_at one k number ≡ named_at other k number
 
--- where the tables hold a history that at the moment stands for a register, in which no group is without members, this lists them as it does
+-- If the tables hold a history that at time t represents a register without empty groups, this register lists
+-- the range like it.
 abbrev pub ListsRange : Kind → (first last : ℕ) → (t : ℤ) → Trees → Register → Type 0
-ListsRange k first last t db it = OfHeld db (λ h. (r : Register) → HaveMembers r.members → StandsAt t h r → ListsAlike k first last it r)
+ListsRange k first last t db it = OfHeld db
+    (λ h. (r : Register) → HaveMembers r.members → StandsAt t h r → ListsAlike k first last it r)

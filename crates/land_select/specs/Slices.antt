@@ -1,3 +1,3 @@
--- Definitions of what an act names and of what is gathered of a register for it.
+-- Definitions of the numbers that an act refers to, and of the parts of a register that are read for it.
 pub mod Gathered
 pub mod Named

@@ -1,4 +1,4 @@
--- What look-ups and joins tell of who asks and of what is in sight.
+-- Verdicts on callers and requests.
 use Rattle.std.specs.FinMap as map
 use Rattle.std.specs.FinMap.{FinMap}
 use Rattle.std.specs.Ordering.{nat_cmp}
@@ -17,13 +17,13 @@ use Rattle.land_rules.specs.Denials.Standing.{decided, discharged, evidence_of}
 use Rattle.land_rules.specs.Laws.{IsSoundOrNothing}
 use Rattle.land_rules.specs.Rules.{verdict_of}
 use Rattle.land_rules.specs.declared.verdict.Verdict.{Verdict}
-use Rattle.land_select.specs.Kept.{IsFoundFor}
-use Rattle.land_select.specs.declared.kept.Found.{Found}
+use Rattle.land_select.specs.Cache.{IsFoundFor}
+use Rattle.land_select.specs.declared.cache.CachedValue.{CachedValue}
 use Rattle.land_select_joins.specs.Joins.Running.{OfHeld}
 use Rattle.land_tables_history.specs.History.{StandsAt}
 use Rattle.sqlite_trees.specs.Tree.{Trees}
 
--- the record at a number, none where there is no number
+-- the record of a number, if there is a number
 abbrev pub record_at : {V : Type 0} → FinMap nat_cmp V → Option ℕ → Option V
 record_at m number = option_and_then (map.get m) number
 
@@ -31,17 +31,20 @@ record_at m number = option_and_then (map.get m) number
 abbrev pub roles_in : Register → (party : ℕ) → Grants
 roles_in r party = only (λ grant u. nat_eq grant.party party) r.roles
 
--- a party, whatever it is called and of whatever kind, where one is there
+-- a party with an empty name, if it exists; the standing rules use neither its name nor its kind
 abbrev pub somebody : Bool → Option PartyRecord
 somebody there = if there then Some (record { kind = NaturalPerson; name = [] }) else None
 
--- the evidence of a register by which who asks is judged: what the caller is called is none
+-- the evidence for the standing rules, with a placeholder for the caller
 abbrev pub evidence_in : Register → Caller → Ask → Register
 evidence_in r caller a =
-    evidence_of caller a (somebody (stands r kind.Party caller.party)) (roles_in r caller.party) (record_at r.rrrs (discharged a)) (record_at r.mutations (decided a))
+    evidence_of caller a (somebody (stands r kind.Party caller.party)) (roles_in r caller.party)
+    (record_at r.rrrs (discharged a)) (record_at r.mutations (decided a))
 
--- Where the tables hold a history, this is the verdict on what is asked, by the register that stands at the last moment and the one that
--- stands at the asked one, each of which is sound or has nothing in it; and what was found of the latter on the way.
-abbrev pub IsVerdictWith : Caller → Ask → (past : Bool) → (t : ℤ) → Trees → Verdict × Found → Type 0
+-- If the tables hold a history, the verdict is the one on the request, by the register at the last moment and
+-- the register at time t, each sound or empty; and the cached value is correct for the latter.
+abbrev pub IsVerdictWith : Caller → Ask → (past : Bool) → (t : ℤ) → Trees → Verdict × CachedValue → Type 0
 IsVerdictWith caller a past t db it =
-    OfHeld db (λ h. (now at : Register) → IsSoundOrNothing now → IsSoundOrNothing at → StandsAt last_moment h now → StandsAt t h at → (it.0 ≡ verdict_of now at caller a past) × IsFoundFor at caller a it.1)
+    OfHeld db (λ h. (now at : Register) → IsSoundOrNothing now → IsSoundOrNothing at
+    → StandsAt last_moment h now → StandsAt t h at → (it.0 ≡ verdict_of now at caller a past)
+    × IsFoundFor at caller a it.1)

@@ -1,6 +1,7 @@
--- What look-ups and joins show of the register that stands at a moment.
+-- Facts and views of the register at a time.
 use Rattle.std.specs.FinMap as map
-use Rattle.std.specs.Prelude.{◌≡◌, ◌↔◌, ℕ, ℤ, true, ◌&&◌, nat_eq, List, [], ◌∷◌, map as map_list, Option, if◌then◌else◌}
+use Rattle.std.specs.Prelude.{◌≡◌, ◌↔◌, ℕ, ℤ, true, ◌&&◌, nat_eq, List, [], ◌∷◌, map as map_list, Option}
+use Rattle.std.specs.Prelude.{if◌then◌else◌}
 use Rattle.std.specs.FinMap.{FinMap}
 use Rattle.std.specs.Ordering.{nat_cmp}
 use Rattle.std.specs.List.{Contains}
@@ -25,49 +26,59 @@ use Rattle.land_tables_history.specs.History.{StandsAt}
 use Rattle.land_tables_history.specs.declared.version.Version.{Version}
 use Rattle.sqlite_trees.specs.Tree.{Trees}
 
--- where the tables hold a history that at the moment stands for a register, sound or with nothing in it, this is what is shown of it
+-- If the tables hold a history that at time t represents a register, sound or empty, the value is this fact
+-- of it.
 abbrev pub IsShown : {T : Type 0} → (Register → T) → (t : ℤ) → Trees → T → Type 0
 IsShown shown t db it = OfHeld db (λ h. (r : Register) → IsSoundOrNothing r → StandsAt t h r → it ≡ shown r)
 
--- and this, given what was found of it
-abbrev pub IsShownGiven : {T : Type 0} → (Given : Register → Type 0) → (Register → T) → (t : ℤ) → Trees → T → Type 0
-IsShownGiven Given shown t db it = OfHeld db (λ h. (r : Register) → IsSoundOrNothing r → StandsAt t h r → Given r → it ≡ shown r)
+-- the same, if a premise holds of that register
+abbrev pub IsShownGiven : {T : Type 0} → (Given : Register → Type 0) → (Register → T) → (t : ℤ) → Trees → T
+    → Type 0
+IsShownGiven Given shown t db it = OfHeld db
+    (λ h. (r : Register) → IsSoundOrNothing r → StandsAt t h r → Given r → it ≡ shown r)
 
--- what the party of a number is called among some, nothing where it is not among them
+-- the name of a party in a list of versions; empty if it is not there
 abbrev pub name_among : List (Version (ℕ × PartyRecord)) → (number : ℕ) → List ℕ
 name_among [] number = []
 name_among (v ∷ vs) number = if nat_eq v.what.0 number then v.what.1.name else name_among vs number
 
 -- an entry with its number and a name
 abbrev pub with_name : ℕ → RrrRecord → List ℕ → NamedRrr
-with_name n e name = record { rrr = record { number = n; unit = e.unit; party = e.party; class = e.class; source = e.source }; name = name }
+with_name n e name = record {
+  rrr =
+      record { number = n; unit = e.unit; party = e.party; class = e.class; source = e.source };
+  name = name;
+}
 
--- some entries, each with the name of its party, which is among some
+-- entries, each with the name of its party, from a list of versions
 abbrev pub named_among : List (Version (ℕ × PartyRecord)) → List (ℕ × RrrRecord) → List NamedRrr
 named_among parties entries = map_list (λ e. with_name e.0 e.1 (name_among parties e.1.party)) entries
 
 -- the entries of a unit that a caller sees
-abbrev pub in_sight : Register → Caller → (unit : ℕ) → FinMap nat_cmp RrrRecord
-in_sight r caller unit = only (λ n e. nat_eq e.unit unit && sees r caller Rrr n) r.rrrs
+abbrev pub visible_rrrs : Register → Caller → (unit : ℕ) → FinMap nat_cmp RrrRecord
+visible_rrrs r caller unit = only (λ n e. nat_eq e.unit unit && sees r caller Rrr n) r.rrrs
 
--- where the tables hold a history that at the moment stands for a register, these are the groups of which one of some parties is a member in
--- it
+-- If the tables hold a history that at time t represents a register, the list has exactly the groups in it
+-- with a member in a list.
 abbrev pub AreGroupsAt : (callers : List ℕ) → (t : ℤ) → Trees → List ℕ → Type 0
-AreGroupsAt callers t db groups = OfHeld db (λ h. (r : Register) → StandsAt t h r → (group : ℕ) → Contains groups group ↔ (is_group_of r callers group ≡ true))
+AreGroupsAt callers t db groups = OfHeld db
+    (λ h. (r : Register) → StandsAt t h r → (group : ℕ) → Contains groups group
+    ↔ (is_group_of r callers group ≡ true))
 
--- and these the names in which a citizen holds in it
+-- the list has exactly the names in which a citizen holds rights in that register
 abbrev pub AreNamesAt : Caller → (t : ℤ) → Trees → List ℕ → Type 0
 AreNamesAt caller t db names = OfHeld db (λ h. (r : Register) → StandsAt t h r → AreNamesOf r caller names)
 
--- of the entries of a unit those that are shown to a caller by the caller's interest in the unit
+-- the entries of a unit that the caller's interest in the unit shows
 abbrev pub shown_of : Register → Caller → Entries → Entries
-shown_of r caller entries = only (λ n e. shows_entry (interest_of (is_name_of r (circle_of r caller.party)) caller entries) caller.party e) entries
+shown_of r caller entries = only (λ n e. shows_entry
+    (interest_of (is_name_of r (circle_of r caller.party)) caller entries) caller.party e) entries
 
--- the entries of a unit that an undecided mutation of a party names, none of another unit
+-- the entries of a unit if a pending mutation of the party refers to it, else none
 abbrev pub awaited_of : Register → (party unit : ℕ) → Entries → Entries
 awaited_of r party unit entries = if is_lodger_on r party unit then entries else map.empty
 
--- a unit that stands, as a caller sees it
+-- the view of a unit record for a caller
 abbrev pub view_from : Register → Caller → (unit : ℕ) → (moment : ℤ) → UnitRecord → View
 view_from r caller unit moment found = record {
   unit = record { number = unit; name = found.name; checked = found.checked };
@@ -76,6 +87,6 @@ view_from r caller unit moment found = record {
   at = moment;
 }
 
--- a view that names a moment
+-- a view with another time
 abbrev pub named_at : (moment : ℤ) → Option View → Option View
 named_at moment found = option_map {T = View} (λ v. record v { at = moment }) found

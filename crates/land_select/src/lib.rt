@@ -1,23 +1,16 @@
-//! The keeper over joins: what a caller may see is selected by SQL.
+//! The indexed keeper (`SqlKeeper`): SQL queries select the objects that a caller sees, and lookups by key
+//! read records.
 #![tactic(auto)]
 
-mod asking;
-mod awaited;
-mod denial;
-mod interests;
-mod kept;
+mod cache;
 pub mod laws;
-mod naming;
 mod object;
 mod objects;
-mod party;
-mod sheet;
-mod shown;
+mod query;
 mod sight;
 pub mod sight_text;
+mod slice_query;
 pub mod slices;
-mod slicing;
 pub mod sql_keeper;
-mod standing;
+mod verdict;
 mod view;
-mod viewing;

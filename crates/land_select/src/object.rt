@@ -1,7 +1,7 @@
-//! An object as it stands at a moment, by look-ups.
+//! Reads an object by key.
 ghost use Rattle.std.specs.Prelude.{◌≡◌};
 
-use crate::asking::Question;
+use crate::query::Query;
 use land_core::kind::Kind;
 use land_core::object::Object;
 use land_select_joins::lookups::objects::object;
@@ -9,24 +9,24 @@ use land_tables_rows::listing::fault::ReadFault;
 use sqlite::{Alter, Connection};
 use std::alloc::Global;
 
-/// Which object of a kind stands at a number and a moment.
+/// The query for an object at a time.
 #[derive(Clone, Copy, Debug)]
-pub(crate) struct ObjectAt {
-    /// Its kind.
+pub(crate) struct ObjectQuery {
+    /// The kind of the object.
     pub(crate) kind: Kind,
-    /// Its number.
+    /// The number of the object.
     pub(crate) number: u64,
-    /// The moment, in milliseconds since 1970 UTC.
+    /// The time, in Unix milliseconds.
     pub(crate) moment: i64,
 }
 
-impl Question<Option<Object>> for ObjectAt {
+impl Query<Option<Object>> for ObjectQuery {
     ghost use Rattle.land_core.specs.Register.{object_at};
     ghost use Rattle.land_select_joins.specs.Lookups.Parts.{IsPart};
 
-    ghost answers = { λ it db found. IsPart (λ r. object_at r it.kind it.number) it.moment db found };
+    ghost results = { λ it db found. IsPart (λ r. object_at r it.kind it.number) it.moment db found };
 
-    fn ask<S: Alter>(
+    fn run<S: Alter>(
         &self,
         alloc: Global,
         conn: &mut Connection<S>,

@@ -1,7 +1,8 @@
-//! Objects of a kind as they are listed: all of a range of numbers by one text, and the parties of entries by one more.
+//! Reads a list of objects: a range of numbers with one SQL statement, and the parties of entries with a
+//! second one.
 ghost use Rattle.std.specs.FinMap as map;
 ghost use Rattle.std.specs.List.{AllByRecursion};
-ghost use Rattle.std.specs.Prelude.{◌≡◌, ℕ, false, true, map as map_list, IfOk};
+ghost use Rattle.std.specs.Prelude.{◌≡◌, ℕ, true, map as map_list, IfOk};
 ghost use Rattle.land_core.specs.Entries.{only, with_entries};
 ghost use Rattle.land_core.specs.Register.{nothing};
 ghost use Rattle.land_core.specs.declared.kind.Kind.TheVariants as kinds;
@@ -10,13 +11,11 @@ ghost use Rattle.land_keep.specs.Named.{objects_at};
 ghost use Rattle.land_select.specs.Listing.{ListsAlike, ListsRange};
 ghost use Rattle.land_select_joins.specs.Lookups.Parts.{IsPart};
 ghost use Rattle.land_select_joins.specs.Lookups.Ranges.{is_within};
+ghost use Rattle.land_select_joins.specs.TableReads.{ReadsTables};
 ghost use Rattle.land_tables_history.specs.declared.version.Version.{Version as Spanned};
-ghost use Rattle.land_tables_schema.specs.Land.{IsLand};
-ghost use Rattle.land_tables_schema.specs.Rows.Looks.{IsLook};
-ghost use Rattle.sqlite.specs.Held.{state};
-ghost use Rattle.sqlite.specs.State.{HasCleanDisk};
+ghost use Rattle.land_tables_schema.specs.Connections.{HasRegisterTables, LeavesAutocommit};
 
-use crate::asking::Question;
+use crate::query::Query;
 use land_core::duplicate::Duplicate;
 use land_core::kind::Kind;
 use land_core::mutation::MutationRecord;
@@ -38,19 +37,21 @@ use land_tables_rows::reading::from_row::FromRow;
 use sqlite::{Alter, Connection};
 use std::alloc::{AllocError, Global};
 
-/// What is listed as it stands in its own table.
+/// A record type whose table has all that a list shows.
 pub(crate) trait Listed: Numbered + Duplicate
 where
     Version<(u64, Self)>: FromRow,
 {
-    /// A register that has these and nothing else.
+    /// Builds a register with these records only.
     fn alone(alloc: Global, found: Records<Self>) -> Register
-        ensures { (r : Whole) (first last : ℕ) → found ≡ only (λ n v. is_within first last n) (Self.part r) → ListsAlike Self.KIND first last result r };
+        ensures { (r : Whole) (first last : ℕ) → found ≡ only (λ n v. is_within first last n) (Self.part r)
+            → ListsAlike Self.KIND first last result r };
 }
 
 impl Listed for PartyRecord {
     fn alone(alloc: Global, found: Records<PartyRecord>) -> Register
-        ensures { (r : Whole) (first last : ℕ) → found ≡ only (λ n v. is_within first last n) r.parties → ListsAlike kinds.Party first last result r }
+        ensures { (r : Whole) (first last : ℕ) → found ≡ only (λ n v. is_within first last n) r.parties
+            → ListsAlike kinds.Party first last result r }
     {
         Register {
             parties: found,
@@ -61,7 +62,8 @@ impl Listed for PartyRecord {
 
 impl Listed for UnitRecord {
     fn alone(alloc: Global, found: Records<UnitRecord>) -> Register
-        ensures { (r : Whole) (first last : ℕ) → found ≡ only (λ n v. is_within first last n) r.units → ListsAlike kinds.Unit first last result r }
+        ensures { (r : Whole) (first last : ℕ) → found ≡ only (λ n v. is_within first last n) r.units
+            → ListsAlike kinds.Unit first last result r }
     {
         Register {
             units: found,
@@ -72,7 +74,8 @@ impl Listed for UnitRecord {
 
 impl Listed for ParcelRecord {
     fn alone(alloc: Global, found: Records<ParcelRecord>) -> Register
-        ensures { (r : Whole) (first last : ℕ) → found ≡ only (λ n v. is_within first last n) r.parcels → ListsAlike kinds.Parcel first last result r }
+        ensures { (r : Whole) (first last : ℕ) → found ≡ only (λ n v. is_within first last n) r.parcels
+            → ListsAlike kinds.Parcel first last result r }
     {
         Register {
             parcels: found,
@@ -83,7 +86,8 @@ impl Listed for ParcelRecord {
 
 impl Listed for SourceRecord {
     fn alone(alloc: Global, found: Records<SourceRecord>) -> Register
-        ensures { (r : Whole) (first last : ℕ) → found ≡ only (λ n v. is_within first last n) r.sources → ListsAlike kinds.Source first last result r }
+        ensures { (r : Whole) (first last : ℕ) → found ≡ only (λ n v. is_within first last n) r.sources
+            → ListsAlike kinds.Source first last result r }
     {
         Register {
             sources: found,
@@ -94,7 +98,8 @@ impl Listed for SourceRecord {
 
 impl Listed for MutationRecord {
     fn alone(alloc: Global, found: Records<MutationRecord>) -> Register
-        ensures { (r : Whole) (first last : ℕ) → found ≡ only (λ n v. is_within first last n) r.mutations → ListsAlike kinds.Mutation first last result r }
+        ensures { (r : Whole) (first last : ℕ) → found ≡ only (λ n v. is_within first last n) r.mutations
+            → ListsAlike kinds.Mutation first last result r }
     {
         Register {
             mutations: found,
@@ -103,7 +108,7 @@ impl Listed for MutationRecord {
     }
 }
 
-/// A register that lists the objects of a kind in a range as they stand at a moment.
+/// Reads a register that lists the objects of a kind in a range at a time.
 fn ranged<V: Listed, S: Alter>(
     alloc: Global,
     conn: &mut Connection<S>,
@@ -113,20 +118,21 @@ fn ranged<V: Listed, S: Alter>(
 ) -> Result<Register, ReadFault>
 where
     Version<(u64, V)>: FromRow,
-    requires land { HasCleanDisk (state S.Store conn.old) → IsLand (state S.Store conn.old).now.schema }
-    ensures look { IsLook result (λ it. ListsRange V.KIND first last at (state S.Store conn.old).now.trees it) (state S.Store conn.old) (state S.Store conn.new) }
-    ensures mode { conn.old.in_transaction ≡ false → conn.new.in_transaction ≡ false }
+    requires land { HasRegisterTables S.Store conn.old }
+    ensures look { ReadsTables S.Store result (ListsRange V.KIND first last at) conn.old conn.new }
+    ensures mode { LeavesAutocommit conn.old conn.new }
 {
     let found = records::<V, S>(alloc, conn, first, last, at)?;
     Ok(V::alone(alloc, found))
 }
 
-/// The records of some parties, of which one may be there more than once.
+/// Returns the records of versions of parties, in which a party may be repeated.
 fn records_of(
     alloc: Global,
     parties: &[Version<(u64, PartyRecord)>],
 ) -> Result<Records<PartyRecord>, AllocError>
-    ensures { IfOk result (λ it. it ≡ with_entries map.empty (map_list (λ (v : Spanned (ℕ × PartyRecord)). v.what) parties.now)) }
+    ensures { IfOk result (λ it. it ≡ with_entries map.empty
+        (map_list (λ (v : Spanned (ℕ × PartyRecord)). v.what) parties.now)) }
 {
     let mut records = Records::new(alloc);
     for party in parties {
@@ -135,13 +141,17 @@ fn records_of(
     Ok(records)
 }
 
-/// A register that has these entries and these parties, and nothing else.
+/// Builds a register with these entries and these parties only.
 fn entries_alone(
     alloc: Global,
     entries: Records<RrrRecord>,
     parties: &[Version<(u64, PartyRecord)>],
 ) -> Result<Register, AllocError>
-    ensures { IfOk result (λ it. it ≡ record nothing { rrrs = entries; parties = with_entries map.empty (map_list (λ (v : Spanned (ℕ × PartyRecord)). v.what) parties.now) }) }
+    ensures { IfOk result (λ it. it ≡ record nothing {
+      rrrs = entries;
+      parties =
+          with_entries map.empty (map_list (λ (v : Spanned (ℕ × PartyRecord)). v.what) parties.now);
+    }) }
 {
     let parties = records_of(alloc, parties)?;
     let mut register = Register::nothing(alloc);
@@ -150,7 +160,7 @@ fn entries_alone(
     Ok(register)
 }
 
-/// A register that lists the entries of a range as they stand at a moment.
+/// Reads a register that lists the entries in a range at a time.
 fn entries<S: Alter>(
     alloc: Global,
     conn: &mut Connection<S>,
@@ -158,16 +168,16 @@ fn entries<S: Alter>(
     last: u64,
     at: i64,
 ) -> Result<Register, ReadFault>
-    requires land { HasCleanDisk (state S.Store conn.old) → IsLand (state S.Store conn.old).now.schema }
-    ensures look { IsLook result (λ it. ListsRange kinds.Rrr first last at (state S.Store conn.old).now.trees it) (state S.Store conn.old) (state S.Store conn.new) }
-    ensures mode { conn.old.in_transaction ≡ false → conn.new.in_transaction ≡ false }
+    requires land { HasRegisterTables S.Store conn.old }
+    ensures look { ReadsTables S.Store result (ListsRange kinds.Rrr first last at) conn.old conn.new }
+    ensures mode { LeavesAutocommit conn.old conn.new }
 {
     let found = records::<RrrRecord, S>(alloc, conn, first, last, at)?;
     let parties = parties_within(alloc, conn, first, last, at)?;
     Ok(entries_alone(alloc, found, parties.as_slice())?)
 }
 
-/// A register that lists the objects of a kind in a range as they stand at a moment, whatever the kind.
+/// Reads a register that lists the objects of any kind in a range at a time.
 fn register_of<S: Alter>(
     alloc: Global,
     conn: &mut Connection<S>,
@@ -176,9 +186,9 @@ fn register_of<S: Alter>(
     last: u64,
     at: i64,
 ) -> Result<Register, ReadFault>
-    requires land { HasCleanDisk (state S.Store conn.old) → IsLand (state S.Store conn.old).now.schema }
-    ensures look { IsLook result (λ it. ListsRange kind first last at (state S.Store conn.old).now.trees it) (state S.Store conn.old) (state S.Store conn.new) }
-    ensures mode { conn.old.in_transaction ≡ false → conn.new.in_transaction ≡ false }
+    requires land { HasRegisterTables S.Store conn.old }
+    ensures look { ReadsTables S.Store result (ListsRange kind first last at) conn.old conn.new }
+    ensures mode { LeavesAutocommit conn.old conn.new }
 {
     match kind {
         Kind::Party => ranged::<PartyRecord, S>(alloc, conn, first, last, at),
@@ -190,7 +200,7 @@ fn register_of<S: Alter>(
     }
 }
 
-/// A range in which some numbers lie: from the least of them to the greatest.
+/// Returns the range from the least to the greatest of some numbers.
 fn range_of(numbers: &[u64]) -> (u64, u64)
     ensures { AllByRecursion (λ n. is_within result.0 result.1 n ≡ true) numbers.now }
 {
@@ -203,7 +213,7 @@ fn range_of(numbers: &[u64]) -> (u64, u64)
     (first, last)
 }
 
-/// The objects of a kind that stand at a moment under some numbers, in the order of these, as they are listed.
+/// Reads the objects of a kind for a list of numbers at a time, in the order of the list.
 fn objects<S: Alter>(
     alloc: Global,
     conn: &mut Connection<S>,
@@ -211,9 +221,10 @@ fn objects<S: Alter>(
     numbers: &[u64],
     at: i64,
 ) -> Result<Sequence<NamedObject>, ReadFault>
-    requires land { HasCleanDisk (state S.Store conn.old) → IsLand (state S.Store conn.old).now.schema }
-    ensures look { IsLook result (λ it. IsPart (λ r. objects_at r kind numbers.now) at (state S.Store conn.old).now.trees it) (state S.Store conn.old) (state S.Store conn.new) }
-    ensures mode { conn.old.in_transaction ≡ false → conn.new.in_transaction ≡ false }
+    requires land { HasRegisterTables S.Store conn.old }
+    ensures look { ReadsTables S.Store result (IsPart (λ r. objects_at r kind numbers.now) at) conn.old
+        conn.new }
+    ensures mode { LeavesAutocommit conn.old conn.new }
 {
     let range = range_of(numbers);
     let (first, last) = range;
@@ -221,24 +232,24 @@ fn objects<S: Alter>(
     Ok(objects_of(alloc, &register, kind, numbers)?)
 }
 
-/// Which objects of a kind stand under some numbers at a moment.
+/// The query for the objects of a list of numbers at a time.
 #[derive(Clone, Copy)]
-pub(crate) struct ObjectsAt<'a> {
-    /// Their kind.
+pub(crate) struct ObjectsQuery<'a> {
+    /// The kind of the objects.
     pub(crate) kind: Kind,
-    /// Their numbers.
+    /// The numbers of the objects.
     pub(crate) numbers: &'a [u64],
-    /// The moment, in milliseconds since 1970 UTC.
+    /// The time, in Unix milliseconds.
     pub(crate) moment: i64,
 }
 
-impl Question<Sequence<NamedObject>> for ObjectsAt<'_> {
+impl Query<Sequence<NamedObject>> for ObjectsQuery<'_> {
     ghost use Rattle.land_keep.specs.Named.{objects_at};
     ghost use Rattle.land_select_joins.specs.Lookups.Parts.{IsPart};
 
-    ghost answers = { λ it db found. IsPart (λ r. objects_at r it.kind it.numbers.now) it.moment db found };
+    ghost results = { λ it db found. IsPart (λ r. objects_at r it.kind it.numbers.now) it.moment db found };
 
-    fn ask<S: Alter>(
+    fn run<S: Alter>(
         &self,
         alloc: Global,
         conn: &mut Connection<S>,

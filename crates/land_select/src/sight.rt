@@ -1,7 +1,7 @@
-//! What a caller sees of a kind, by joins.
+//! Reads the numbers of a kind that a caller sees.
 ghost use Rattle.std.specs.Prelude.{◌≡◌};
 
-use crate::asking::Question;
+use crate::query::Query;
 use land_core::caller::Caller;
 use land_core::kind::Kind;
 use land_core::sequence::NumberList;
@@ -10,23 +10,23 @@ use land_tables_rows::listing::fault::ReadFault;
 use sqlite::{Alter, Connection};
 use std::alloc::Global;
 
-/// Which numbers of a kind a caller sees at a moment.
+/// The query for the numbers of a kind that a caller sees at a time.
 #[derive(Clone, Copy, Debug)]
-pub(crate) struct Sight {
-    /// Who asks.
+pub(crate) struct SightQuery {
+    /// The caller.
     pub(crate) caller: Caller,
-    /// What is asked for.
+    /// The kind.
     pub(crate) kind: Kind,
-    /// The moment, in milliseconds since 1970 UTC.
+    /// The time, in Unix milliseconds.
     pub(crate) moment: i64,
 }
 
-impl Question<NumberList> for Sight {
+impl Query<NumberList> for SightQuery {
     ghost use Rattle.land_select_joins.specs.Joins.Sight.{IsSight};
 
-    ghost answers = { λ it db numbers. IsSight it.caller it.kind it.moment db numbers };
+    ghost results = { λ it db numbers. IsSight it.caller it.kind it.moment db numbers };
 
-    fn ask<S: Alter>(
+    fn run<S: Alter>(
         &self,
         alloc: Global,
         conn: &mut Connection<S>,

@@ -1,4 +1,4 @@
-//! The texts of a role's sight, kind by kind.
+//! The SQL statements of a role's sight, for each kind.
 ghost use Rattle.std.specs.Prelude.{◌≡◌, map};
 ghost use Rattle.land_core.specs.declared.kind.Kind.TheVariants as kinds;
 ghost use Rattle.land_core.specs.declared.role.Role.TheVariants as roles;
@@ -10,7 +10,7 @@ use land_core::kind::Kind;
 use land_core::role::Role;
 use land_select_joins::joins::{all, creditor, group, holder, lodger, named, own};
 
-/// The texts that list all objects of a kind.
+/// Returns the statement that selects all objects of a kind.
 fn all_texts(kind: Kind) -> &'static [&'static str]
     ensures { map (λ text. text.now) result.now ≡ map text_of (selections_of roles.Notary kind) }
 {
@@ -80,8 +80,8 @@ fn surveyor_texts(kind: Kind) -> &'static [&'static str]
     }
 }
 
-/// The texts whose numbers together are what a role sees of a kind without mandates: 0 to 4 of 23. Parameter 1 is the caller, or one of
-/// its circle, parameter 2 the moment in milliseconds since 1970 UTC.
+/// Returns the SQL statements that together select the objects of a kind that a role sees without mandates: 0
+/// to 4 of 23. Parameter 1 is the caller or one of its circle, parameter 2 the time in Unix milliseconds.
 pub fn sight_text(role: Role, kind: Kind) -> &'static [&'static str]
     ensures { map (λ text. text.now) result.now ≡ sight_texts role kind }
 {

@@ -1,10 +1,10 @@
-//! What is looked up of a register so that an act can be planned.
+//! Reads the part of a register that planning an act needs.
 
+mod gathered_sources;
 mod gathers;
-mod holdings;
 mod mutations;
 mod named;
 mod pairs;
-mod papers;
-mod people;
+mod parties_and_roles;
 pub mod slice;
+mod units_and_entries;

@@ -1,15 +1,15 @@
-//! The keeper over joins.
+//! The indexed keeper.
 ghost use Rattle.std.specs.Prelude.{◌≡◌, ◌≤ℤ◌};
 ghost use Rattle.land_keep.specs.Moments.{last_moment};
 
-use crate::asking::answer;
-use crate::denial::Denial;
-use crate::kept::{Kept, forget, found_of, keep, kept_for, object_of};
-use crate::object::ObjectAt;
-use crate::objects::ObjectsAt;
-use crate::sight::Sight;
-use crate::slicing::Sliced;
-use crate::view::{UnitSeen, naming};
+use crate::cache::{Cache, cache_for, forget, keep, take_object, take_unit};
+use crate::object::ObjectQuery;
+use crate::objects::ObjectsQuery;
+use crate::query::execute;
+use crate::sight::SightQuery;
+use crate::slice_query::SliceQuery;
+use crate::verdict::query::VerdictQuery;
+use crate::view::{UnitViewQuery, with_moment};
 use land_acts::slice::Slice;
 use land_core::act::Act;
 use land_core::ask::Ask;
@@ -31,19 +31,20 @@ use sqlite::Alter;
 use std::alloc::Global;
 use std::marker::Model;
 
-/// A keeper over tables, whatever their store: what a caller sees of a kind is selected by joins, objects and title sheets are looked up by
-/// their numbers, and so are what is judged and the slices of acts. What was found of an object as the verdict on it was given is kept for the
-/// reply, so that it is not looked up again. Contracts see the tables.
+/// A keeper on tables of any store. SQL queries select the numbers that a caller sees; lookups by key read
+/// objects, title sheets, the slices of acts and the records that verdicts need. A value that a verdict has
+/// read is cached, so that the reply does not read it again. In contracts the value of the keeper is that of
+/// its tables.
 pub struct SqlKeeper<S: Alter> {
     /// The tables.
     tables: Tables<S>,
-    /// What was found as the last request was judged, until its object or sheet is asked for, or anything else.
-    kept: Option<Kept>,
+    /// The value that the last verdict read, until the next call.
+    cache: Option<Cache>,
 }
 
 impl<S: Alter> Model for SqlKeeper<S> {
     ghost use Rattle.land_keep.specs.Keeping.{IsLive};
-    ghost use Rattle.land_select.specs.Kept.{IsKeptOf};
+    ghost use Rattle.land_select.specs.Cache.{IsKeptOf};
     ghost use Rattle.land_tables.specs.Office.{IsHonest, Office, held, office_code};
 
     ghost Value = { Office S };
@@ -52,28 +53,35 @@ impl<S: Alter> Model for SqlKeeper<S> {
 
     ghost view = { λ k. k.tables };
 
-    ghost invariant = { λ k. IsLive (IsHonest S.Store k.tables) k.tables.is_closed → IsKeptOf (held S.Store k.tables) k.kept };
+    ghost invariant = { λ k. IsLive (IsHonest S.Store k.tables) k.tables.is_closed
+        → IsKeptOf (held S.Store k.tables) k.cache };
 }
 
 impl<S: Alter + Drop> Drop for SqlKeeper<S> {
     fn drop(self) {
-        let SqlKeeper { tables: _, kept: _ } = self;
+        let SqlKeeper {
+            tables: _,
+            cache: _,
+        } = self;
     }
 }
 
 impl<S: Alter> SqlKeeper<S> {
-    /// A keeper over tables, closed if a call of their store has failed.
+    /// Creates a keeper on tables; closed if a store operation has failed.
     pub fn new(tables: Tables<S>) -> SqlKeeper<S>
         ensures { result ≡ tables }
     {
-        SqlKeeper { tables, kept: None }
+        SqlKeeper {
+            tables,
+            cache: None,
+        }
     }
 
-    /// Hands the tables back, as they are.
+    /// Returns the tables, unchanged.
     pub fn into_tables(self) -> Tables<S>
         ensures { result ≡ self }
     {
-        let SqlKeeper { tables, kept: _ } = self;
+        let SqlKeeper { tables, cache: _ } = self;
         tables
     }
 }
@@ -107,20 +115,20 @@ impl<S: Alter> Keeper for SqlKeeper<S> {
         ask: &Ask,
         now: i64,
     ) -> Result<Verdict, StoreFault> {
-        forget(&mut self.kept);
+        forget(&mut self.cache);
         let at = named_moment(ask).unwrap_or(now);
         soundness_by_look_ups();
         let asked_for = at.min(LAST_MOMENT);
-        let denial = Denial {
+        let denial = VerdictQuery {
             caller,
             ask,
             past: at < now,
             moment: asked_for,
         };
-        let told = answer(alloc, &mut self.tables, &denial)?;
+        let told = execute(alloc, &mut self.tables, &denial)?;
         let (verdict, found) = told;
-        let kept = kept_for(caller, ask, at, found);
-        keep(&mut self.kept, kept);
+        let cache = cache_for(caller, ask, at, found);
+        keep(&mut self.cache, cache);
         Ok(verdict)
     }
 
@@ -131,13 +139,13 @@ impl<S: Alter> Keeper for SqlKeeper<S> {
         kind: Kind,
         at: i64,
     ) -> Result<NumberList, StoreFault> {
-        forget(&mut self.kept);
-        let sight = Sight {
+        forget(&mut self.cache);
+        let sight = SightQuery {
             caller,
             kind,
             moment: at.min(LAST_MOMENT),
         };
-        answer(alloc, &mut self.tables, &sight)
+        execute(alloc, &mut self.tables, &sight)
     }
 
     fn object(
@@ -150,18 +158,18 @@ impl<S: Alter> Keeper for SqlKeeper<S> {
         if self.tables.is_closed() {
             return Err(StoreFault::Closed);
         }
-        let kept = self.kept.take();
-        if let Some(found) = object_of(kept, kind, number, at) {
+        let cache = self.cache.take();
+        if let Some(found) = take_object(cache, kind, number, at) {
             return Ok(Some(found));
         }
         soundness_by_look_ups();
         let looked_at = at.min(LAST_MOMENT);
-        let object = ObjectAt {
+        let object = ObjectQuery {
             kind,
             number,
             moment: looked_at,
         };
-        answer(alloc, &mut self.tables, &object)
+        execute(alloc, &mut self.tables, &object)
     }
 
     fn objects(
@@ -171,15 +179,15 @@ impl<S: Alter> Keeper for SqlKeeper<S> {
         numbers: &[u64],
         at: i64,
     ) -> Result<Sequence<NamedObject>, StoreFault> {
-        forget(&mut self.kept);
+        forget(&mut self.cache);
         soundness_by_look_ups();
         let moment = at.min(LAST_MOMENT);
-        let listed = ObjectsAt {
+        let listed = ObjectsQuery {
             kind,
             numbers,
             moment,
         };
-        answer(alloc, &mut self.tables, &listed)
+        execute(alloc, &mut self.tables, &listed)
     }
 
     fn view(
@@ -189,33 +197,33 @@ impl<S: Alter> Keeper for SqlKeeper<S> {
         unit: u64,
         at: i64,
     ) -> Result<Option<View>, StoreFault> {
-        let kept = self.kept.take();
-        let found = found_of(kept, caller, unit, at);
+        let cache = self.cache.take();
+        let found = take_unit(cache, caller, unit, at);
         let moment = at.min(LAST_MOMENT);
-        let seen = UnitSeen {
+        let seen = UnitViewQuery {
             caller,
             unit,
             moment,
             found: &found,
         };
-        let shown = answer(alloc, &mut self.tables, &seen)?;
-        Ok(naming(shown, at))
+        let shown = execute(alloc, &mut self.tables, &seen)?;
+        Ok(with_moment(shown, at))
     }
 
     fn slice(&mut self, alloc: Global, caller: Caller, act: &Act) -> Result<Slice, StoreFault> {
-        forget(&mut self.kept);
+        forget(&mut self.cache);
         soundness_by_look_ups();
-        let sliced = Sliced {
+        let sliced = SliceQuery {
             caller,
             act,
             next: self.tables.next(),
             moment: LAST_MOMENT,
         };
-        answer(alloc, &mut self.tables, &sliced)
+        execute(alloc, &mut self.tables, &sliced)
     }
 
     fn write(&mut self, alloc: Global, change: &Change, stamp: i64) -> Result<(), StoreFault> {
-        forget(&mut self.kept); // The change may be of what was found.
+        forget(&mut self.cache); // The change may be to the cached object.
         self.tables.write(alloc, change, stamp)
     }
 }

@@ -1,23 +1,22 @@
-//! A unit as a caller sees it at a moment, by look-ups and joins.
+//! Reads the view of a unit, as a caller sees it.
 ghost use Rattle.std.specs.FinMap as map;
 ghost use Rattle.std.specs.List.{list_any};
-ghost use Rattle.std.specs.Prelude.{◌≡◌, false, nat_eq, map as map_list, [], IfOk, IsTrue, Some};
+ghost use Rattle.std.specs.Prelude.{◌≡◌, nat_eq, map as map_list, [], IfOk, Some};
 ghost use Rattle.land_core.specs.Entries.{only};
 ghost use Rattle.land_core.specs.declared.caller.Caller.{Caller as Who};
 ghost use Rattle.land_core.specs.declared.kind.Kind.TheVariants as kinds;
 ghost use Rattle.land_keep.specs.Sheets.{entries_seen, parcels_at, shown_parcel, view_at};
-ghost use Rattle.land_select.specs.Kept.{IsFound, IsObjectFound};
-ghost use Rattle.land_select.specs.Views.{IsShown, IsShownGiven, in_sight, name_among, named_among, named_at, view_from, with_name};
+ghost use Rattle.land_select.specs.Cache.{IsFound, IsObjectFound};
+ghost use Rattle.land_select.specs.Views.{IsShown, IsShownGiven, visible_rrrs, name_among, named_among};
+ghost use Rattle.land_select.specs.Views.{named_at, view_from, with_name};
 ghost use Rattle.land_select_joins.specs.Lookups.Parts.{IsPart};
-ghost use Rattle.land_tables_schema.specs.Land.{IsLand};
-ghost use Rattle.land_tables_schema.specs.Rows.Looks.{IsLook};
-ghost use Rattle.sqlite.specs.Held.{state};
-ghost use Rattle.sqlite.specs.State.{HasCleanDisk};
+ghost use Rattle.land_select_joins.specs.TableReads.{ReadsTables};
+ghost use Rattle.land_tables_schema.specs.Connections.{HasRegisterTables, IsUsable, LeavesAutocommit};
 
-use crate::asking::Question;
-use crate::awaited::awaited_of;
-use crate::interests::shown_of;
-use crate::kept::Found;
+use crate::cache::CachedValue;
+use crate::query::Query;
+use crate::verdict::conveyancer::awaited_of;
+use crate::verdict::interest::shown_of;
 use land_core::caller::Caller;
 use land_core::duplicate::Duplicate;
 use land_core::kind::Kind;
@@ -46,7 +45,7 @@ use land_tables_rows::listing::fault::ReadFault;
 use sqlite::{Alter, Connection};
 use std::alloc::{AllocError, Global};
 
-/// Parcels with their numbers, ascending.
+/// Returns parcels with their numbers, in increasing order.
 fn shown_parcels(
     alloc: Global,
     found: &Records<ParcelRecord>,
@@ -66,22 +65,22 @@ fn shown_parcels(
     Ok(parcels)
 }
 
-/// The parcels of a unit that stand at a moment, by ascending numbers.
+/// Reads the parcels of a unit at a time, in increasing order of numbers.
 fn parcels_of<S: Alter>(
     alloc: Global,
     conn: &mut Connection<S>,
     unit: u64,
     at: i64,
 ) -> Result<Sequence<Parcel>, ReadFault>
-    requires land { HasCleanDisk (state S.Store conn.old) → IsLand (state S.Store conn.old).now.schema }
-    ensures look { IsLook result (λ it. IsPart (λ r. parcels_at r unit) at (state S.Store conn.old).now.trees it) (state S.Store conn.old) (state S.Store conn.new) }
-    ensures mode { conn.old.in_transaction ≡ false → conn.new.in_transaction ≡ false }
+    requires land { HasRegisterTables S.Store conn.old }
+    ensures look { ReadsTables S.Store result (IsPart (λ r. parcels_at r unit) at) conn.old conn.new }
+    ensures mode { LeavesAutocommit conn.old conn.new }
 {
     let found = of_unit::parcels(alloc, conn, unit, at)?;
     Ok(shown_parcels(alloc, &found)?)
 }
 
-/// What the party of a number is called, among some; nothing where it is not among them.
+/// Returns the name of a party in a list; empty if it is not there.
 fn name_among(
     alloc: Global,
     parties: &[Version<(u64, PartyRecord)>],
@@ -97,7 +96,7 @@ fn name_among(
     Ok(Text::new(String::new(alloc)))
 }
 
-/// An entry with its number and the name of its party.
+/// Returns an entry with its number and the name of its party.
 fn with_name(
     alloc: Global,
     number: u64,
@@ -118,14 +117,14 @@ fn with_name(
     })
 }
 
-/// Whether a number is listed.
+/// Checks if a number is in a list.
 pub(crate) fn is_listed(listed: &[u64], number: u64) -> bool
     ensures { result ≡ list_any (nat_eq number) listed.now }
 {
     listed.iter().any(|it| number == *it)
 }
 
-/// Of some entries those whose numbers are listed.
+/// Returns the entries whose numbers are in a list.
 fn listed_entries(
     alloc: Global,
     found: &Records<RrrRecord>,
@@ -142,7 +141,7 @@ fn listed_entries(
     Ok(kept)
 }
 
-/// Some entries, by ascending numbers, each with the name of its party, which is among some.
+/// Returns entries in increasing order of numbers, each with the name of its party from a list.
 fn named_entries(
     alloc: Global,
     entries: &Records<RrrRecord>,
@@ -158,7 +157,7 @@ fn named_entries(
     Ok(all)
 }
 
-/// The entries of a unit that a caller sees at a moment, under their numbers.
+/// Reads the entries of a unit that a caller sees at a time, by number.
 fn entries_in_sight<S: Alter>(
     alloc: Global,
     conn: &mut Connection<S>,
@@ -166,10 +165,11 @@ fn entries_in_sight<S: Alter>(
     unit: u64,
     at: i64,
 ) -> Result<Records<RrrRecord>, ReadFault>
-    requires open { HasCleanDisk (state S.Store conn.old) → IsTrue (state S.Store conn.old).is_open }
-    requires land { HasCleanDisk (state S.Store conn.old) → IsLand (state S.Store conn.old).now.schema }
-    ensures look { IsLook result (λ it. IsShown (λ r. in_sight r caller unit) at (state S.Store conn.old).now.trees it) (state S.Store conn.old) (state S.Store conn.new) }
-    ensures mode { conn.old.in_transaction ≡ false → conn.new.in_transaction ≡ false }
+    requires open { IsUsable S.Store conn.old }
+    requires land { HasRegisterTables S.Store conn.old }
+    ensures look { ReadsTables S.Store result (IsShown (λ r. visible_rrrs r caller unit) at) conn.old
+        conn.new }
+    ensures mode { LeavesAutocommit conn.old conn.new }
 {
     seen_is_exact();
     soundness_by_look_ups();
@@ -190,7 +190,7 @@ fn entries_in_sight<S: Alter>(
     Ok(listed_entries(alloc, &entries, listed.as_slice())?)
 }
 
-/// Some entries of a unit, those that somebody sees, by ascending numbers, with the names of their parties.
+/// Reads the names of the parties of entries that a caller sees, and returns the entries in increasing order.
 fn with_names<S: Alter>(
     alloc: Global,
     conn: &mut Connection<S>,
@@ -198,55 +198,59 @@ fn with_names<S: Alter>(
     entries: &Records<RrrRecord>,
     at: i64,
 ) -> Result<Sequence<NamedRrr>, ReadFault>
-    requires land { HasCleanDisk (state S.Store conn.old) → IsLand (state S.Store conn.old).now.schema }
-    ensures look { (caller : Who) → IsLook result (λ it. IsShownGiven (λ r. entries.now ≡ in_sight r caller unit) (λ r. entries_seen r caller unit) at (state S.Store conn.old).now.trees it)
-        (state S.Store conn.old) (state S.Store conn.new) }
-    ensures mode { conn.old.in_transaction ≡ false → conn.new.in_transaction ≡ false }
+    requires land { HasRegisterTables S.Store conn.old }
+    ensures look { (caller : Who) → ReadsTables S.Store result
+        (IsShownGiven (λ r. entries.now ≡ visible_rrrs r caller unit) (λ r. entries_seen r caller unit) at)
+        conn.old conn.new }
+    ensures mode { LeavesAutocommit conn.old conn.new }
 {
     let found = parties(alloc, conn, unit, at)?;
     Ok(named_entries(alloc, entries, found.as_slice())?)
 }
 
-/// The entries of a unit that a caller sees at a moment, by ascending numbers, with the names of their parties: those that were found, or else
-/// those that are looked up.
+/// Returns the entries of a unit that a caller sees at a time, with the names of their parties, in increasing
+/// order: the cached ones, else those read from the tables.
 fn seen_entries<S: Alter>(
     alloc: Global,
     conn: &mut Connection<S>,
     caller: Caller,
     unit: u64,
     at: i64,
-    found: &Found,
+    found: &CachedValue,
 ) -> Result<Sequence<NamedRrr>, ReadFault>
-    requires open { HasCleanDisk (state S.Store conn.old) → IsTrue (state S.Store conn.old).is_open }
-    requires land { HasCleanDisk (state S.Store conn.old) → IsLand (state S.Store conn.old).now.schema }
-    ensures look { IsLook result (λ it. IsShownGiven (λ r. IsFound r caller kinds.Unit unit found.now) (λ r. entries_seen r caller unit) at (state S.Store conn.old).now.trees it)
-        (state S.Store conn.old) (state S.Store conn.new) }
-    ensures mode { conn.old.in_transaction ≡ false → conn.new.in_transaction ≡ false }
+    requires open { IsUsable S.Store conn.old }
+    requires land { HasRegisterTables S.Store conn.old }
+    ensures look { ReadsTables S.Store result
+        (IsShownGiven (λ r. IsFound r caller kinds.Unit unit found.now) (λ r. entries_seen r caller unit) at)
+        conn.old conn.new }
+    ensures mode { LeavesAutocommit conn.old conn.new }
 {
     match found {
-        Found::Entries(entries) => with_names(alloc, conn, unit, entries, at),
-        Found::Object(_) | Found::Nothing => {
+        CachedValue::VisibleEntries(entries) => with_names(alloc, conn, unit, entries, at),
+        CachedValue::Object(_) | CachedValue::Nothing => {
             let entries = entries_in_sight(alloc, conn, caller, unit, at)?;
             with_names(alloc, conn, unit, &entries, at)
         }
     }
 }
 
-/// A unit that stands, as a caller sees it.
+/// Reads the view of an existing unit.
 fn view_with<S: Alter>(
     alloc: Global,
     conn: &mut Connection<S>,
-    seen: UnitSeen<'_>,
+    seen: UnitViewQuery<'_>,
     unit_record: UnitRecord,
 ) -> Result<Option<View>, ReadFault>
-    requires open { HasCleanDisk (state S.Store conn.old) → IsTrue (state S.Store conn.old).is_open }
-    requires land { HasCleanDisk (state S.Store conn.old) → IsLand (state S.Store conn.old).now.schema }
-    ensures look { IsLook result (λ it. IsShownGiven (λ r. IsFound r seen.entry.caller kinds.Unit seen.entry.unit seen.entry.found.now) (λ r. Some (view_from r seen.entry.caller seen.entry.unit seen.entry.moment unit_record)) seen.entry.moment (state S.Store conn.old).now.trees it)
-        (state S.Store conn.old) (state S.Store conn.new) }
-    ensures mode { conn.old.in_transaction ≡ false → conn.new.in_transaction ≡ false }
+    requires open { IsUsable S.Store conn.old }
+    requires land { HasRegisterTables S.Store conn.old }
+    ensures look { ReadsTables S.Store result
+        (IsShownGiven (λ r. IsFound r seen.entry.caller kinds.Unit seen.entry.unit seen.entry.found.now)
+        (λ r. Some (view_from r seen.entry.caller seen.entry.unit seen.entry.moment unit_record))
+        seen.entry.moment) conn.old conn.new }
+    ensures mode { LeavesAutocommit conn.old conn.new }
 {
     soundness_by_look_ups();
-    let UnitSeen {
+    let UnitViewQuery {
         caller,
         unit,
         moment,
@@ -267,43 +271,46 @@ fn view_with<S: Alter>(
     }))
 }
 
-/// The record of a unit at a moment, or `None`: that of the unit that was found, or else the one that is looked up.
+/// Returns the record of a unit at a time: that of the cached unit, else the one read from the tables.
 fn record_of<S: Alter>(
     alloc: Global,
     conn: &mut Connection<S>,
     unit: u64,
     at: i64,
-    found: &Found,
+    found: &CachedValue,
 ) -> Result<Option<UnitRecord>, ReadFault>
-    requires open { HasCleanDisk (state S.Store conn.old) → IsTrue (state S.Store conn.old).is_open }
-    requires land { HasCleanDisk (state S.Store conn.old) → IsLand (state S.Store conn.old).now.schema }
-    ensures look { IsLook result (λ it. IsShownGiven (λ r. IsObjectFound r kinds.Unit unit found.now) (λ r. map.get r.units unit) at (state S.Store conn.old).now.trees it)
-        (state S.Store conn.old) (state S.Store conn.new) }
-    ensures mode { conn.old.in_transaction ≡ false → conn.new.in_transaction ≡ false }
+    requires open { IsUsable S.Store conn.old }
+    requires land { HasRegisterTables S.Store conn.old }
+    ensures look { ReadsTables S.Store result
+        (IsShownGiven (λ r. IsObjectFound r kinds.Unit unit found.now) (λ r. map.get r.units unit) at)
+        conn.old conn.new }
+    ensures mode { LeavesAutocommit conn.old conn.new }
 {
     soundness_by_look_ups();
     match found {
-        Found::Object(Object::Unit(it)) => Ok(Some(UnitRecord {
+        CachedValue::Object(Object::Unit(it)) => Ok(Some(UnitRecord {
             name: it.name.copy(alloc)?,
             checked: it.checked,
         })),
-        Found::Object(_) | Found::Entries(_) | Found::Nothing => {
+        CachedValue::Object(_) | CachedValue::VisibleEntries(_) | CachedValue::Nothing => {
             by_number::record(alloc, conn, unit, at)
         }
     }
 }
 
-/// The unit that stands, as a caller sees it, or `None`.
+/// Reads the view of a unit; `None` if the unit does not exist.
 fn view<S: Alter>(
     alloc: Global,
     conn: &mut Connection<S>,
-    seen: UnitSeen<'_>,
+    seen: UnitViewQuery<'_>,
 ) -> Result<Option<View>, ReadFault>
-    requires open { HasCleanDisk (state S.Store conn.old) → IsTrue (state S.Store conn.old).is_open }
-    requires land { HasCleanDisk (state S.Store conn.old) → IsLand (state S.Store conn.old).now.schema }
-    ensures look { IsLook result (λ it. IsShownGiven (λ r. IsFound r seen.entry.caller kinds.Unit seen.entry.unit seen.entry.found.now) (λ r. view_at r seen.entry.caller seen.entry.unit seen.entry.moment) seen.entry.moment (state S.Store conn.old).now.trees it)
-        (state S.Store conn.old) (state S.Store conn.new) }
-    ensures mode { conn.old.in_transaction ≡ false → conn.new.in_transaction ≡ false }
+    requires open { IsUsable S.Store conn.old }
+    requires land { HasRegisterTables S.Store conn.old }
+    ensures look { ReadsTables S.Store result
+        (IsShownGiven (λ r. IsFound r seen.entry.caller kinds.Unit seen.entry.unit seen.entry.found.now)
+        (λ r. view_at r seen.entry.caller seen.entry.unit seen.entry.moment) seen.entry.moment) conn.old
+        conn.new }
+    ensures mode { LeavesAutocommit conn.old conn.new }
 {
     let known = record_of(alloc, conn, seen.unit, seen.moment, seen.found)?;
     match known {
@@ -312,28 +319,29 @@ fn view<S: Alter>(
     }
 }
 
-/// How a caller sees a unit at a moment.
+/// The query for the view of a unit.
 #[derive(Clone, Copy, Debug)]
-pub(crate) struct UnitSeen<'a> {
-    /// Who asks.
+pub(crate) struct UnitViewQuery<'a> {
+    /// The caller.
     pub(crate) caller: Caller,
     /// The number of the unit.
     pub(crate) unit: u64,
-    /// The moment, in milliseconds since 1970 UTC.
+    /// The time, in Unix milliseconds.
     pub(crate) moment: i64,
-    /// What was found as this was judged.
-    pub(crate) found: &'a Found,
+    /// The value that the verdict read.
+    pub(crate) found: &'a CachedValue,
 }
 
-impl Question<Option<View>> for UnitSeen<'_> {
+impl Query<Option<View>> for UnitViewQuery<'_> {
     ghost use Rattle.land_core.specs.declared.kind.Kind.TheVariants as kinds;
     ghost use Rattle.land_keep.specs.Sheets.{view_at};
-    ghost use Rattle.land_select.specs.Kept.{IsFound};
+    ghost use Rattle.land_select.specs.Cache.{IsFound};
     ghost use Rattle.land_select.specs.Views.{IsShownGiven};
 
-    ghost answers = { λ it db shown. IsShownGiven (λ r. IsFound r it.caller kinds.Unit it.unit it.found.now) (λ r. view_at r it.caller it.unit it.moment) it.moment db shown };
+    ghost results = { λ it db shown. IsShownGiven (λ r. IsFound r it.caller kinds.Unit it.unit it.found.now)
+        (λ r. view_at r it.caller it.unit it.moment) it.moment db shown };
 
-    fn ask<S: Alter>(
+    fn run<S: Alter>(
         &self,
         alloc: Global,
         conn: &mut Connection<S>,
@@ -342,8 +350,8 @@ impl Question<Option<View>> for UnitSeen<'_> {
     }
 }
 
-/// A view that names a moment.
-pub(crate) fn naming(found: Option<View>, at: i64) -> Option<View>
+/// Returns a view with another time.
+pub(crate) fn with_moment(found: Option<View>, at: i64) -> Option<View>
     ensures { result ≡ named_at at found }
 {
     match found {

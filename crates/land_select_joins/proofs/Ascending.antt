@@ -1,4 +1,4 @@
--- Two ascending lists of the same numbers are one.
+-- Increasing lists with the same numbers are equal.
 use Rattle.std.proofs.Common.{◌≡◌, ◌↔◌, ◌<◌, inl, inr, ℕ, suc, List, [], ◌∷◌, refl, sym, ap₂, arith}
 use Rattle.std.proofs.lemmas.List.Elements.{All-contains}
 use Rattle.std.proofs.lemmas.List.Kept.{AllPairs-from_increasing}
@@ -7,7 +7,7 @@ use Rattle.std.specs.List.Sorted.{IsStrictlyIncreasing}
 use Rattle.land_select_joins.proofs.Containing.{first, first_or_later, in_nothing, later}
 use Rattle.land_select_joins.specs.Sights.Laws.{AscendingListsAreOne}
 
--- each number is below all that follow it
+-- each number is less than all that follow it
 abbrev pub Ascends : List ℕ → Type 0
 Ascends [] = Unit {0}
 Ascends (x ∷ xs) = ((y : ℕ) → Contains xs y → x < y) × Ascends xs

@@ -1,4 +1,4 @@
--- A call that answers a text which is one query is a look: what it gives follows from what is an answer.
+-- A call that runs a statement of one query is a read-only query; its result is that of sqlite.
 use Rattle.std.proofs.Common.{ℕ, List, [], IfErr, IfOk, OnErr, OnOk, Ok, Err, IsTrue, Result, inl, inr, sym, subst}
 use Rattle.std.proofs.lemmas.Result.{IfOk-weaker}
 use Rattle.land_select_joins.proofs.Joined.{Asks}

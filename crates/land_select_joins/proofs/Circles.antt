@@ -1,4 +1,4 @@
--- What is given to one of a circle is what a citizen sees; in other roles mandates give nothing to see.
+-- A citizen sees what its circle selects; for other roles mandates add nothing.
 use Rattle.std.proofs.Common.{◌≡◌, ◌↔◌, ℕ, ℤ, Bool, true, false, ◌&&◌, not, nat_eq, List, refl, sym, ◌∙◌}
 use Rattle.std.proofs.lemmas.Bool.{eqb-true, false≢true}
 use Rattle.std.proofs.lemmas.Map.Views.{Contains-from_any, list_any-from_Contains}
@@ -33,7 +33,8 @@ module _ (rules : SelectionsAreTheRules) (seen : SeenIsExactly) (together : Circ
   abbrev pub given : List Selection
   given = selections_of Citizen k
 
-  -- one of the circle is shown a number where it would be shown it without mandates, and there that is what it is given
+  -- a citizen sees a number if one of its circle would see it without mandates, which is what that one
+  -- selects
   abbrev is_shown : (number one : ℕ) → Bool
   is_shown number one = list_any (nat_eq number) (seen_of (without_mandates r) (citizen one) k)
 
@@ -45,7 +46,7 @@ module _ (rules : SelectionsAreTheRules) (seen : SeenIsExactly) (together : Circ
   circle_decides : (number : ℕ) → Decides (list_any (is_shown number) (circle_of r party)) ((one : ℕ) × Contains (circle_of r party) one × AnySelects given t h one number)
   circle_decides number = any_decides (is_shown number) (λ one. AnySelects given t h one number) (circle_of r party) (λ one among. shown_decides number one)
 
-  -- so what some of the circle is given, ascending and each number once, is the list of what the citizen sees
+  -- so the numbers of the circle, in increasing order and each once, are the list of what the citizen sees
   pub seen_by_circle : (callers listed : List ℕ) → ((number : ℕ) → Contains callers number ↔ Contains (circle_of r party) number) → AreAll listed (AnyGiven given t h callers) → IsStrictlyIncreasing listed
       → listed ≡ seen_of r (citizen party) k
   seen_by_circle callers listed are all rising =
@@ -61,7 +62,7 @@ module _ (rules : SelectionsAreTheRules) (seen : SeenIsExactly) (together : Circ
           let it = (circle_decides number).0 (sym (together r party k number).listed ∙ list_any-from_Contains nat_eq_equiv number _ among) in
           (all number).1 (given_by given t h number callers it.0 ((are it.0).1 it.1) it.2)
 
--- who asks in the role of a citizen is a citizen
+-- a caller in the role of a citizen is a citizen
 pub citizen_is : (party : ℕ) (role : Role) → is_role role Citizen ≡ true → ◌≡◌ {A = Caller} (citizen party) (record { party = party; role = role })
 citizen_is party Citizen is = refl
 citizen_is party Conveyancer is = absurd (false≢true is)
@@ -70,7 +71,7 @@ citizen_is party Bank is = absurd (false≢true is)
 citizen_is party CertifiedSurveyor is = absurd (false≢true is)
 citizen_is party StateAdministrator is = absurd (false≢true is)
 
--- where mandates give a caller more to see, it asks in the role of a citizen
+-- if mandates add to a caller's sight, its role is citizen
 pub is_of_citizen : (role : Role) (k : Kind) → (is_role role Citizen && not (sees_all role k)) ≡ true → is_role role Citizen ≡ true
 is_of_citizen Citizen k is = refl
 is_of_citizen Conveyancer k is = absurd (false≢true is)
@@ -79,7 +80,7 @@ is_of_citizen Bank k is = absurd (false≢true is)
 is_of_citizen CertifiedSurveyor k is = absurd (false≢true is)
 is_of_citizen StateAdministrator k is = absurd (false≢true is)
 
--- in another role, and of what is seen by all, a caller sees the same, whatever mandates stand
+-- in other roles, and for what all see, the sight does not depend on mandates
 pub seen_alike : (at : Register) (party : ℕ) (role : Role) (k : Kind) → (is_role role Citizen && not (sees_all role k)) ≡ false
     → seen_of (without_mandates at) (record { party = party; role = role }) k ≡ seen_of at (record { party = party; role = role }) k
 seen_alike at party Citizen kind.Party is = absurd (false≢true (sym is))

@@ -1,4 +1,4 @@
--- What lists contain.
+-- Membership in lists.
 use Rattle.std.proofs.Common.{◌≡◌, ◌⊎◌, inl, inr, ℕ, zero, suc, ◌<◌, Bool, ◌||◌, List, [], ◌∷◌, flat_map, length, map as map_list, refl, sym, subst, arith}
 use Rattle.std.proofs.lemmas.Bool.{false≢true}
 use Rattle.std.proofs.lemmas.Bool.Decides.{Decides-like, Decides-or}

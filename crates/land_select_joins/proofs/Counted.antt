@@ -1,4 +1,4 @@
--- The numbers that are read of rows.
+-- The numbers decoded from rows.
 use Rattle.std.proofs.Common.{◌≡◌, inl, inr, ℕ, pos, List, [], ◌∷◌, map, Ok, Err, IfErr, IfOk, Result, refl, sym, ap, ap₂, subst, ◌∙◌}
 use Rattle.std.specs.List.{AllByRecursion, Contains}
 use Rattle.land_select_joins.specs.Joins.Meaning.{AreNumberRows}
@@ -24,7 +24,7 @@ counted row = natural_in (column row 0)
 same_fine : (m n : ℕ) → ◌≡◌ {A = Result ℕ WireFault} (Ok m) (Ok n) → m ≡ n
 same_fine m n e = cc
 
--- the one number of a row is read
+-- the only number of a row is decoded
 one_is_read : (n : ℕ) → counted (Int (pos n) ∷ []) ≡ Ok n
 unfolding natural_in
 one_is_read n = refl
@@ -53,14 +53,14 @@ module _ (rows : List Row) (Wanted : ℕ → Type 0) (are : AreNumberRows rows W
           let it = has_mapped {Y = Result ℕ WireFault} (λ n. Ok n) numbers (Ok n) (subst (λ l. Has l (Ok n)) read fine) in
           contains_had numbers n (subst (Has numbers) (sym (same_fine n it.0 it.2)) it.1)
 
-  -- each of them can be read
+  -- each of them is readable
   readable : (some : List Row) → ((row : Row) → Has some row → Has rows row) → AllByRecursion (λ r. (x : ℕ) × (r ≡ Ok x)) (map counted some)
   readable [] sub = tt
   readable (row ∷ more) sub =
       let one = are.each row (sub row (inl refl)) in
       ((one.0, ap counted one.1 ∙ one_is_read one.0), readable more (λ r h. sub r (inr h)))
 
--- of rows that are wanted by what stands
+-- rows of numbers that the current versions select
 module _ (Wanted : History → ℕ → Type 0) (db : Trees) (rows : List Row) (are : OfHeld db (λ h. AreNumberRows rows (Wanted h))) where
   pub numbers_told : (r : Result (List ℕ) ReadFault) → IsRead counted rows r → IfOk r (λ numbers. OfHeld db (λ h. AreAll numbers (Wanted h)))
   numbers_told (Ok numbers) read = λ moments h held. all_numbers rows (Wanted h) (are moments h held) numbers (each_all counted rows numbers read)

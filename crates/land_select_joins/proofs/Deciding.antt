@@ -1,4 +1,4 @@
--- What a role sees of a kind without mandates is what its selections give.
+-- The sight of a role for a kind, without mandates, is what its selections return.
 use Rattle.std.proofs.Common.{◌≡◌, ◌⊎◌, inl, inr, ℕ, ℤ, Bool, true, false, cond, not, ◌&&◌, ◌||◌, nat_eq, List, refl, sym, ap, ap₂, subst, ◌∙◌}
 use Rattle.std.proofs.lemmas.Bool.{false≢true}
 use Rattle.std.proofs.lemmas.Bool.Decides.{Decides-and, Decides-at, Decides-eqb, Decides-like, Decides-or}
@@ -33,7 +33,7 @@ use Rattle.land_tables_history.specs.declared.history.History.{History}
 use Rattle.land_tables_history.specs.declared.naming.Naming.{Naming}
 use Rattle.land_tables_history.specs.declared.version.Version.{Version}
 
--- a role's rule and the last rule let pass what passes both
+-- a role's rule and the last rule together allow what passes both
 passes_both : (a b : Bool) (k : ℕ) → is_allowed (cond (not a) (Denied k) (cond (not b) (Denied 27) Allowed)) ≡ (a && b)
 passes_both true true k = refl
 passes_both true false k = refl
@@ -42,14 +42,14 @@ passes_both false b k = refl
 both_pass : {P : Type 0} (a b : Bool) (k : ℕ) → Decides (a && b) P → Decides (is_allowed (cond (not a) (Denied k) (cond (not b) (Denied 27) Allowed))) P
 both_pass a b k = Decides-at _ (a && b) (passes_both a b k)
 
--- one selection, or none at all
+-- one selection, or none
 one_decides : {P : Type 0} (b : Bool) → Decides b P → Decides b (P ⊎ ⊥)
 one_decides b = Decides-like b inl (λ it. elim it [ inl p ↦ p | inr none ↦ absurd none ])
 
 none_decides : Decides false ⊥
 none_decides = ((λ e. absurd (false≢true e)), (λ none. absurd none))
 
--- two selections of one shape
+-- two selections of one form
 module _ {X : Type 0} (A B Y : X → Type 0) where
   apart : (x : X) → A x ⊎ B x → Y x → ((x : X) × A x × Y x) ⊎ (((x : X) × B x × Y x) ⊎ ⊥)
   apart x (inl a) y = inl (x, a, y)
@@ -70,7 +70,7 @@ all_decides t versions m is n = one_decides _ (Decides-at _ (has m n) (passes (h
     passes false = refl
 
 module _ (r : Register) (t : ℤ) (h : History) (is : StandsAt t h r) (refers : Refers r) (p : ℕ) where
-  -- the register as it is, but that no mandates stand: there the circle of a citizen is the citizen alone
+  -- the same register without mandates: there the circle of a citizen is only the citizen
   abbrev pub single : Register
   single = without_mandates r
 
@@ -101,7 +101,7 @@ module _ (r : Register) (t : ℤ) (h : History) (is : StandsAt t h r) (refers : 
 
   -- ---- entries
 
-  -- what is told of the entries that stand
+  -- the visible entries among the current ones
   module _ (tells : RrrRecord → Bool) (P : Entry → Type 0) (stand : (e : Entry) → P e → Stands t h.rrrs e) (each : (e : Entry) → Stands t h.rrrs e → Decides (tells e.1) (P e)) where
     pub entries : (n : ℕ) → Decides (option_map_or tells (map.get r.rrrs n) false && has r.rrrs n) (EntryOf P n)
     entries n =
@@ -109,7 +109,7 @@ module _ (r : Register) (t : ℤ) (h : History) (is : StandsAt t h r) (refers : 
         (λ it. let stands = stand it.0 it.1 in ((it.0, (stands, it.1), it.2), (it.0, stands, it.2)))
         (Decides-and _ _ (at_decides t h.rrrs r.rrrs is.rrrs tells P each n) (has_decides t h.rrrs r.rrrs is.rrrs n))
 
-  -- the parties of the entries that are seen
+  -- the parties of visible entries
   pub parties : (seen : ℕ → Bool) (P : Entry → Type 0) → ((e : Entry) → P e → Stands t h.rrrs e) → ((n : ℕ) → Decides (seen n) (EntryOf P n)) → (q : ℕ)
       → Decides (some (λ n e. nat_eq e.party q && seen n) r.rrrs) (PartyOf P q)
   parties seen P stand each q =
@@ -130,7 +130,7 @@ module _ (r : Register) (t : ℤ) (h : History) (is : StandsAt t h r) (refers : 
   abbrev pub conveyancer : Caller
   conveyancer = record { party = p; role = Conveyancer }
 
-  -- ---- what a citizen is told
+  -- ---- a citizen
 
   abbrev pub ToHolder : Entry → Type 0
   ToHolder = ToldToHolder t h p
@@ -145,7 +145,7 @@ module _ (r : Register) (t : ℤ) (h : History) (is : StandsAt t h r) (refers : 
       told : (e : Entry) → Stands t h.rrrs e → Decides (is_told_to_circle single (circle_of single p) e.1) (ToHolder e)
       told e stands = Decides-at _ (is_told_to_holder r p e.1) (told_alone single refl p e.1) (told_to_holder_decides r t h is refers p e stands)
 
-  -- ---- what a bank is told
+  -- ---- a bank
 
   abbrev pub ToBank : Entry → Type 0
   ToBank = IsTold t h (Credits t h p) (λ held. IsToldToCreditor p)
@@ -163,7 +163,7 @@ module _ (r : Register) (t : ℤ) (h : History) (is : StandsAt t h r) (refers : 
   pub entries_of_bank : (n : ℕ) → Decides (is_rrr_in_sight r bank n) (EntryOf ToBank n)
   entries_of_bank n = both_pass _ (has r.rrrs n) 16 (entries (is_told_to_bank r bank) ToBank (λ e it. it.stands) bank_told n)
 
-  -- ---- what a conveyancer is told
+  -- ---- a conveyancer
 
   abbrev pub ToConveyancer : Entry → Type 0
   ToConveyancer = IsAwaited t h p
@@ -183,7 +183,7 @@ module _ (r : Register) (t : ℤ) (h : History) (is : StandsAt t h r) (refers : 
 
   -- ---- parties
 
-  -- itself, and the parties of what is in sight
+  -- itself, and the parties of visible objects
   itself_and : (in_sight : Bool) (P : Entry → Type 0) → ((e : Entry) → P e → Stands t h.rrrs e) → (n : ℕ) → Decides in_sight (PartyOf P n)
       → Decides ((nat_eq n p || in_sight) && has r.parties n) (selects selection.Itself t h p n ⊎ (PartyOf P n ⊎ ⊥))
   itself_and in_sight P stand n seen =
@@ -269,7 +269,7 @@ module _ (r : Register) (t : ℤ) (h : History) (is : StandsAt t h r) (refers : 
       named_held k (inl it) = (it.held, inl it.interest, it.interest.class, sym it.unit)
       named_held k (inr it) = (it.held, inr it.interest, it.interest.class, sym it.unit)
 
-  -- ---- all roles and kinds, where no mandates stand
+  -- ---- all roles and kinds, without mandates
 
   pub sight : (role : Role) (k : Kind) (n : ℕ) → Decides (sees single (record { party = p; role = role }) k n) (AnySelects (selections_of role k) t h p n)
   sight Citizen kind.Party n =

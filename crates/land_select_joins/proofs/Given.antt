@@ -1,4 +1,4 @@
--- The rows that the text of a selection answers are the numbers that the selection gives.
+-- The result rows of a selection's statement are the numbers of the selection.
 use Rattle.std.proofs.Common.{ℕ, ℤ, List, [], ◌∷◌}
 use Rattle.land_select_joins.proofs.Joined.{complete, from, known_in, numbered, sound}
 use Rattle.land_select_joins.proofs.JoinedByNobody.{asked_so}

@@ -1,4 +1,4 @@
--- A text that is a join of tables gives the numbers of the versions of which its terms say so, and no others.
+-- The statement of a join returns exactly the numbers of the versions for which its terms hold.
 use Rattle.std.proofs.Common.{◌≡◌, ◌↔◌, ℕ, ℤ, pos, false, List, [], ◌∷◌, ◌++◌, Bool, true, ◌&&◌, refl, sym, ap, subst, ◌∙◌, true≢false}
 use Rattle.std.specs.List.{list_all}
 use Rattle.std.proofs.lemmas.Bool.{and_parts}
@@ -36,9 +36,9 @@ joined : (ps : List Place) → is_inner (from ps) ≡ true
 joined [] = refl
 joined (p ∷ ps) = joined ps
 
--- ---- versions of these tables, in turn
+-- ---- versions of these tables, in order
 
--- some of which it holds
+-- a property holds of some of them
 abbrev pub Finds : History → List Place → (Env → Type 0) → Env → Type 0
 Finds h [] P s = P s
 Finds h (p ∷ ps) P s = (v : Version (What p)) × Has (versions p h) v × Finds h ps P (s ++ shape p v ∷ [])
@@ -76,7 +76,7 @@ module _ (db over : Trees) (stored : (p : Place) → over (tree p) ≡ db (tree 
       let more = filled P ps (s ++ shape q found.0 ∷ []) (env ++ it.0 ∷ []) (shapes_more s env (shape q found.0) it.0 shapes (is_shape (shape q found.0) it.0 it.2.0)) found.2 in
       (more.0, more.1, (it.0, subst (λ rows. Has rows it.0) (sym (stored q)) it.1, more.2), more.3, more.4)
 
--- ---- the number that is shown
+-- ---- the number of a result
 
 abbrev pub number_in : Value → ℕ
 number_in (Int (pos n)) = n
@@ -98,9 +98,9 @@ abbrev first_of : Row → Value
 first_of [] = Null
 first_of (v ∷ vs) = v
 
--- ---- texts
+-- ---- statements
 
--- a text is this query and nothing else
+-- a statement is exactly this query
 pub record Asks (schema : Schema) (text : List ℕ) (q : Query) : Type 0 where
   pub names : List (List ℕ)
   pub command : command_of (understood schema text) ≡ Select (record { lets = []; body = q }) names
@@ -110,7 +110,7 @@ pub record Asks (schema : Schema) (text : List ℕ) (q : Query) : Type 0 where
 abbrev pub start : ℕ → ℤ → Env
 start caller t = given caller t ∷ []
 
--- a text is a join of these tables with these terms that shows one number
+-- a statement is a join of these tables with these terms, and returns one number
 pub record IsJoin (text : List ℕ) (places : List Place) (filter : List Term) (shown : Term) : Type 0 where
   pub asks : (indexes : List Index) → Asks (land_with indexes) text (plainly (from places) filter (shown ∷ []))
   pub meant : (indexes : List Index) → command_in (understood (land_with indexes) text) ≡ Select (record { lets = []; body = plainly (from places) filter (shown ∷ []) }) (asks indexes).names
@@ -118,7 +118,7 @@ pub record IsJoin (text : List ℕ) (places : List Place) (filter : List Term) (
   pub simple : is_simple shown ≡ true
   pub known : (caller : ℕ) (t : ℤ) → ForAll places (λ s. (are_known filter s && is_whole (eval shown s)) ≡ true) (start caller t)
 
--- what rows say decides the terms, and one number is shown
+-- the contents of rows decide the terms, and the result is one number
 pub record IsKnown (places : List Place) (filter : List Term) (shown : Term) : Type 0 where
   pub simple : is_simple shown ≡ true
   pub known : (caller : ℕ) (t : ℤ) → ForAll places (λ s. (are_known filter s && is_whole (eval shown s)) ≡ true) (start caller t)
@@ -126,7 +126,7 @@ pub record IsKnown (places : List Place) (filter : List Term) (shown : Term) : T
 pub known_in : (text : List ℕ) (places : List Place) (filter : List Term) (shown : Term) → IsJoin text places filter shown → IsKnown places filter shown
 known_in text places filter shown is = record { simple = is.simple; known = is.known }
 
--- there are versions of which all the terms say so, and the number is theirs
+-- versions exist for which all the terms hold, and the number is theirs
 abbrev pub Says : (places : List Place) (filter : List Term) (shown : Term) → History → (caller : ℕ) → (t : ℤ) → (number : ℕ) → Type 0
 Says places filter shown h caller t number = Finds h places (λ s. SayAll filter s × (number_in (eval shown s) ≡ number)) (start caller t)
 
@@ -142,7 +142,7 @@ module _ (places : List Place) (filter : List Term) (shown : Term) where
     at_start : AreShapes (start caller t) (start caller t)
     at_start = (shape_itself (given caller t), tt)
 
-    -- what the row of a join shows
+    -- the result column of a joined row
     shows : (s e : Env) → Sure s → AreShapes s e → eval shown e ≡ Int (pos (number_in (eval shown s)))
     shows s e sure shapes =
         let it = and_parts (are_known filter s) (is_whole (eval shown s)) sure in

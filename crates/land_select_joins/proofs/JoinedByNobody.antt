@@ -1,4 +1,4 @@
--- Who has no number that an object can have is given what all are given, and nothing else.
+-- A number that no object can have returns only what all numbers return.
 use Rattle.std.proofs.Common.{◌≡◌, ◌↔◌, ℕ, ℤ, List, Bool, true, false, if◌then◌else◌, refl, sym, ap, ◌∙◌, true≢false}
 use Rattle.land_core.specs.Numbers.{is_number}
 use Rattle.land_core.specs.declared.mutation.MutationRecord.{MutationRecord}
@@ -28,7 +28,7 @@ module _ (db : Trees) (moments : List Moment) (h : History) (held : HoldsHistory
   lodger_within : (m : ℕ × MutationRecord) → Stands t h.mutations m → is_number m.1.lodger ≡ true
   lodger_within m stands = let v = version t h.mutations m stands in (row_of db moments h held mutations (of m v.since v.until) v.has).2.1.0
 
-  -- a caller that is somebody has such a number
+  -- a caller that is in a table has a number in range
   somebody : (n caller : ℕ) → n ≡ caller → is_number n ≡ true → is_number caller ≡ true
   somebody n caller same within = ap is_number (sym same) ∙ within
 
@@ -38,7 +38,7 @@ module _ (db : Trees) (moments : List Moment) (h : History) (held : HoldsHistory
   none : {X : Type 0} (caller : ℕ) → is_number caller ≡ false → is_number caller ≡ true → X
   none caller out within = absurd (true≢false (sym within ∙ out))
 
-  -- two callers that are nobody are given the same
+  -- two callers out of range get the same numbers
   alike : (s : Selection) (caller other : ℕ) → is_number caller ≡ false → selects s t h caller number → selects s t h other number
   alike (selection.All k) caller other out x = x
   alike selection.Itself caller other out x = none caller out (somebody x.0.0 caller x.2 (party_within x.0 x.1))
@@ -59,7 +59,7 @@ module _ (db : Trees) (moments : List Moment) (h : History) (held : HoldsHistory
   alike selection.LodgedEntries caller other out x = none caller out (lodged caller x.0.1.unit x.1.awaits)
   alike selection.LodgedParties caller other out x = none caller out (lodged caller x.0.1.unit x.1.awaits)
 
-  -- so a caller is given what that one is given for which it is asked
+  -- so a caller gets what its replacement gets
   pub asked_so : (s : Selection) (caller : ℕ) → selects s t h (asked_for caller) number ↔ selects s t h caller number
   asked_so s caller = go (is_number caller) refl
     where

@@ -1,4 +1,4 @@
--- Each text as a join of tables.
+-- Each statement as a join of tables.
 use Rattle.std.proofs.Common.{ℕ, suc, List, [], ◌∷◌, ◌++◌, codes, refl}
 use Rattle.land_core.specs.declared.kind.Kind.TheVariants as kind
 use Rattle.land_select_joins.proofs.Joined.{IsJoin}
@@ -32,18 +32,18 @@ moment = col 0 1
 abbrev pub a_right : ℕ → Term
 a_right slot = op2 Or (word (col slot 4) (codes "ownership")) (op2 Or (word (col slot 4) (codes "lease")) (word (col slot 4) (codes "usufruct")))
 
--- a mortgage is shown to who holds ownership
+-- a mortgage is visible to an owner
 abbrev pub is_shown : (held seen : ℕ) → Term
 is_shown held seen = op2 Or (not_word (col seen 4) (codes "mortgage")) (word (col held 4) (codes "ownership"))
 
--- a mortgage is shown to its creditor
+-- a mortgage is visible to its creditor
 abbrev pub is_own : (seen : ℕ) → Term
 is_own seen = op2 Or (not_word (col seen 4) (codes "mortgage")) (same (col seen 3) caller)
 
 abbrev pub a_mortgage : ℕ → Term
 a_mortgage slot = word (col slot 4) (codes "mortgage")
 
--- a version stands: its lifespan is in this column and the next
+-- a version is current: its lifespan is in this column and the next
 abbrev pub still : ℕ → ℕ → List Term
 still slot since = op2 (Compare Le Binary) (col slot since) moment ∷ op2 (Compare Lt Binary) moment (col slot (suc since)) ∷ []
 

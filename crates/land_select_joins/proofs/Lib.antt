@@ -1,4 +1,4 @@
--- Lemmas of what is selected from the tables.
+-- Lemmas of queries on the tables.
 pub mod Ascending
 pub mod Asked
 pub mod Chains

@@ -1,4 +1,5 @@
--- What a party lodged under a reference: its text as a query of one table, and the rows that it finds.
+-- The mutation that a party lodged with a reference: its statement as a query of one table, and the rows that
+-- it returns.
 use Rattle.std.proofs.Common.{◌≡◌, ◌&&◌, ℕ, ℤ, pos, List, [], ◌∷◌, codes, Ok, refl, ap, ◌∙◌}
 use Rattle.land_core.specs.Mutations.{is_lodged_as}
 use Rattle.land_core.specs.Texts.{is_reference}
@@ -12,7 +13,7 @@ use Rattle.land_select_joins.proofs.Records.{are_rows}
 use Rattle.land_select_joins.proofs.Shapes.{Fits}
 use Rattle.land_select_joins.proofs.Tested.{by_reference, decides_by}
 use Rattle.land_select_joins.specs.Joins.Running.{asked_for}
-use Rattle.land_select_joins.specs.Lookups.Finding.{AreRowsLodgedAs}
+use Rattle.land_select_joins.specs.Lookups.RecordRows.{AreRowsLodgedAs}
 use Rattle.land_select_joins.specs.declared.lookups.texts.TheConstants.{MUTATION_LODGED_AS}
 use Rattle.land_tables_history.specs.Standing.{stands}
 use Rattle.land_tables_history.specs.declared.version.Version.{Version}
@@ -37,18 +38,18 @@ use Rattle.sqlite_trees.specs.Tree.{Trees}
 use Rattle.sqlite_value.specs.Order.{Row, column}
 use Rattle.sqlite_value.specs.declared.value.Value.TheVariants.{Int, Null, Text}
 
--- the parameters: the lodger, the moment, the reference
+-- the parameters: the lodger, the time, the reference
 abbrev pub asked : (lodger : ℕ) → (t : ℤ) → (reference : List ℕ) → Row
 asked lodger t reference = Int (pos (asked_for lodger)) ∷ Int t ∷ Text reference ∷ []
 
--- the tests of WHERE: of the lodger, of the reference, and of the lifespan
+-- the tests of WHERE: the lodger, the reference and the lifespan
 abbrev pub filter : List Term
 filter = same (col 1 2) caller ∷ same (col 1 3) (col 0 2) ∷ still 1 9
 
 abbrev pub query : Query
 query = plainly mutations.table.tree filter (columns_of 1 1 10)
 
--- the text is that query and nothing else
+-- the statement is exactly this query
 pub asks : (indexes : List Index) → Asks (land_with indexes) MUTATION_LODGED_AS.now query
 unfolding understood everything
 asks indexes = record { names = codes "number" ∷ codes "lodger" ∷ codes "reference" ∷ codes "source" ∷ codes "lodged" ∷ codes "act" ∷ codes "content" ∷ codes "state" ∷ codes "since" ∷ codes "until" ∷ []; command = refl; unlisted = refl; plain = (refl, refl) }
@@ -79,13 +80,13 @@ module _ (r : Row) (v : Version (ℕ × MutationRecord)) (e : mutations.said (mu
       let it = (shows place.mutations r v e).0 in
       (it.0, (it.1.0, (it.1.1.0, (reference_is, it.1.1.1.1))))
 
-  -- a row that says a mutation passes where it stands and was lodged so
+  -- a row of a mutation passes if the mutation is current and was lodged so
   pub tests : (lodger : ℕ) (reference : List ℕ) (t : ℤ) → passes filter (asked lodger t reference) r ≡ (stands t v && is_lodged_as lodger reference v.what.1)
   tests lodger reference t =
       by_reference (passes filter (asked lodger t reference) r) v.what.1.lodger lodger v.what.1.reference reference t v.since v.until (shows place.mutations r v e).1.0
       (decides_by filter (asked lodger t reference) shape r fits refl)
 
--- what the text answers are the rows of what the party lodged under the reference
+-- the result of the statement has the rows of that mutation
 pub are_lodged_as : (lodger : ℕ) (reference : List ℕ) (t : ℤ) (db : Trees) (rows : List Row) → IsAnswer query (overlay db []) (asked lodger t reference) rows → AreRowsLodgedAs lodger reference t db rows
 are_lodged_as lodger reference t db rows answer =
     are_rows mutations filter (columns_of 1 1 10) (asked lodger t reference) (λ mutation. is_lodged_as lodger reference mutation.1) t db refl (λ r. refl) (λ r v e. tests r v e lodger reference t) rows answer

@@ -1,4 +1,4 @@
--- The members and the namings that stand at a moment are those of the register's groups and mutations.
+-- The current rows of members and references are those of the register's groups and mutations.
 use Rattle.std.proofs.Common.{◌≡◌, ℕ, ℤ, Bool, true, false, ◌||◌, map as map_list, Option, Some, None, is_some, refl, sym, ap, subst, ◌∙◌}
 use Rattle.std.proofs.lemmas.Bool.{false≢true}
 use Rattle.std.proofs.lemmas.Bool.Decides.{Decides-at, Decides-like}
@@ -27,11 +27,11 @@ use Rattle.land_tables_history.specs.declared.group_member.GroupMember.{GroupMem
 use Rattle.land_tables_history.specs.declared.history.History.{History}
 use Rattle.land_tables_history.specs.declared.naming.Naming.{Naming}
 
--- a member of a group stands
+-- a current member of a group
 abbrev pub Joins : (t : ℤ) → History → (group party : ℕ) → Type 0
 Joins t h group party = (joined : GroupMember) × Stands t h.members joined × (joined.group ≡ group) × (joined.member.party ≡ party)
 
--- a mutation names a unit that passes a test
+-- a mutation refers to a unit that passes a test
 abbrev pub Names : (t : ℤ) → History → ℕ × MutationRecord → (ℕ → Type 0) → Type 0
 Names t h e P = (n : Naming) × (Stands t h.namings n × (n.mutation ≡ e.0)) × P n.unit
 
@@ -45,7 +45,7 @@ alone : (b : Bool) → b ≡ (b || false)
 alone true = refl
 alone false = refl
 
--- a test of the units that a content names
+-- a test of the units to which a content refers
 any_named : (passes : ℕ → Bool) (c : Content) → names_where passes c ≡ list_any passes (named_units c)
 any_named passes (content.Transfer it) = alone (passes it.unit)
 any_named passes (content.Subdivision it) = alone (passes it.unit)
@@ -54,7 +54,7 @@ any_named passes (content.Mortgage it) = alone (passes it.unit)
 any_named passes (content.Discharge it) = alone (passes it.unit)
 
 module _ (r : Register) (t : ℤ) (h : History) (is : StandsAt t h r) where
-  -- a group's member in the register
+  -- the member of a group in the register
   joined_from : (group party : ℕ) → is_member r group party ≡ true → Joins t h group party
   joined_from group party has_it = found (map.get r.members group) refl has_it
     where
@@ -72,7 +72,7 @@ module _ (r : Register) (t : ℤ) (h : History) (is : StandsAt t h r) where
       found None at has_it = absurd (false≢true has_it)
       found (Some members) at has_it = inside members at (map.get members party) refl has_it
 
-  -- and back
+  -- and the converse
   is_shown : (group : ℕ) (members : Members) → map.get r.members group ≡ Some members → (shown : Member) → Contains (members_in members) shown → is_member r group shown.party ≡ true
   is_shown group members at shown among =
       let entry = from_map (λ e. member_of e.0 e.1) (map.entries members) shown among in
@@ -93,7 +93,7 @@ module _ (r : Register) (t : ℤ) (h : History) (is : StandsAt t h r) where
     (λ j. subst (λ n. is_member r group n ≡ true) j.3 (subst (λ g. is_member r g j.0.member.party ≡ true) j.2 (is_joined j.0 j.1))),
   )
 
-  -- a mutation that stands, and the naming of one of its units
+  -- a current mutation, and the reference to one of its units
   pub naming_stands : (e : ℕ × MutationRecord) → Stands t h.mutations e → (unit : ℕ) → Contains (named_units e.1.content) unit → Stands t h.namings (naming_of e.0 unit)
   naming_stands e stands unit named =
       let all : Contains (namings_of r.mutations) (naming_of e.0 unit) =
@@ -101,7 +101,7 @@ module _ (r : Register) (t : ℤ) (h : History) (is : StandsAt t h r) where
       (listed t h.mutations r.mutations is.mutations e stands) (to_map (naming_of e.0) (named_units e.1.content) unit named) in
       Contains-permutation (namings_of r.mutations) (standing t h.namings) (naming_of e.0 unit) (IsPermutation-sym (standing t h.namings) (namings_of r.mutations) is.namings) all
 
-  -- a naming that stands is of a mutation that stands
+  -- a current reference has a current mutation
   pub named_by : (n : Naming) → Stands t h.namings n → (e : ℕ × MutationRecord) × Stands t h.mutations e × (n.mutation ≡ e.0) × Contains (named_units e.1.content) n.unit
   named_by n stands =
       let all = Contains-permutation (standing t h.namings) (namings_of r.mutations) n is.namings stands in

@@ -1,4 +1,4 @@
--- Who is not named is given what anybody else is given.
+-- A number that is not in use returns only what each other number returns.
 use Rattle.std.proofs.Common.{◌≡◌, ◌⊎◌, inl, inr, ℕ, ℤ, [], ◌∷◌, Some, refl, subst}
 use Rattle.std.specs.FinMap as map
 use Rattle.land_core.specs.Laws.{SoundnessByLookUps}
@@ -27,7 +27,7 @@ module _ (t : ℤ) (h : History) (p : ℕ) where
   awaits : (unit : ℕ) → Awaits t h p unit → IsNamedAt t h p
   awaits unit it = inr (inr (inr (it.mutation, it.mutation_stands, it.lodger)))
 
-  -- what is given is given to anybody, or to a party that is named
+  -- a selected number is selected for all, or for a party in use
   given : (s : Selection) (n : ℕ) → selects s t h p n → ((other : ℕ) → selects s t h other n) ⊎ IsNamedAt t h p
   given (selection.All k) n it = inl (λ other. it)
   given selection.Itself n it = inr (inl (it.0, it.1, it.2))
@@ -53,7 +53,7 @@ unnamed_alike t h p unnamed [] other n it = it
 unnamed_alike t h p unnamed (s ∷ ss) other n (inl it) = elim (given t h p s n it) [ inl all ↦ inl (all other) | inr named ↦ absurd (unnamed named) ]
 unnamed_alike t h p unnamed (s ∷ ss) other n (inr more) = inr (unnamed_alike t h p unnamed ss other n more)
 
--- who is named stands
+-- a number in use exists as a party
 named_stands : (r : Register) (t : ℤ) (h : History) → StandsAt t h r → Refers r → (p : ℕ) → IsNamedAt t h p → StandsUnder t h.parties p
 named_stands r t h is refers p (inl it) = it
 named_stands r t h is refers p (inr (inl it)) = member_stands r t h is refers p it.0.group p (it.0, it.1, refl, it.2)

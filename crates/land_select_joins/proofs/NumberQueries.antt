@@ -1,4 +1,4 @@
--- The text of each look-up of numbers as a join of tables, and what it gives.
+-- The statement of each lookup of one column as a join of tables, and its results.
 use Rattle.std.proofs.Common.{◌≡◌, ◌↔◌, ℕ, ℤ, List, [], ◌∷◌, ◌++◌, codes, Bool, true, false, if◌then◌else◌, refl, sym, ap, ◌∙◌, true≢false}
 use Rattle.land_core.specs.Numbers.{is_number}
 use Rattle.land_select_joins.proofs.Joined.{IsJoin, Says, complete, from, known_in, numbered, sound}
@@ -12,7 +12,7 @@ use Rattle.land_select_joins.specs.Joins.Running.{asked_for}
 use Rattle.land_select_joins.specs.Lookups.Numbers.{AreRowsToldBy, tells}
 use Rattle.land_select_joins.specs.Lookups.Texts.{number_text_of}
 use Rattle.land_select_joins.specs.declared.lookups.number_look_up.NumberLookUp.{NumberLookUp}
-use Rattle.land_select_joins.specs.declared.lookups.number_look_up.NumberLookUp.TheVariants as look_up
+use Rattle.land_select_joins.specs.declared.lookups.number_look_up.NumberLookUp.TheVariants as record_lookup
 use Rattle.land_tables_history.specs.declared.history.History.{History}
 use Rattle.land_tables_history.specs.declared.moment.Moment.{Moment}
 use Rattle.land_tables_rows.specs.Writing.History.{HoldsHistory}
@@ -26,28 +26,28 @@ use Rattle.sqlite_value.specs.Order.{Row}
 
 -- ---- joins
 
--- the tables that are read
+-- the tables
 abbrev pub places_of : NumberLookUp → List Place
-places_of look_up.Party = parties ∷ []
-places_of look_up.Unit = units ∷ []
-places_of look_up.LodgerOfMutation = mutations ∷ []
-places_of look_up.LodgersOnUnit = names ∷ mutations ∷ []
+places_of record_lookup.Party = parties ∷ []
+places_of record_lookup.Unit = units ∷ []
+places_of record_lookup.LodgerOfMutation = mutations ∷ []
+places_of record_lookup.LodgersOnUnit = names ∷ mutations ∷ []
 
--- the tests: of ON, of the number that is given, of the state, and of the lifespans
+-- the tests: ON, the given number, the state and the lifespans
 abbrev pub filter_of : NumberLookUp → List Term
-filter_of look_up.Party = known.itself
-filter_of look_up.Unit = same (col 1 1) caller ∷ still 1 4
-filter_of look_up.LodgerOfMutation = same (col 1 1) caller ∷ still 1 9
-filter_of look_up.LodgersOnUnit = same (col 2 1) (col 1 1) ∷ same (col 1 2) caller ∷ word (col 2 8) (codes "lodged") ∷ still 1 3 ++ still 2 9
+filter_of record_lookup.Party = known.itself
+filter_of record_lookup.Unit = same (col 1 1) caller ∷ still 1 4
+filter_of record_lookup.LodgerOfMutation = same (col 1 1) caller ∷ still 1 9
+filter_of record_lookup.LodgersOnUnit = same (col 2 1) (col 1 1) ∷ same (col 1 2) caller ∷ word (col 2 8) (codes "lodged") ∷ still 1 3 ++ still 2 9
 
--- the column that is shown
+-- the column of the result
 abbrev pub shown_of : NumberLookUp → Term
-shown_of look_up.Party = col 1 1
-shown_of look_up.Unit = col 1 1
-shown_of look_up.LodgerOfMutation = col 1 2
-shown_of look_up.LodgersOnUnit = col 2 2
+shown_of record_lookup.Party = col 1 1
+shown_of record_lookup.Unit = col 1 1
+shown_of record_lookup.LodgerOfMutation = col 1 2
+shown_of record_lookup.LodgersOnUnit = col 2 2
 
-unit_join : IsJoin (number_text_of look_up.Unit) (units ∷ []) (filter_of look_up.Unit) (col 1 1)
+unit_join : IsJoin (number_text_of record_lookup.Unit) (units ∷ []) (filter_of record_lookup.Unit) (col 1 1)
 unfolding understood everything
 unit_join = record {
   asks = λ indexes. record { names = codes "number" ∷ []; command = refl; unlisted = refl; plain = (refl, refl) };
@@ -57,7 +57,7 @@ unit_join = record {
   known = λ caller t v. refl;
 }
 
-lodger_join : IsJoin (number_text_of look_up.LodgerOfMutation) (mutations ∷ []) (filter_of look_up.LodgerOfMutation) (col 1 2)
+lodger_join : IsJoin (number_text_of record_lookup.LodgerOfMutation) (mutations ∷ []) (filter_of record_lookup.LodgerOfMutation) (col 1 2)
 unfolding understood everything
 lodger_join = record {
   asks = λ indexes. record { names = codes "lodger" ∷ []; command = refl; unlisted = refl; plain = (refl, refl) };
@@ -67,7 +67,7 @@ lodger_join = record {
   known = λ caller t v. refl;
 }
 
-lodgers_join : IsJoin (number_text_of look_up.LodgersOnUnit) (names ∷ mutations ∷ []) (filter_of look_up.LodgersOnUnit) (col 2 2)
+lodgers_join : IsJoin (number_text_of record_lookup.LodgersOnUnit) (names ∷ mutations ∷ []) (filter_of record_lookup.LodgersOnUnit) (col 2 2)
 unfolding understood everything
 lodgers_join = record {
   asks = λ indexes. record { names = codes "lodger" ∷ []; command = refl; unlisted = refl; plain = (refl, refl) };
@@ -78,33 +78,33 @@ lodgers_join = record {
 }
 
 pub join_of : (l : NumberLookUp) → IsJoin (number_text_of l) (places_of l) (filter_of l) (shown_of l)
-join_of look_up.Party = known.itself_join
-join_of look_up.Unit = unit_join
-join_of look_up.LodgerOfMutation = lodger_join
-join_of look_up.LodgersOnUnit = lodgers_join
+join_of record_lookup.Party = known.itself_join
+join_of record_lookup.Unit = unit_join
+join_of record_lookup.LodgerOfMutation = lodger_join
+join_of record_lookup.LodgersOnUnit = lodgers_join
 
--- ---- what the terms of a text say is what its look-up tells
+-- ---- the terms of a statement select what its lookup returns
 
 module _ (h : History) (number : ℕ) (t : ℤ) (told : ℕ) where
-  a_party : Says (parties ∷ []) known.itself (col 1 1) h number t told ↔ tells look_up.Party t h number told
+  a_party : Says (parties ∷ []) known.itself (col 1 1) h number t told ↔ tells record_lookup.Party t h number told
   a_party = (
     (λ g. (g.0.what, stood t h.parties g.0 g.1 g.2.0.1.0 g.2.0.1.1.0, g.2.0.0, g.2.1)),
     (λ s. let v = version t h.parties s.0 s.1 in (of s.0 v.since v.until, v.has, ((s.2, (v.begun, (v.going, tt))), s.3))),
   )
 
-  a_unit : Says (units ∷ []) (filter_of look_up.Unit) (col 1 1) h number t told ↔ tells look_up.Unit t h number told
+  a_unit : Says (units ∷ []) (filter_of record_lookup.Unit) (col 1 1) h number t told ↔ tells record_lookup.Unit t h number told
   a_unit = (
     (λ g. (g.0.what, stood t h.units g.0 g.1 g.2.0.1.0 g.2.0.1.1.0, g.2.0.0, g.2.1)),
     (λ s. let v = version t h.units s.0 s.1 in (of s.0 v.since v.until, v.has, ((s.2, (v.begun, (v.going, tt))), s.3))),
   )
 
-  a_lodger : Says (mutations ∷ []) (filter_of look_up.LodgerOfMutation) (col 1 2) h number t told ↔ tells look_up.LodgerOfMutation t h number told
+  a_lodger : Says (mutations ∷ []) (filter_of record_lookup.LodgerOfMutation) (col 1 2) h number t told ↔ tells record_lookup.LodgerOfMutation t h number told
   a_lodger = (
     (λ g. (g.0.what, stood t h.mutations g.0 g.1 g.2.0.1.0 g.2.0.1.1.0, g.2.0.0, g.2.1)),
     (λ s. let v = version t h.mutations s.0 s.1 in (of s.0 v.since v.until, v.has, ((s.2, (v.begun, (v.going, tt))), s.3))),
   )
 
-  lodgers : Says (names ∷ mutations ∷ []) (filter_of look_up.LodgersOnUnit) (col 2 2) h number t told ↔ tells look_up.LodgersOnUnit t h number told
+  lodgers : Says (names ∷ mutations ∷ []) (filter_of record_lookup.LodgersOnUnit) (col 2 2) h number t told ↔ tells record_lookup.LodgersOnUnit t h number told
   lodgers = (
     (λ g. let n = g.0 in let m = g.2.0 in let say = g.2.2.0 in record {
       mutation = m.what;
@@ -128,10 +128,10 @@ module _ (h : History) (number : ℕ) (t : ℤ) (told : ℕ) where
   )
 
 pub told_by : (l : NumberLookUp) (h : History) (number : ℕ) (t : ℤ) (told : ℕ) → Says (places_of l) (filter_of l) (shown_of l) h number t told ↔ tells l t h number told
-told_by look_up.Party = a_party
-told_by look_up.Unit = a_unit
-told_by look_up.LodgerOfMutation = a_lodger
-told_by look_up.LodgersOnUnit = lodgers
+told_by record_lookup.Party = a_party
+told_by record_lookup.Unit = a_unit
+told_by record_lookup.LodgerOfMutation = a_lodger
+told_by record_lookup.LodgersOnUnit = lodgers
 
 -- ---- a number that no object can have
 
@@ -142,17 +142,17 @@ module _ (db : Trees) (moments : List Moment) (h : History) (held : HoldsHistory
   moved : (one number : ℕ) → one ≡ number → is_number one ≡ true → is_number number ≡ true
   moved one number same is = ap is_number (sym same) ∙ is
 
-  -- something is told by a number that an object can have, and by no other
+  -- a lookup returns a number only for a given one that is in range
   number_within : (l : NumberLookUp) (number told : ℕ) → tells l t h number told → is_number number ≡ true
-  number_within look_up.Party number told x = moved x.0.0 number x.2 (within parties x.0 (version t h.parties x.0 x.1))
-  number_within look_up.Unit number told x = moved x.0.0 number x.2 (within units x.0 (version t h.units x.0 x.1))
-  number_within look_up.LodgerOfMutation number told x = moved x.0.0 number x.2 (within mutations x.0 (version t h.mutations x.0 x.1)).1
-  number_within look_up.LodgersOnUnit number told x = moved x.naming.unit number x.named (within names x.naming (version t h.namings x.naming x.naming_stands)).1
+  number_within record_lookup.Party number told x = moved x.0.0 number x.2 (within parties x.0 (version t h.parties x.0 x.1))
+  number_within record_lookup.Unit number told x = moved x.0.0 number x.2 (within units x.0 (version t h.units x.0 x.1))
+  number_within record_lookup.LodgerOfMutation number told x = moved x.0.0 number x.2 (within mutations x.0 (version t h.mutations x.0 x.1)).1
+  number_within record_lookup.LodgersOnUnit number told x = moved x.naming.unit number x.named (within names x.naming (version t h.namings x.naming x.naming_stands)).1
 
   none : (number : ℕ) → is_number number ≡ false → is_number number ≡ true → ⊥
   none number out is = true≢false (sym is ∙ out)
 
-  -- so what is told by a number is told by the one that is asked for in its place
+  -- so a lookup returns the same for the replacement of a number
   asked_so : (l : NumberLookUp) (number told : ℕ) → tells l t h (asked_for number) told ↔ tells l t h number told
   asked_so l number told = go (is_number number) refl
     where
@@ -160,12 +160,12 @@ module _ (db : Trees) (moments : List Moment) (h : History) (held : HoldsHistory
       go true is = ((λ x. x), (λ x. x))
       go false is = ((λ x. absurd (none 0 refl (number_within l 0 told x))), (λ x. absurd (none number is (number_within l number told x))))
 
--- ---- answers
+-- ---- results
 
 abbrev pub query_of : NumberLookUp → Query
 query_of l = plainly (from (places_of l)) (filter_of l) (shown_of l ∷ [])
 
--- what the text of a look-up answers are the rows that it finds
+-- the result of a lookup's statement has the rows of the lookup
 pub are_rows_of : (l : NumberLookUp) (number : ℕ) (t : ℤ) (db : Trees) (rows : List Row) → IsAnswer (query_of l) (overlay db []) (given (asked_for number) t) rows → AreRowsToldBy l number t db rows
 are_rows_of l number t db rows a moments h held =
     let asked = asked_for number in

@@ -1,4 +1,4 @@
--- What is found of a table is the part of the register's records, roles or groups that is meant.
+-- The decoded rows of a table are the matching part of the register's records, roles or groups.
 use Rattle.std.proofs.Common.{◌≡◌, ℕ, ℤ, Bool, true, false, ◌&&◌, ◌++◌, cond, List, [], ◌∷◌, filter, flat_map, map, refl, sym, ap, subst, ◌∙◌, IsPermutation}
 use Rattle.std.proofs.lemmas.List.Sorted.{IsPermutation-map, IsPermutation-trans}
 use Rattle.std.specs.Cmp.{nat_cmp_total}
@@ -30,7 +30,7 @@ module _ {X : Type 0} (t : ℤ) (meant : X → Bool) where
   abbrev whats : List (Version X) → List X
   whats vs = map (λ (v : Version X). v.what) vs
 
-  -- of what is found all stands
+  -- all decoded versions are current
   kept_twice : (versions : List (Version X)) → standing t (filter test versions) ≡ filter meant (standing t versions)
   kept_twice [] = refl
   kept_twice (v ∷ vs) = go (stands t v) (meant v.what) refl refl (kept_twice vs)
@@ -43,7 +43,7 @@ module _ {X : Type 0} (t : ℤ) (meant : X → Bool) where
       go true false is says rest = rest ∙ sym (ap (λ b. cond b (v.what ∷ filter meant (standing t vs)) (filter meant (standing t vs))) says)
       go false b is says rest = rest
 
-  -- where what stands is something, what stands of what is found is that which is meant
+  -- if the current versions represent a part, the decoded ones represent its matching part
   pub stand_of : (versions : List (Version X)) (items : List X) → IsPermutation (standing t versions) items
       → (found : List (Version X)) → IsPermutation found (filter (λ v. stands t v && meant v.what) versions) → IsPermutation (standing t found) (filter meant items)
   stand_of versions items part found are =
@@ -138,7 +138,7 @@ module _ (q : ℕ → Bool) where
       groups_kept (finite.entries groups) ∙ ap (flat_map listed) (sym (entries-only nat_cmp_total nat_cmp-IsAntisymmetric (λ n members. q n) groups)) in
       subst (IsPermutation (standing t found)) all (stand_of t joins versions (group_members groups) part found are)
 
-  -- groups that are kept have their members
+  -- the groups of a filtered map have their members
   pub still_have : (groups : FinMap nat_cmp Members) → HaveMembers groups → HaveMembers (only (λ n members. q n) groups)
   still_have groups have group is =
       let there = entry_found (only (λ n members. q n) groups) group finite.empty is in

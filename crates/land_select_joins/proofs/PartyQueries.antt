@@ -1,4 +1,4 @@
--- The texts of the parties of some entries as joins of two tables, and what their rows say.
+-- The statements for the parties of entries, as joins of two tables, and the contents of their rows.
 use Rattle.std.proofs.Common.{◌≡◌, ◌↔◌, ℕ, ℤ, List, [], ◌∷◌, ◌++◌, codes, map as map_list, nat_eq, int_le, int_lt, Bool, true, ◌&&◌, Ok, Err, IfErr, IfOk, Some, Result, inl, inr, refl, sym, ap, subst, ◌∙◌}
 use Rattle.std.proofs.lemmas.Bool.Decides.{Decides-and, Decides-eqb, Decides-like}
 use Rattle.std.specs.Bool.{Decides}
@@ -59,12 +59,12 @@ query_of filter = plainly (from tables) filter (columns_of 2 1 5)
 
 -- ---- rows
 
--- versions of an entry and of its party that stand, where the entry is meant
+-- the pairs of current versions of a matching entry and its party
 abbrev IsPair : (t : ℤ) → (ℕ → RrrRecord → Bool) → Version Entry → PartyVersion → Type 0
 IsPair t meant e p =
     (p.what.0 ≡ e.what.1.party) × ((meant e.what.0 e.what.1 ≡ true) × ((int_le e.since t ≡ true) × ((int_lt t e.until ≡ true) × ((int_le p.since t ≡ true) × ((int_lt t p.until ≡ true) × Unit {0})))))
 
--- rows of an entry and of a party pass where the versions that they say are such a pair
+-- rows of an entry and a party pass if their versions are such a pair
 abbrev Pairs : (t : ℤ) → (ℕ → RrrRecord → Bool) → List Term → (params : Row) → Type 0
 Pairs t meant filter params =
     (e : Version Entry) (p : PartyVersion) (one other : Row) → place.IsOf place.rrrs e one → place.IsOf place.parties p other
@@ -116,7 +116,7 @@ unit_filter = same (col 2 1) (col 1 3) ∷ same (col 1 2) caller ∷ still 1 12 
 abbrev pub unit_query : Query
 unit_query = query_of unit_filter
 
--- the text is that query and nothing else
+-- the statement is exactly this query
 pub asks_unit : (indexes : List Index) → Asks (land_with indexes) PARTIES_OF_UNIT.now unit_query
 unfolding understood everything
 asks_unit indexes = record { names = codes "number" ∷ codes "name" ∷ codes "kind" ∷ codes "since" ∷ codes "until" ∷ []; command = refl; unlisted = refl; plain = (refl, refl) }
@@ -134,7 +134,7 @@ are_unit_rows unit t db rows a moments h held =
     let params = given (asked_for unit) t in
     record { each = said_so t (of_unit unit) unit_filter params (unit_pairs unit t) db moments h held rows a; all = is_said t (of_unit unit) unit_filter params (unit_pairs unit t) db moments h held rows a }
 
--- ---- the entries of a range
+-- ---- the entries in a range
 
 abbrev range_filter : List Term
 range_filter = same (col 2 1) (col 1 3) ∷ ranged 1 (still 1 12 ++ still 2 4)
@@ -142,7 +142,7 @@ range_filter = same (col 2 1) (col 1 3) ∷ ranged 1 (still 1 12 ++ still 2 4)
 abbrev pub range_query : Query
 range_query = query_of range_filter
 
--- the text is that query and nothing else
+-- the statement is exactly this query
 pub asks_range : (indexes : List Index) → Asks (land_with indexes) PARTIES_OF_ENTRIES.now range_query
 unfolding understood everything
 asks_range indexes = record { names = codes "number" ∷ codes "name" ∷ codes "kind" ∷ codes "since" ∷ codes "until" ∷ []; command = refl; unlisted = refl; plain = (refl, refl) }
@@ -161,7 +161,7 @@ are_range_rows first last t db rows a moments h held =
     let pairs = range_pairs first last t in
     record { each = said_so t (of_range first last) range_filter params pairs db moments h held rows a; all = is_said t (of_range first last) range_filter params pairs db moments h held rows a }
 
--- ---- what is read of them
+-- ---- decoded rows
 
 same_fine : (v w : PartyVersion) → ◌≡◌ {A = Result PartyVersion WireFault} (Ok v) (Ok w) → v ≡ w
 same_fine v w e = cc
@@ -194,7 +194,7 @@ module _ (rows : List Row) (Wanted : ℕ × PartyRecord → Type 0) (say : SayPa
   readable [] sub = tt
   readable (row ∷ more) sub = let one = say.each row (sub row (inl refl)) in ((one.0, one.1), readable more (λ r has. sub r (inr has)))
 
--- a party that has an entry that is meant, by what stands
+-- a party with a matching entry, by the current versions
 entry_decides : (r : Register) (t : ℤ) (h : History) → StandsAt t h r → (meant : ℕ → RrrRecord → Bool) (party : ℕ)
     → Decides (has_entry_among r meant party) ((e : Entry) × Stands t h.rrrs e × ((meant e.0 e.1 ≡ true) × (e.1.party ≡ party)))
 entry_decides r t h is meant party =

@@ -1,4 +1,4 @@
--- What rows say that pass a test, where the test can be told by what each of them says.
+-- The contents of the rows that pass a test which the content of each row decides.
 use Rattle.std.proofs.Common.{◌≡◌, Bool, true, false, cond, List, [], ◌∷◌, filter, map, Ok, Err, Result, refl, sym, ap, ap₂, subst₂, ◌∙◌, IsPermutation}
 use Rattle.std.proofs.lemmas.List.Sorted.{IsPermutation-sym}
 use Rattle.std.specs.List.{AllByRecursion}
@@ -13,7 +13,7 @@ module _ {X : Type 0} where
   abbrev pub fine : X → Result X WireFault
   fine x = Ok x
 
-  -- something is said
+  -- a row has a content
   abbrev pub IsSaid : Result X WireFault → Type 0
   IsSaid s = (x : X) × (s ≡ Ok x)
 
@@ -21,19 +21,19 @@ module _ {X : Type 0} where
   all_said [] = tt
   all_said (x ∷ xs) = ((x, refl), all_said xs)
 
-  -- rows of which each says something say all that
+  -- rows that each have a content have all of it
   pub each_from : (said : Row → Result X WireFault) (rows : List Row) → AllByRecursion IsSaid (map said rows) → (xs : List X) × (each_of said rows ≡ Ok xs)
   each_from said [] all = ([], refl)
   each_from said (row ∷ rows) all =
       let rest = each_from said rows all.1 in
       (all.0.0 ∷ rest.0, ap₂ (λ a b. a >>= λ first. b >>= λ rest. Ok (first ∷ rest)) all.0.1 rest.1)
 
-  -- so they do where in some order they say a list
+  -- so they do if a permutation of them has the contents of a list
   pub some_said : (said : Row → Result X WireFault) (rows : List Row) (xs : List X) → IsPermutation (map said rows) (map fine xs) → (ys : List X) × (each_of said rows ≡ Ok ys)
   some_said said rows xs say = each_from said rows (all-permutation IsSaid (map fine xs) (map said rows) (IsPermutation-sym (map said rows) (map fine xs) say) (all_said xs))
 
 module _ {X : Type 0} (f : Row → Result X WireFault) (p : Row → Bool) (q : X → Bool) (tests : (r : Row) (x : X) → f r ≡ Ok x → p r ≡ q x) where
-  -- the test of what is said
+  -- the test of the contents
   of_said : Result X WireFault → Bool
   of_said (Ok x) = q x
   of_said (Err fault) = false
@@ -58,7 +58,7 @@ module _ {X : Type 0} (f : Row → Result X WireFault) (p : Row → Bool) (q : X
       go true rest = ap (λ l. fine x ∷ l) rest
       go false rest = rest
 
-  -- the rows that pass say what passes of that which all rows say
+  -- the rows that pass have the contents that pass
   pub passing_said : (rows : List Row) (xs : List X) → IsPermutation (map f rows) (map fine xs) → IsPermutation (map f (filter p rows)) (map fine (filter q xs))
   passing_said rows xs say =
       let all = all-permutation IsSaid (map fine xs) (map f rows) (IsPermutation-sym (map f rows) (map fine xs) say) (all_said xs) in

@@ -1,4 +1,4 @@
--- A party is shown by its own record, its roles and its members alone.
+-- The object of a party needs only its record, its roles and its members.
 use Rattle.std.proofs.Common.{◌≡◌, ℕ, Bool, nat_eq, cond, is_some, List, [], ◌∷◌, filter, None, Some, refl, ap, ap₂, ◌∙◌}
 use Rattle.std.specs.Cmp.{nat_cmp_total, tied_itself}
 use Rattle.std.specs.FinMap as map
@@ -32,12 +32,12 @@ module _ (r : Register) (n : ℕ) where
       (λ role. ap (λ g. has_grant g (grant_of n role)) are_roles ∙ ap is_some (get-only grants_total exact_grants (λ grant u. nat_eq grant.party n) r.roles (grant_of n role) (λ v. nat_eq_equiv.refl n))) all_roles in
       ap₂ (λ ms held. option_map object.Party (option_map (λ p. record { number = n; kind = p.kind; name = p.name; members = option_map_or members_in ms []; roles = held }) (map.get (map.insert (map.empty {R = nat_cmp}) n found) n))) group held
 
-  -- a party that stands is shown as it is
+  -- the object of an existing party
   pub as_it_stands : (found : PartyRecord) → Some found ≡ map.get r.parties n → object_at (record r { parties = map.insert map.empty n found }) kinds.Party n ≡ object_at r kinds.Party n
   as_it_stands found is =
       let got : map.get (map.insert (map.empty {R = nat_cmp}) n found) n ≡ map.get r.parties n = map.get-insert nat_cmp_total map.empty n found n ∙ ap (λ b. cond b (Some found) (map.get (map.empty {R = nat_cmp}) n)) (ap is_eq (tied_itself nat_cmp_total n)) ∙ is in
       ap (λ o. option_map object.Party (option_map (λ p. record { number = n; kind = p.kind; name = p.name; members = option_map_or members_in (map.get r.members n) []; roles = filter (λ role. has_grant r.roles (grant_of n role)) all_roles }) o)) got
 
-  -- where none stands, none is shown
+  -- a party that does not exist has no object
   pub nobody_there : None ≡ map.get r.parties n → None ≡ object_at r kinds.Party n
   nobody_there is = ap (λ o. option_map object.Party (option_map (λ p. record { number = n; kind = p.kind; name = p.name; members = option_map_or members_in (map.get r.members n) []; roles = filter (λ role. has_grant r.roles (grant_of n role)) all_roles }) o)) is

@@ -1,4 +1,4 @@
--- The tables that joins look at, their versions, and the columns that count.
+-- The tables of joins, their versions, and the columns that terms read.
 use Rattle.std.proofs.Common.{◌≡◌, ℕ, List, [], ◌∷◌, map, true, Result, Ok, refl, sym, ap, ◌∙◌}
 use Rattle.std.proofs.lemmas.List.Sorted.{Contains-permutation, IsPermutation-sym}
 use Rattle.land_core.specs.Numbers.{is_number}
@@ -69,7 +69,7 @@ pub data Place : Type 0 where
   names : Place
   mandates : Place
 
--- what the versions of a table are of
+-- the record type of a table
 abbrev pub What : Place → Type 0
 What parties = ℕ × PartyRecord
 What roles = Grant
@@ -82,7 +82,7 @@ What mutations = ℕ × MutationRecord
 What names = Naming
 What mandates = Mandate
 
--- how they are read
+-- the decoder of its rows
 abbrev pub reading : (p : Place) → Reading (What p)
 reading parties = party.parties
 reading roles = role.roles
@@ -135,7 +135,7 @@ as_stored db mutations = refl
 as_stored db names = refl
 as_stored db mandates = refl
 
--- the columns that joins look at, of a row that says a version
+-- the columns that joins read, of a row of a version
 abbrev pub shape : (p : Place) → Version (What p) → Row
 shape parties v = Null ∷ whole v.what.0 ∷ Null ∷ Null ∷ Int v.since ∷ Int v.until ∷ []
 shape roles v = Null ∷ whole v.what.party ∷ Text (role_word v.what.role) ∷ Int v.since ∷ Int v.until ∷ []
@@ -152,11 +152,11 @@ shape mutations v =
 shape names v = Null ∷ whole v.what.mutation ∷ whole v.what.unit ∷ Int v.since ∷ Int v.until ∷ []
 shape mandates v = Null ∷ whole v.what.principal ∷ whole v.what.agent ∷ Int v.since ∷ Int v.until ∷ []
 
--- a number is one that an object can have
+-- a number is in range
 abbrev pub IsNumber : ℕ → Type 0
 IsNumber n = is_number n ≡ true
 
--- the numbers that a number which is asked for may be compared with are within their limits
+-- numbers that are compared with a parameter are within their limits
 abbrev pub IsWithin : (p : Place) → Version (What p) → Type 0
 IsWithin parties v = IsNumber v.what.0
 IsWithin roles v = IsNumber v.what.party
@@ -169,7 +169,7 @@ IsWithin mutations v = IsNumber v.what.1.lodger × IsNumber v.what.0
 IsWithin names v = IsNumber v.what.mutation × IsNumber v.what.unit
 IsWithin mandates v = IsNumber v.what.principal × IsNumber v.what.agent
 
--- what is known of a row that says a version
+-- facts of a row of a version
 abbrev pub IsOf : (p : Place) → Version (What p) → Row → Type 0
 IsOf p v r = Fits (shape p v) 0 r × IsWithin p v
 
@@ -415,7 +415,7 @@ module _ {X : Type 0} (reading : Reading X) (db : Trees) (vs : List (Version X))
       (it.0, it.1, sym it.2)
 
 module _ (db : Trees) (moments : List Moment) (h : History) (held : HoldsHistory db moments h) where
-  -- each row says a version
+  -- each row decodes to a version
   pub version_of : (p : Place) (r : Row) → Has (db (tree p)) r → (v : Version (What p)) × Has (versions p h) v × IsOf p v r
   version_of p r has =
       let it = said_by (reading p) db (versions p h) (keeps db moments h held p) r has in
@@ -424,7 +424,7 @@ module _ (db : Trees) (moments : List Moment) (h : History) (held : HoldsHistory
   pub read_of : (p : Place) (r : Row) → Has (db (tree p)) r → (v : Version (What p)) × Has (versions p h) v × ((reading p).said (columns_from 1 (reading p).width r) ≡ Ok v)
   read_of p r has = said_by (reading p) db (versions p h) (keeps db moments h held p) r has
 
-  -- and each version is said by a row
+  -- and each version has a row
   pub read_back : (p : Place) (v : Version (What p)) → Has (versions p h) v → (r : Row) × Has (db (tree p)) r × ((reading p).said (columns_from 1 (reading p).width r) ≡ Ok v)
   read_back p v has = says_it (reading p) db (versions p h) (keeps db moments h held p) v has
 

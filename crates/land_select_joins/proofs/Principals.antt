@@ -1,4 +1,5 @@
--- The principals of a party are those of the mandates that it holds and that stand; with the party they are its circle.
+-- The principals of a party are those of the current mandates that it holds; with the party they are its
+-- circle.
 use Rattle.std.proofs.Common.{◌≡◌, ◌↔◌, inl, inr, ℕ, ℤ, ◌&&◌, ◌++◌, nat_eq, List, [], ◌∷◌, filter, map as map_list, sym, subst, IsPermutation}
 use Rattle.std.proofs.lemmas.List.Sorted.{Contains-permutation, IsPermutation-map, IsPermutation-sym}
 use Rattle.std.specs.List.{Contains}
@@ -15,7 +16,7 @@ use Rattle.land_tables_history.specs.declared.history.History.{History}
 use Rattle.land_tables_history.specs.declared.version.Version.{Version}
 use Rattle.sqlite_keyed.proofs.ListLemmas.{map-map}
 
--- of the mandates that stand, those of an agent are found, and their principals are the agent's
+-- of the current mandates, those of an agent are returned, and their principals are the agent's
 pub are_principals : (r : Register) (t : ℤ) (h : History) → StandsAt t h r → (agent : ℕ) (found : List (Version Mandate)) → IsPermutation found (filter (λ v. stands t v && nat_eq v.what.agent agent) h.mandates)
     → (numbers : List ℕ) → numbers ≡ map_list (λ (v : Version Mandate). v.what.principal) found → IsPermutation numbers (principals_of r agent)
 are_principals r t h is agent found are numbers all =
@@ -25,7 +26,7 @@ are_principals r t h is agent found are numbers all =
     (subst (λ l. IsPermutation l (principals_of r agent)) (map-map (λ (m : Mandate). m.principal) (λ (v : Version Mandate). v.what) found)
     (IsPermutation-map (λ (m : Mandate). m.principal) whats (filter (λ (m : Mandate). nat_eq m.agent agent) (mandates_in r.mandates)) held))
 
--- a party is put to its principals
+-- the party is added to its principals
 pub are_circle : (party : ℕ) (others principals : List ℕ) → IsPermutation others principals → (circle : List ℕ) → circle ≡ others ++ party ∷ [] → (number : ℕ) → Contains circle number ↔ Contains (party ∷ principals) number
 are_circle party others principals are circle grown number = (
   (λ among. elim ((contains_both others (party ∷ []) number).0 (subst (λ l. Contains l number) grown among)) [

@@ -1,4 +1,4 @@
--- Each text as a query of one table.
+-- Each statement as a query of one table.
 use Rattle.std.proofs.Common.{◌≡◌, ◌&&◌, ℕ, ℤ, List, [], ◌∷◌, codes, Ok, refl}
 use Rattle.land_select_joins.proofs.Joined.{Asks}
 use Rattle.land_select_joins.proofs.Known.{caller, same, still, word}
@@ -6,10 +6,10 @@ use Rattle.land_select_joins.proofs.Places.{mandates, members, mutations, parcel
 use Rattle.land_select_joins.proofs.Tested.{by_number, by_role, decides}
 use Rattle.land_select_joins.specs.Joins.Meaning.{given}
 use Rattle.land_select_joins.specs.Joins.Running.{asked_for}
-use Rattle.land_select_joins.specs.Lookups.Finding.{Found, is_meant, listing_of}
+use Rattle.land_select_joins.specs.Lookups.RecordRows.{Found, is_meant, listing_of}
 use Rattle.land_select_joins.specs.Lookups.Texts.{text_of}
-use Rattle.land_select_joins.specs.declared.lookups.look_up.LookUp.{LookUp}
-use Rattle.land_select_joins.specs.declared.lookups.look_up.LookUp.TheVariants as look_up
+use Rattle.land_select_joins.specs.declared.lookups.record_lookup.LookUp.{LookUp}
+use Rattle.land_select_joins.specs.declared.lookups.record_lookup.LookUp.TheVariants as record_lookup
 use Rattle.land_tables_history.specs.Standing.{stands}
 use Rattle.land_tables_history.specs.declared.version.Version.{Version}
 use Rattle.land_tables_schema.proofs.Updates.{passes, plainly}
@@ -24,109 +24,109 @@ use Rattle.sqlite_tied.specs.Compute.{everything}
 use Rattle.sqlite_trees.specs.Tree.{Trees}
 use Rattle.sqlite_value.specs.Order.{Row}
 
--- the tests of WHERE: of the key, and of the lifespan
+-- the tests of WHERE: the key and the lifespan
 abbrev pub filter_of : LookUp → List Term
-filter_of look_up.Party = same (col 1 1) caller ∷ still 1 4
-filter_of look_up.Unit = same (col 1 1) caller ∷ still 1 4
-filter_of look_up.Parcel = same (col 1 1) caller ∷ still 1 6
-filter_of look_up.Entry = same (col 1 1) caller ∷ still 1 12
-filter_of look_up.Source = same (col 1 1) caller ∷ still 1 4
-filter_of look_up.Mutation = same (col 1 1) caller ∷ still 1 9
-filter_of look_up.ParcelsOfUnit = same (col 1 2) caller ∷ still 1 6
-filter_of look_up.EntriesOfUnit = same (col 1 2) caller ∷ still 1 12
-filter_of look_up.RolesOfParty = same (col 1 1) caller ∷ still 1 3
-filter_of look_up.MembersOfGroup = same (col 1 1) caller ∷ still 1 5
-filter_of look_up.MandatesOfAgent = same (col 1 2) caller ∷ still 1 3
-filter_of look_up.Administrators = word (col 1 2) (codes "stateAdministrator") ∷ still 1 3
+filter_of record_lookup.Party = same (col 1 1) caller ∷ still 1 4
+filter_of record_lookup.Unit = same (col 1 1) caller ∷ still 1 4
+filter_of record_lookup.Parcel = same (col 1 1) caller ∷ still 1 6
+filter_of record_lookup.Entry = same (col 1 1) caller ∷ still 1 12
+filter_of record_lookup.Source = same (col 1 1) caller ∷ still 1 4
+filter_of record_lookup.Mutation = same (col 1 1) caller ∷ still 1 9
+filter_of record_lookup.ParcelsOfUnit = same (col 1 2) caller ∷ still 1 6
+filter_of record_lookup.EntriesOfUnit = same (col 1 2) caller ∷ still 1 12
+filter_of record_lookup.RolesOfParty = same (col 1 1) caller ∷ still 1 3
+filter_of record_lookup.MembersOfGroup = same (col 1 1) caller ∷ still 1 5
+filter_of record_lookup.MandatesOfAgent = same (col 1 2) caller ∷ still 1 3
+filter_of record_lookup.Administrators = word (col 1 2) (codes "stateAdministrator") ∷ still 1 3
 
--- the columns that are shown
+-- the columns of the result
 abbrev pub project_of : LookUp → List Term
-project_of look_up.Party = columns_of 1 1 5
-project_of look_up.Unit = columns_of 1 1 5
-project_of look_up.Parcel = columns_of 1 1 7
-project_of look_up.Entry = columns_of 1 1 13
-project_of look_up.Source = columns_of 1 1 5
-project_of look_up.Mutation = columns_of 1 1 10
-project_of look_up.ParcelsOfUnit = columns_of 1 1 7
-project_of look_up.EntriesOfUnit = columns_of 1 1 13
-project_of look_up.RolesOfParty = columns_of 1 1 4
-project_of look_up.MembersOfGroup = columns_of 1 1 6
-project_of look_up.MandatesOfAgent = columns_of 1 1 4
-project_of look_up.Administrators = columns_of 1 1 4
+project_of record_lookup.Party = columns_of 1 1 5
+project_of record_lookup.Unit = columns_of 1 1 5
+project_of record_lookup.Parcel = columns_of 1 1 7
+project_of record_lookup.Entry = columns_of 1 1 13
+project_of record_lookup.Source = columns_of 1 1 5
+project_of record_lookup.Mutation = columns_of 1 1 10
+project_of record_lookup.ParcelsOfUnit = columns_of 1 1 7
+project_of record_lookup.EntriesOfUnit = columns_of 1 1 13
+project_of record_lookup.RolesOfParty = columns_of 1 1 4
+project_of record_lookup.MembersOfGroup = columns_of 1 1 6
+project_of record_lookup.MandatesOfAgent = columns_of 1 1 4
+project_of record_lookup.Administrators = columns_of 1 1 4
 
 abbrev pub query_of : LookUp → Query
 query_of l = plainly (listing_of l).table.tree (filter_of l) (project_of l)
 
--- each text is its query and nothing else
+-- each statement is exactly its query
 pub asks : (l : LookUp) (indexes : List Index) → Asks (land_with indexes) (text_of l) (query_of l)
 unfolding understood everything
-asks look_up.Party indexes = record { names = codes "number" ∷ codes "name" ∷ codes "kind" ∷ codes "since" ∷ codes "until" ∷ []; command = refl; unlisted = refl; plain = (refl, refl) }
-asks look_up.Unit indexes = record { names = codes "number" ∷ codes "name" ∷ codes "checked" ∷ codes "since" ∷ codes "until" ∷ []; command = refl; unlisted = refl; plain = (refl, refl) }
-asks look_up.Parcel indexes = record { names = codes "number" ∷ codes "unit" ∷ codes "label" ∷ codes "outline" ∷ codes "source" ∷ codes "since" ∷ codes "until" ∷ []; command = refl; unlisted = refl; plain = (refl, refl) }
-asks look_up.Entry indexes = record { names = codes "number" ∷ codes "unit" ∷ codes "party" ∷ codes "class" ∷ codes "num" ∷ codes "den" ∷ codes "amount" ∷ codes "currency" ∷ codes "place" ∷ codes "words" ∷ codes "source" ∷ codes "since" ∷ codes "until" ∷ []; command = refl; unlisted = refl; plain = (refl, refl) }
-asks look_up.Source indexes = record { names = codes "number" ∷ codes "kind" ∷ codes "title" ∷ codes "since" ∷ codes "until" ∷ []; command = refl; unlisted = refl; plain = (refl, refl) }
-asks look_up.Mutation indexes = record { names = codes "number" ∷ codes "lodger" ∷ codes "reference" ∷ codes "source" ∷ codes "lodged" ∷ codes "act" ∷ codes "content" ∷ codes "state" ∷ codes "since" ∷ codes "until" ∷ []; command = refl; unlisted = refl; plain = (refl, refl) }
-asks look_up.ParcelsOfUnit indexes = record { names = codes "number" ∷ codes "unit" ∷ codes "label" ∷ codes "outline" ∷ codes "source" ∷ codes "since" ∷ codes "until" ∷ []; command = refl; unlisted = refl; plain = (refl, refl) }
-asks look_up.EntriesOfUnit indexes = record { names = codes "number" ∷ codes "unit" ∷ codes "party" ∷ codes "class" ∷ codes "num" ∷ codes "den" ∷ codes "amount" ∷ codes "currency" ∷ codes "place" ∷ codes "words" ∷ codes "source" ∷ codes "since" ∷ codes "until" ∷ []; command = refl; unlisted = refl; plain = (refl, refl) }
-asks look_up.RolesOfParty indexes = record { names = codes "party" ∷ codes "role" ∷ codes "since" ∷ codes "until" ∷ []; command = refl; unlisted = refl; plain = (refl, refl) }
-asks look_up.MembersOfGroup indexes = record { names = codes "grp" ∷ codes "party" ∷ codes "num" ∷ codes "den" ∷ codes "since" ∷ codes "until" ∷ []; command = refl; unlisted = refl; plain = (refl, refl) }
-asks look_up.MandatesOfAgent indexes = record { names = codes "principal" ∷ codes "agent" ∷ codes "since" ∷ codes "until" ∷ []; command = refl; unlisted = refl; plain = (refl, refl) }
-asks look_up.Administrators indexes = record { names = codes "party" ∷ codes "role" ∷ codes "since" ∷ codes "until" ∷ []; command = refl; unlisted = refl; plain = (refl, refl) }
+asks record_lookup.Party indexes = record { names = codes "number" ∷ codes "name" ∷ codes "kind" ∷ codes "since" ∷ codes "until" ∷ []; command = refl; unlisted = refl; plain = (refl, refl) }
+asks record_lookup.Unit indexes = record { names = codes "number" ∷ codes "name" ∷ codes "checked" ∷ codes "since" ∷ codes "until" ∷ []; command = refl; unlisted = refl; plain = (refl, refl) }
+asks record_lookup.Parcel indexes = record { names = codes "number" ∷ codes "unit" ∷ codes "label" ∷ codes "outline" ∷ codes "source" ∷ codes "since" ∷ codes "until" ∷ []; command = refl; unlisted = refl; plain = (refl, refl) }
+asks record_lookup.Entry indexes = record { names = codes "number" ∷ codes "unit" ∷ codes "party" ∷ codes "class" ∷ codes "num" ∷ codes "den" ∷ codes "amount" ∷ codes "currency" ∷ codes "place" ∷ codes "words" ∷ codes "source" ∷ codes "since" ∷ codes "until" ∷ []; command = refl; unlisted = refl; plain = (refl, refl) }
+asks record_lookup.Source indexes = record { names = codes "number" ∷ codes "kind" ∷ codes "title" ∷ codes "since" ∷ codes "until" ∷ []; command = refl; unlisted = refl; plain = (refl, refl) }
+asks record_lookup.Mutation indexes = record { names = codes "number" ∷ codes "lodger" ∷ codes "reference" ∷ codes "source" ∷ codes "lodged" ∷ codes "act" ∷ codes "content" ∷ codes "state" ∷ codes "since" ∷ codes "until" ∷ []; command = refl; unlisted = refl; plain = (refl, refl) }
+asks record_lookup.ParcelsOfUnit indexes = record { names = codes "number" ∷ codes "unit" ∷ codes "label" ∷ codes "outline" ∷ codes "source" ∷ codes "since" ∷ codes "until" ∷ []; command = refl; unlisted = refl; plain = (refl, refl) }
+asks record_lookup.EntriesOfUnit indexes = record { names = codes "number" ∷ codes "unit" ∷ codes "party" ∷ codes "class" ∷ codes "num" ∷ codes "den" ∷ codes "amount" ∷ codes "currency" ∷ codes "place" ∷ codes "words" ∷ codes "source" ∷ codes "since" ∷ codes "until" ∷ []; command = refl; unlisted = refl; plain = (refl, refl) }
+asks record_lookup.RolesOfParty indexes = record { names = codes "party" ∷ codes "role" ∷ codes "since" ∷ codes "until" ∷ []; command = refl; unlisted = refl; plain = (refl, refl) }
+asks record_lookup.MembersOfGroup indexes = record { names = codes "grp" ∷ codes "party" ∷ codes "num" ∷ codes "den" ∷ codes "since" ∷ codes "until" ∷ []; command = refl; unlisted = refl; plain = (refl, refl) }
+asks record_lookup.MandatesOfAgent indexes = record { names = codes "principal" ∷ codes "agent" ∷ codes "since" ∷ codes "until" ∷ []; command = refl; unlisted = refl; plain = (refl, refl) }
+asks record_lookup.Administrators indexes = record { names = codes "party" ∷ codes "role" ∷ codes "since" ∷ codes "until" ∷ []; command = refl; unlisted = refl; plain = (refl, refl) }
 
 -- a query reads the rows of its table
 pub stored : (l : LookUp) (db : Trees) → overlay db [] (listing_of l).table.tree ≡ db (listing_of l).table.tree
-stored look_up.Party db = refl
-stored look_up.Unit db = refl
-stored look_up.Parcel db = refl
-stored look_up.Entry db = refl
-stored look_up.Source db = refl
-stored look_up.Mutation db = refl
-stored look_up.ParcelsOfUnit db = refl
-stored look_up.EntriesOfUnit db = refl
-stored look_up.RolesOfParty db = refl
-stored look_up.MembersOfGroup db = refl
-stored look_up.MandatesOfAgent db = refl
-stored look_up.Administrators db = refl
+stored record_lookup.Party db = refl
+stored record_lookup.Unit db = refl
+stored record_lookup.Parcel db = refl
+stored record_lookup.Entry db = refl
+stored record_lookup.Source db = refl
+stored record_lookup.Mutation db = refl
+stored record_lookup.ParcelsOfUnit db = refl
+stored record_lookup.EntriesOfUnit db = refl
+stored record_lookup.RolesOfParty db = refl
+stored record_lookup.MembersOfGroup db = refl
+stored record_lookup.MandatesOfAgent db = refl
+stored record_lookup.Administrators db = refl
 
--- and shows the columns of a row that are read
+-- and returns the columns of a row that are decoded
 pub shown : (l : LookUp) (params r : Row) → eval_all (project_of l) (params ∷ r ∷ []) ≡ (listing_of l).shown r
-shown look_up.Party params r = refl
-shown look_up.Unit params r = refl
-shown look_up.Parcel params r = refl
-shown look_up.Entry params r = refl
-shown look_up.Source params r = refl
-shown look_up.Mutation params r = refl
-shown look_up.ParcelsOfUnit params r = refl
-shown look_up.EntriesOfUnit params r = refl
-shown look_up.RolesOfParty params r = refl
-shown look_up.MembersOfGroup params r = refl
-shown look_up.MandatesOfAgent params r = refl
-shown look_up.Administrators params r = refl
+shown record_lookup.Party params r = refl
+shown record_lookup.Unit params r = refl
+shown record_lookup.Parcel params r = refl
+shown record_lookup.Entry params r = refl
+shown record_lookup.Source params r = refl
+shown record_lookup.Mutation params r = refl
+shown record_lookup.ParcelsOfUnit params r = refl
+shown record_lookup.EntriesOfUnit params r = refl
+shown record_lookup.RolesOfParty params r = refl
+shown record_lookup.MembersOfGroup params r = refl
+shown record_lookup.MandatesOfAgent params r = refl
+shown record_lookup.Administrators params r = refl
 
--- a row that says a version passes where the version stands and is meant
+-- a row of a version passes if the version is current and matches
 pub tests : (l : LookUp) (r : Row) (v : Version (Found l)) → (listing_of l).said ((listing_of l).shown r) ≡ Ok v → (number : ℕ) (t : ℤ)
     → passes (filter_of l) (given (asked_for number) t) r ≡ (stands t v && is_meant l number v.what)
-tests look_up.Party r v e number t =
-    by_number (passes (filter_of look_up.Party) (given (asked_for number) t) r) v.what.0 number t v.since v.until (shows parties r v e).1 (decides parties r v e (asked_for number) t (filter_of look_up.Party) refl)
-tests look_up.Unit r v e number t =
-    by_number (passes (filter_of look_up.Unit) (given (asked_for number) t) r) v.what.0 number t v.since v.until (shows units r v e).1 (decides units r v e (asked_for number) t (filter_of look_up.Unit) refl)
-tests look_up.Parcel r v e number t =
-    by_number (passes (filter_of look_up.Parcel) (given (asked_for number) t) r) v.what.0 number t v.since v.until (shows parcels r v e).1.0 (decides parcels r v e (asked_for number) t (filter_of look_up.Parcel) refl)
-tests look_up.Entry r v e number t =
-    by_number (passes (filter_of look_up.Entry) (given (asked_for number) t) r) v.what.0 number t v.since v.until (shows rrrs r v e).1.1 (decides rrrs r v e (asked_for number) t (filter_of look_up.Entry) refl)
-tests look_up.Source r v e number t =
-    by_number (passes (filter_of look_up.Source) (given (asked_for number) t) r) v.what.0 number t v.since v.until (shows sources r v e).1 (decides sources r v e (asked_for number) t (filter_of look_up.Source) refl)
-tests look_up.Mutation r v e number t =
-    by_number (passes (filter_of look_up.Mutation) (given (asked_for number) t) r) v.what.0 number t v.since v.until (shows mutations r v e).1.1 (decides mutations r v e (asked_for number) t (filter_of look_up.Mutation) refl)
-tests look_up.ParcelsOfUnit r v e number t =
-    by_number (passes (filter_of look_up.ParcelsOfUnit) (given (asked_for number) t) r) v.what.1.unit number t v.since v.until (shows parcels r v e).1.1 (decides parcels r v e (asked_for number) t (filter_of look_up.ParcelsOfUnit) refl)
-tests look_up.EntriesOfUnit r v e number t =
-    by_number (passes (filter_of look_up.EntriesOfUnit) (given (asked_for number) t) r) v.what.1.unit number t v.since v.until (shows rrrs r v e).1.2 (decides rrrs r v e (asked_for number) t (filter_of look_up.EntriesOfUnit) refl)
-tests look_up.RolesOfParty r v e number t =
-    by_number (passes (filter_of look_up.RolesOfParty) (given (asked_for number) t) r) v.what.party number t v.since v.until (shows roles r v e).1 (decides roles r v e (asked_for number) t (filter_of look_up.RolesOfParty) refl)
-tests look_up.MembersOfGroup r v e number t =
-    by_number (passes (filter_of look_up.MembersOfGroup) (given (asked_for number) t) r) v.what.group number t v.since v.until (shows members r v e).1.1 (decides members r v e (asked_for number) t (filter_of look_up.MembersOfGroup) refl)
-tests look_up.MandatesOfAgent r v e number t =
-    by_number (passes (filter_of look_up.MandatesOfAgent) (given (asked_for number) t) r) v.what.agent number t v.since v.until (shows mandates r v e).1.1 (decides mandates r v e (asked_for number) t (filter_of look_up.MandatesOfAgent) refl)
-tests look_up.Administrators r v e number t =
-    by_role (passes (filter_of look_up.Administrators) (given (asked_for number) t) r) v.what.role t v.since v.until (decides roles r v e (asked_for number) t (filter_of look_up.Administrators) refl)
+tests record_lookup.Party r v e number t =
+    by_number (passes (filter_of record_lookup.Party) (given (asked_for number) t) r) v.what.0 number t v.since v.until (shows parties r v e).1 (decides parties r v e (asked_for number) t (filter_of record_lookup.Party) refl)
+tests record_lookup.Unit r v e number t =
+    by_number (passes (filter_of record_lookup.Unit) (given (asked_for number) t) r) v.what.0 number t v.since v.until (shows units r v e).1 (decides units r v e (asked_for number) t (filter_of record_lookup.Unit) refl)
+tests record_lookup.Parcel r v e number t =
+    by_number (passes (filter_of record_lookup.Parcel) (given (asked_for number) t) r) v.what.0 number t v.since v.until (shows parcels r v e).1.0 (decides parcels r v e (asked_for number) t (filter_of record_lookup.Parcel) refl)
+tests record_lookup.Entry r v e number t =
+    by_number (passes (filter_of record_lookup.Entry) (given (asked_for number) t) r) v.what.0 number t v.since v.until (shows rrrs r v e).1.1 (decides rrrs r v e (asked_for number) t (filter_of record_lookup.Entry) refl)
+tests record_lookup.Source r v e number t =
+    by_number (passes (filter_of record_lookup.Source) (given (asked_for number) t) r) v.what.0 number t v.since v.until (shows sources r v e).1 (decides sources r v e (asked_for number) t (filter_of record_lookup.Source) refl)
+tests record_lookup.Mutation r v e number t =
+    by_number (passes (filter_of record_lookup.Mutation) (given (asked_for number) t) r) v.what.0 number t v.since v.until (shows mutations r v e).1.1 (decides mutations r v e (asked_for number) t (filter_of record_lookup.Mutation) refl)
+tests record_lookup.ParcelsOfUnit r v e number t =
+    by_number (passes (filter_of record_lookup.ParcelsOfUnit) (given (asked_for number) t) r) v.what.1.unit number t v.since v.until (shows parcels r v e).1.1 (decides parcels r v e (asked_for number) t (filter_of record_lookup.ParcelsOfUnit) refl)
+tests record_lookup.EntriesOfUnit r v e number t =
+    by_number (passes (filter_of record_lookup.EntriesOfUnit) (given (asked_for number) t) r) v.what.1.unit number t v.since v.until (shows rrrs r v e).1.2 (decides rrrs r v e (asked_for number) t (filter_of record_lookup.EntriesOfUnit) refl)
+tests record_lookup.RolesOfParty r v e number t =
+    by_number (passes (filter_of record_lookup.RolesOfParty) (given (asked_for number) t) r) v.what.party number t v.since v.until (shows roles r v e).1 (decides roles r v e (asked_for number) t (filter_of record_lookup.RolesOfParty) refl)
+tests record_lookup.MembersOfGroup r v e number t =
+    by_number (passes (filter_of record_lookup.MembersOfGroup) (given (asked_for number) t) r) v.what.group number t v.since v.until (shows members r v e).1.1 (decides members r v e (asked_for number) t (filter_of record_lookup.MembersOfGroup) refl)
+tests record_lookup.MandatesOfAgent r v e number t =
+    by_number (passes (filter_of record_lookup.MandatesOfAgent) (given (asked_for number) t) r) v.what.agent number t v.since v.until (shows mandates r v e).1.1 (decides mandates r v e (asked_for number) t (filter_of record_lookup.MandatesOfAgent) refl)
+tests record_lookup.Administrators r v e number t =
+    by_role (passes (filter_of record_lookup.Administrators) (given (asked_for number) t) r) v.what.role t v.since v.until (decides roles r v e (asked_for number) t (filter_of record_lookup.Administrators) refl)

@@ -1,4 +1,4 @@
--- The text of a range of each kind as a query of one table, and the rows that it finds.
+-- The statement of a range of each kind as a query of one table, and the rows that it returns.
 use Rattle.std.proofs.Common.{◌≡◌, ◌<◌, ◌&&◌, inl, inr, ℕ, ℤ, pos, Bool, true, false, nat_le, int_le, int_lt, min, List, [], ◌∷◌, codes, Ok, refl, sym, ap, ap₂, subst, ◌∙◌, arith}
 use Rattle.std.proofs.lemmas.Bool.{and_parts, false≢true}
 use Rattle.std.proofs.lemmas.Bool.Decides.{Decides-and, Decides-at, Decides-like, leb_tells}
@@ -32,19 +32,19 @@ use Rattle.sqlite_value.specs.Order.{Row}
 use Rattle.sqlite_value.specs.declared.keys.Collation.TheVariants.{Binary}
 use Rattle.sqlite_value.specs.declared.value.Value.TheVariants.{Int}
 
--- more than any object's number
+-- a number above that of each object
 abbrev pub beyond : ℕ
 beyond = 1_000_000_001
 
--- the parameters: the first number, the moment, the last number
+-- the parameters: the first number, the time, the last number
 abbrev pub asked : (first last : ℕ) → (t : ℤ) → Row
 asked first last t = Int (pos (min first beyond)) ∷ Int t ∷ Int (pos (min last beyond)) ∷ []
 
--- the number in this column lies in the range
+-- the number in this column is in the range
 abbrev pub ranged : (slot : ℕ) → (more : List Term) → List Term
 ranged slot more = op2 (Compare Le Binary) caller (col slot 1) ∷ op2 (Compare Le Binary) (col slot 1) (col 0 2) ∷ more
 
--- the tests of WHERE: of the range, and of the lifespan
+-- the tests of WHERE: the range and the lifespan
 abbrev pub filter_of : Kind → List Term
 filter_of kind.Party = ranged 1 (still 1 4)
 filter_of kind.Unit = ranged 1 (still 1 4)
@@ -53,7 +53,7 @@ filter_of kind.Rrr = ranged 1 (still 1 12)
 filter_of kind.Source = ranged 1 (still 1 4)
 filter_of kind.Mutation = ranged 1 (still 1 9)
 
--- the columns that are shown
+-- the columns of the result
 abbrev pub project_of : Kind → List Term
 project_of kind.Party = columns_of 1 1 5
 project_of kind.Unit = columns_of 1 1 5
@@ -65,7 +65,7 @@ project_of kind.Mutation = columns_of 1 1 10
 abbrev pub query_of : Kind → Query
 query_of k = plainly (listing_of k).table.tree (filter_of k) (project_of k)
 
--- each text is its query and nothing else
+-- each statement is exactly its query
 pub asks : (k : Kind) (indexes : List Index) → Asks (land_with indexes) (text_within k) (query_of k)
 unfolding understood everything
 asks kind.Party indexes = record { names = codes "number" ∷ codes "name" ∷ codes "kind" ∷ codes "since" ∷ codes "until" ∷ []; command = refl; unlisted = refl; plain = (refl, refl) }
@@ -84,7 +84,7 @@ stored kind.Rrr db = refl
 stored kind.Source db = refl
 stored kind.Mutation db = refl
 
--- and shows the columns of a row that are read
+-- and returns the columns of a row that are decoded
 shown : (k : Kind) (params r : Row) → eval_all (project_of k) (params ∷ r ∷ []) ≡ (listing_of k).shown r
 shown kind.Party params r = refl
 shown kind.Unit params r = refl
@@ -93,14 +93,14 @@ shown kind.Rrr params r = refl
 shown kind.Source params r = refl
 shown kind.Mutation params r = refl
 
--- no number of an object is beyond
+-- no object has a number above the greatest
 short : (key : ℕ) → is_number key ≡ true → key < beyond
 short key within = elim (leb_tells key 1_000_000_000) [
   | inl le ↦ let at_most = le.1 in omega arith
   | inr gt ↦ absurd (false≢true (sym gt.0 ∙ (and_parts (nat_le 1 key) (nat_le key 1_000_000_000) within).1))
 ]
 
--- a number of an object is compared as well with what is given as with what is asked for
+-- comparing an object's number with the limited number is the same as with the given one
 at_least : (first key : ℕ) → is_number key ≡ true → nat_le (min first beyond) key ≡ nat_le first key
 at_least first key within =
     let less = short key within in
@@ -143,7 +143,7 @@ by_range b key first last t since until within passes =
     (in_range first last key within)
     (Decides-like b (λ h. ((h.0, h.1.0), h.1.1)) (λ h. (h.0.0, (h.0.1, h.1))) passes)
 
--- a row that says a version passes where the version stands and its number lies in the range
+-- a row of a version passes if the version is current and its number is in the range
 tests : (k : Kind) (r : Row) (v : Version (ℕ × Recorded k)) → (listing_of k).said ((listing_of k).shown r) ≡ Ok v → (first last : ℕ) (t : ℤ)
     → passes (filter_of k) (asked first last t) r ≡ (stands t v && is_within first last v.what.0)
 tests kind.Party r v e first last t =
@@ -165,7 +165,7 @@ tests kind.Mutation r v e first last t =
     by_range (passes (filter_of kind.Mutation) (asked first last t) r) v.what.0 first last t v.since v.until (shows place.mutations r v e).1.1
     (decides_by (filter_of kind.Mutation) (asked first last t) (shape place.mutations v) r (shows place.mutations r v e).0 refl)
 
--- what the text of a kind answers are the rows of what stands in the range
+-- the result of a kind's statement has the rows of the current records in the range
 pub are_rows_within : (k : Kind) (first last : ℕ) (t : ℤ) (db : Trees) (rows : List Row) → IsAnswer (query_of k) (overlay db []) (asked first last t) rows → AreRowsWithin k first last t db rows
 are_rows_within k first last t db rows answer =
     are_rows (listing_of k) (filter_of k) (project_of k) (asked first last t) (λ it. is_within first last it.0) t db (stored k db) (shown k (asked first last t)) (λ r v e. tests k r v e first last t) rows answer

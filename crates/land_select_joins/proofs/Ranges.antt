@@ -1,4 +1,4 @@
--- What stands under the numbers of a range is that part of the register.
+-- The records in a range of numbers are that part of the register.
 use Rattle.std.proofs.Common.{◌≡◌, ℕ, ℤ, List, Result}
 use Rattle.std.specs.FinMap.{FinMap}
 use Rattle.std.specs.Ordering.{nat_cmp}
@@ -8,7 +8,7 @@ use Rattle.land_core.specs.declared.register.Register.{Register}
 use Rattle.land_select_joins.proofs.Parts.{part_found}
 use Rattle.land_select_joins.proofs.Records.{all_wanted, can_be_read}
 use Rattle.land_select_joins.specs.Joins.Running.{HoldsNone}
-use Rattle.land_select_joins.specs.Lookups.Finding.{AreSaid, CannotSay, wanted}
+use Rattle.land_select_joins.specs.Lookups.RecordRows.{AreSaid, CannotBeRead, wanted}
 use Rattle.land_select_joins.specs.Lookups.Numbered.{IsFoundWithin}
 use Rattle.land_select_joins.specs.Lookups.Parts.{IsPart}
 use Rattle.land_select_joins.specs.Lookups.Ranges.{AreRowsWithin, is_within}
@@ -20,7 +20,7 @@ use Rattle.sqlite_trees.specs.Tree.{Trees}
 use Rattle.sqlite_value.specs.Order.{Row}
 
 module _ {V : Type 0} (said : Row → Result (Version (ℕ × V)) WireFault) (k : Kind) (part : Register → FinMap nat_cmp V) (by : IsFoundWithin said k part) (first last : ℕ) (t : ℤ) (db : Trees) where
-  -- what is made of what is found
+  -- a result made from the decoded rows
   pub are_within : (found : List (Version (ℕ × V))) → AreSaid said (AreRowsWithin k first last t db) found
       → (it : FinMap nat_cmp V) → ((m : FinMap nat_cmp V) → IsPartAt t found m → it ≡ m) → IsPart (λ r. only (λ n v. is_within first last n) (part r)) t db it
   are_within found read it made moments h held r have stands =
@@ -29,8 +29,8 @@ module _ {V : Type 0} (said : Row → Result (Version (ℕ × V)) WireFault) (k 
       (part_found t (λ n v. is_within first last n) of.versions (part r) (of.stand t r stands) found
       (all_wanted said read.0 (wanted (λ e. is_within first last e.0) t of.versions) (of.found first last t read.0 read.1) found read.2))
 
-  -- where it cannot be read, there is no history
-  pub none_within : (fault : ReadFault) → CannotSay said (AreRowsWithin k first last t db) fault → HoldsNone db fault
+  -- if they are unreadable, the tables hold no history
+  pub none_within : (fault : ReadFault) → CannotBeRead said (AreRowsWithin k first last t db) fault → HoldsNone db fault
   none_within fault cannot is moments h held =
       let of = by db moments h held in
       let no = cannot is in

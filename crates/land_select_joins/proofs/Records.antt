@@ -1,4 +1,4 @@
--- What a look-up finds is a part of the register that stands.
+-- The result of a lookup is a part of the register.
 use Rattle.std.proofs.Common.{◌≡◌, ◌≢◌, inl, inr, ℕ, ℤ, Bool, true, false, ◌&&◌, nat_eq, cond, List, [], ◌∷◌, filter, map, Option, Some, None, Ok, Err, IfErr, IfOk, IsErrAnd, Result, refl, sym, ap, subst, ◌∙◌, IsPermutation}
 use Rattle.std.proofs.lemmas.Bool.Decides.{Decides-eqb}
 use Rattle.std.proofs.lemmas.List.Sorted.{Contains-permutation, IsPermutation-map, IsPermutation-sym, IsPermutation-trans}
@@ -13,10 +13,10 @@ use Rattle.land_select_joins.proofs.Queries.{filter_of, project_of, query_of, sh
 use Rattle.land_select_joins.proofs.Standing.{entry_found, entry_there}
 use Rattle.land_select_joins.specs.Joins.Meaning.{given}
 use Rattle.land_select_joins.specs.Joins.Running.{HoldsNone, OfHeld, asked_for}
-use Rattle.land_select_joins.specs.Lookups.Finding.{AreRows, AreRowsOf, AreSaid, AreSaidOf, CannotBeSaid, CannotSay, Found, IsOneOf, is_meant, listing_of, wanted}
+use Rattle.land_select_joins.specs.Lookups.RecordRows.{AreRows, AreRowsOf, AreSaid, AreSaidOf, CannotBeSaid, CannotBeRead, Found, IsOneOf, is_meant, listing_of, wanted}
 use Rattle.land_select_joins.specs.Lookups.Numbered.{IsFoundBy}
 use Rattle.land_select_joins.specs.Lookups.Parts.{IsPart}
-use Rattle.land_select_joins.specs.declared.lookups.look_up.LookUp.{LookUp}
+use Rattle.land_select_joins.specs.declared.lookups.record_lookup.LookUp.{LookUp}
 use Rattle.land_tables_history.proofs.Permutations.{filter_permuted}
 use Rattle.land_tables_history.specs.Standing.{IsPartAt, stands, standing}
 use Rattle.land_tables_history.specs.declared.history.History.{History}
@@ -37,7 +37,7 @@ use Rattle.sqlite_value.specs.Order.{Row}
 
 -- ---- rows
 
--- a query of one table shows the columns of a row that are read, and tests whether its version stands and is meant
+-- a query of one table returns the decoded columns of a row, and tests if its version is current and matches
 module _ {X : Type 0} (listing : Listing (Version X)) (terms columns : List Term) (params : Row) (meant : X → Bool) (t : ℤ) (db : Trees)
     (same_rows : overlay db [] listing.table.tree ≡ db listing.table.tree) (same_cells : (r : Row) → eval_all columns (params ∷ r ∷ []) ≡ listing.shown r)
     (tested : (r : Row) (v : Version X) → listing.said (listing.shown r) ≡ Ok v → passes terms params r ≡ (stands t v && meant v.what)) (rows : List Row) where
@@ -54,7 +54,7 @@ module _ {X : Type 0} (listing : Listing (Version X)) (terms columns : List Term
       (subst (λ some. IsPermutation (map (λ r. eval_all columns (params ∷ r ∷ [])) (filter passing some)) rows) same_rows
       (answer_is listing.table.tree terms columns (overlay db []) params rows a))
 
-  -- what it answers are the rows of what is wanted
+  -- its result has the wanted rows
   pub are_rows : IsAnswer (plainly listing.table.tree terms columns) (overlay db []) params rows → AreRows listing meant t db rows
   are_rows a versions says =
       let whole = db listing.table.tree in
@@ -65,30 +65,30 @@ module _ {X : Type 0} (listing : Listing (Version X)) (terms columns : List Term
       (IsPermutation-sym (map said_of (filter passing whole)) (map listing.said rows) answer)
       (passing_said said_of passing (λ v. stands t v && meant v.what) tested whole versions says)
 
--- what the text of a look-up answers are the rows that it finds
+-- the result of a lookup's statement has the rows of the lookup
 pub are_rows_of : (l : LookUp) (number : ℕ) (t : ℤ) (db : Trees) (rows : List Row) → IsAnswer (query_of l) (overlay db []) (given (asked_for number) t) rows → AreRowsOf l number t db rows
 are_rows_of l number t db rows answer =
     are_rows (listing_of l) (filter_of l) (project_of l) (given (asked_for number) t) (is_meant l number) t db (stored l db) (shown l (given (asked_for number) t)) (λ r v e. tests l r v e number t) rows answer
 
--- what is read of such rows
+-- the decoded values of such rows
 module _ {X : Type 0} (said : Row → Result X WireFault) (Are : List Row → Type 0) (rows : List Row) (are : Are rows) where
   pub said_of : (r : Result (List X) ReadFault) → IsRead said rows r → IfOk r (AreSaid said Are)
   said_of (Ok xs) read = (rows, are, read)
   said_of (Err fault) read = tt
 
-  pub cannot_be_said : (r : Result (List X) ReadFault) → IsRead said rows r → IfErr r (CannotSay said Are)
+  pub cannot_be_said : (r : Result (List X) ReadFault) → IsRead said rows r → IfErr r (CannotBeRead said Are)
   cannot_be_said (Ok xs) read = tt
   cannot_be_said (Err fault) read = λ is. (rows, are, (read (λ e. absurd (let a = is in let b = e in cc))).1)
 
 -- ---- versions
 
--- where rows say what is wanted
+-- rows of wanted versions
 module _ {X : Type 0} (said : Row → Result X WireFault) (rows : List Row) (wants : List X) (are : IsPermutation (map said rows) (map (λ x. Ok x) wants)) where
-  -- that is read, and nothing else
+  -- these are decoded, and nothing else
   pub all_wanted : (found : List X) → each_of said rows ≡ Ok found → IsPermutation found wants
   all_wanted found read = same_values found wants (subst (λ m. IsPermutation m (map (λ x. Ok x) wants)) (each_all said rows found read) are)
 
-  -- they can be read
+  -- they are readable
   pub can_be_read : ((found : List X) → each_of said rows ≢ Ok found) → ⊥
   can_be_read cannot =
       let read = some_said said rows wants are in
@@ -98,7 +98,7 @@ module _ (l : LookUp) (number : ℕ) (t : ℤ) (db : Trees) (versions : List (Ve
   pub are_wanted : (found : List (Version (Found l))) → AreSaidOf (listing_of l).said l number t db found → IsPermutation found (wanted (is_meant l number) t versions)
   are_wanted found said = all_wanted (listing_of l).said said.0 (wanted (is_meant l number) t versions) (said.1 versions says) found said.2
 
--- so a fault that says that they cannot is told only where the tables hold no history
+-- so they are called unreadable only if the tables hold no history
 pub none_held : {Y : Type 0} (db : Trees) (r : Result Y ReadFault) (fault : ReadFault) → IsErrAnd r (λ f. f ≡ fault) → HoldsNone db fault → IfErr r (HoldsNone db)
 none_held db (Ok y) fault same none = absurd same
 none_held db (Err f) fault same none = λ is. none (sym same ∙ is)
@@ -112,7 +112,7 @@ none_said l number t db versions says r fault same cannot =
 -- ---- records
 
 module _ {X : Type 0} (t : ℤ) (meant : X → Bool) where
-  -- of what stands, that which is meant
+  -- the matching part of the current records
   kept : (versions : List (Version X)) → map (λ (v : Version X). v.what) (filter (λ v. stands t v && meant v.what) versions) ≡ filter meant (standing t versions)
   kept [] = refl
   kept (v ∷ vs) = go (stands t v) (meant v.what) refl (kept vs)
@@ -124,7 +124,7 @@ module _ {X : Type 0} (t : ℤ) (meant : X → Bool) where
       go true false is rest = rest ∙ sym (ap (λ b. cond b (v.what ∷ filter meant (standing t vs)) (filter meant (standing t vs))) is)
       go false b is rest = rest
 
-  -- where what stands is something, what is found of it is that which is meant
+  -- if the current versions represent a part, the decoded ones represent its matching part
   pub found_of : (versions : List (Version X)) (items : List X) → IsPermutation (standing t versions) items
       → (found : List (Version X)) → IsPermutation found (filter (λ v. stands t v && meant v.what) versions) → IsPermutation (map (λ (v : Version X). v.what) found) (filter meant items)
   found_of versions items part found are =
@@ -132,7 +132,7 @@ module _ {X : Type 0} (t : ℤ) (meant : X → Bool) where
       (subst (IsPermutation (map (λ (v : Version X). v.what) found)) (kept versions) (IsPermutation-map (λ (v : Version X). v.what) found (filter (λ v. stands t v && meant v.what) versions) are))
       (filter_permuted meant (standing t versions) items part)
 
--- what a list contains that passes
+-- the items of a list that pass
 module _ {X : Type 0} (p : X → Bool) where
   pub passes_filter : (xs : List X) (x : X) → Contains (filter p xs) x → Contains xs x × (p x ≡ true)
   passes_filter [] x h = absurd (in_nothing x h)
@@ -177,7 +177,7 @@ module _ {V : Type 0} (t : ℤ) (versions : List (Version (ℕ × V))) (m : FinM
       let it = passes_filter (λ e. nat_eq e.0 number) (finite.entries m) v.what among in
       ap (λ x. Some x) (sym one.2) ∙ sym (entry_there m v.what it.0) ∙ ap (finite.get m) ((Decides-eqb v.what.0 number).0 it.1)
 
--- which a look-up finds
+-- the record that a lookup returns
 module _ {V : Type 0} (said : Row → Result (Version (ℕ × V)) WireFault) (l : LookUp) (part : Register → FinMap nat_cmp V) (by : IsFoundBy said l part) (number : ℕ) (t : ℤ) (db : Trees) where
   pub is_record : (found : List (Version (ℕ × V))) → AreSaidOf said l number t db found → (o : Option V) → IsOneOf found o → IsPart (λ r. finite.get (part r) number) t db o
   is_record found read o one moments h held r have stands =

@@ -1,4 +1,4 @@
--- What a register that is sound, or holds nothing, refers to stands in it.
+-- The targets of references in a register that is sound or empty.
 use Rattle.std.proofs.Common.{◌≡◌, inl, inr, ◌<◌, ◌≤◌, ℕ, Bool, true, false, Option, Some, None, is_some, refl, sym, subst, ◌∙◌, arith}
 use Rattle.std.proofs.lemmas.Bool.{false≢true}
 use Rattle.std.specs.FinMap as map
@@ -16,12 +16,12 @@ use Rattle.land_rules.specs.Laws.{IsSoundOrNothing}
 use Rattle.land_select_joins.proofs.Views.{Refers}
 use Rattle.land_select_joins.specs.Sights.Laws.{IsNobody}
 
--- a party of whose kind something is told stands
+-- a party with a kind exists
 party_there : (o : Option PartyRecord) (test : PartyRecord → Bool) → option_map_or test o false ≡ true → is_some o ≡ true
 party_there None test it = it
 party_there (Some p) test it = refl
 
--- a group that has a member is one that stands, and so does the member
+-- a group with a member exists, and so does the member
 module _ (r : Register) (grouped : (group : ℕ) (members : Members) → map.get r.members group ≡ Some members → has_group r group ≡ true)
     (single : (group : ℕ) (members : Members) → map.get r.members group ≡ Some members → (n : ℕ) (share : Ratio) → map.get members n ≡ Some share → has_single_party r n ≡ true) where
   group_of : (group party : ℕ) → is_member r group party ≡ true → has r.parties group ≡ true
@@ -54,7 +54,7 @@ sound_refers r sound =
       lodger = λ n m is. (sound.mutations n m is).lodger;
     }
 
--- nothing stands under a number where nothing stands
+-- no number has a record if nothing exists
 no_record : {V X : Type 0} (n : ℕ) (v : V) → map.get {R = nat_cmp} map.empty n ≡ Some v → X
 no_record n v is = absurd (none_is_not_some (sym (map.get-empty nat_cmp n) ∙ is))
 
@@ -75,7 +75,7 @@ pub refers : SoundnessByLookUps → (r : Register) → IsSoundOrNothing r → Re
 refers look_ups r (inl sound) = sound_refers r ((look_ups r).0 sound)
 refers look_ups r (inr none) = subst Refers (sym none) nothing_refers
 
--- nobody is a party that stands
+-- no party has a number out of range
 apart : (n next : ℕ) → IsNobody n → 0 < n → n < next → next ≤ 1000000001 → ⊥
 apart n next (inl zero) positive below room = omega (arith, zero)
 apart n next (inr past) positive below room = omega (arith, past)

@@ -1,4 +1,4 @@
--- What the selections of a role give is what the rules let it see without mandates.
+-- The selections of a role return what the policy, without mandates, lets it see.
 use Rattle.std.proofs.Common.{◌≡◌, inl, inr, ℕ, Bool, true, nat_lt, List, [], ◌∷◌, sym, subst, ◌∙◌}
 use Rattle.std.proofs.lemmas.Bool.{eqb-true, ltb-true, and_parts}
 use Rattle.std.proofs.lemmas.Map.Views.{Contains-from_any, list_any-from_Contains}
@@ -22,7 +22,7 @@ the_rules seen look_ups r h t premise stands caller k n =
     let exact = (seen (without_mandates r) caller k).exact n in
     ((λ some. Contains-from_any eqb-true n _ (exact ∙ decided.1 some)), (λ among. decided.0 (sym exact ∙ list_any-from_Contains nat_eq_equiv n _ among)))
 
--- what is seen ascends
+-- the visible numbers are increasing
 all_pass : (p : ℕ → Bool) (xs : List ℕ) → list_all p xs ≡ true → (y : ℕ) → Contains xs y → p y ≡ true
 all_pass p [] h y among = absurd (in_nothing y among)
 all_pass p (x ∷ xs) h y among =

@@ -1,4 +1,4 @@
--- The text of each relation by which somebody is told of a party as a join of tables, and what it gives.
+-- The statement of each relation of viewers as a join of tables, and its results.
 use Rattle.std.proofs.Common.{◌≡◌, ◌↔◌, ℕ, ℤ, ◌≤◌, List, [], ◌∷◌, ◌++◌, length, codes, Bool, true, false, if◌then◌else◌, refl, sym, ap, subst, ◌∙◌, true≢false, arith}
 use Rattle.land_core.specs.Numbers.{is_number}
 use Rattle.land_select_joins.proofs.Joined.{Asks, IsKnown, Says, complete, from, numbered, sound}
@@ -29,20 +29,20 @@ use Rattle.sqlite_value.specs.Order.{Row}
 
 -- ---- joins
 
--- the tables that are read, from that of the party's entries on
+-- the tables, starting with that of the party's entries
 abbrev pub places_of : Relation → List Place
 places_of relation.Holding = rrrs ∷ rrrs ∷ []
 places_of relation.Crediting = rrrs ∷ rrrs ∷ []
 places_of relation.Awaiting = rrrs ∷ names ∷ mutations ∷ []
 
--- the tests: of ON, of the party, of the interest and of what is told by it, and of the lifespans
+-- the tests: ON, the party, the interest with the entries that it shows, and the lifespans
 abbrev pub filter_of : Relation → List Term
 filter_of relation.Holding = same (col 2 2) (col 1 2) ∷ same (col 1 3) caller ∷ with_right 2 ∷ is_shown 2 1 ∷ still 1 12 ++ still 2 12
 filter_of relation.Crediting =
     same (col 2 2) (col 1 2) ∷ same (col 1 3) caller ∷ with_mortgage 2 ∷ op2 Or (not_word (col 1 4) (codes "mortgage")) (same (col 1 3) (col 2 3)) ∷ still 1 12 ++ still 2 12
 filter_of relation.Awaiting = same (col 2 2) (col 1 2) ∷ same (col 3 1) (col 2 1) ∷ same (col 1 3) caller ∷ word (col 3 8) (codes "lodged") ∷ still 1 12 ++ still 2 3 ++ still 3 9
 
--- the column that is shown: who holds, who is the creditor, who lodged
+-- the column of the result: the holder, the creditor or the lodger
 abbrev pub shown_of : Relation → Term
 shown_of relation.Holding = col 2 3
 shown_of relation.Crediting = col 2 3
@@ -51,7 +51,7 @@ shown_of relation.Awaiting = col 3 2
 abbrev pub query_of : Relation → Query
 query_of relation = cut 17 (from (places_of relation)) (filter_of relation) (shown_of relation ∷ [])
 
--- each text is its query and nothing else
+-- each statement is exactly its query
 pub asks : (relation : Relation) (indexes : List Index) → Asks (land_with indexes) (seer_text_of relation) (query_of relation)
 unfolding understood everything
 asks relation.Holding indexes = record { names = codes "party" ∷ []; command = refl; unlisted = refl; plain = (refl, refl) }
@@ -63,7 +63,7 @@ known_of relation.Holding = record { simple = refl; known = λ caller t s h. ref
 known_of relation.Crediting = record { simple = refl; known = λ caller t s h. refl }
 known_of relation.Awaiting = record { simple = refl; known = λ caller t r n m. refl }
 
--- ---- what the terms of a text say is that somebody is told of the party
+-- ---- the terms of a statement select the viewers of the party
 
 module _ (h : History) (party : ℕ) (t : ℤ) (seer : ℕ) where
   holders : Says (rrrs ∷ rrrs ∷ []) (filter_of relation.Holding) (col 2 3) h party t seer ↔ IsSeer relation.Holding t h party seer
@@ -182,7 +182,7 @@ module _ (db : Trees) (moments : List Moment) (h : History) (held : HoldsHistory
       let v = version t h.rrrs e stands in
       ap is_number (sym is) ∙ (row_of db moments h held rrrs (of e v.since v.until) v.has).2.1.0
 
-  -- who is told of a party is told of one that has a number which an object can have
+  -- only a party with a number in range has viewers
   party_within : (relation : Relation) (party seer : ℕ) → IsSeer relation t h party seer → is_number party ≡ true
   party_within relation.Holding party seer x = of_entry x.0 x.1.stands party x.2
   party_within relation.Crediting party seer x = of_entry x.0 x.1.stands party x.2
@@ -191,7 +191,7 @@ module _ (db : Trees) (moments : List Moment) (h : History) (held : HoldsHistory
   none : {X : Type 0} (party : ℕ) → is_number party ≡ false → is_number party ≡ true → X
   none party out is = absurd (true≢false (sym is ∙ out))
 
-  -- so of a party is told who is told of the one that is asked for in its place
+  -- so a party has the viewers of its replacement
   asked_so : (relation : Relation) (party seer : ℕ) → IsSeer relation t h (asked_for party) seer ↔ IsSeer relation t h party seer
   asked_so relation party seer = go (is_number party) refl
     where
@@ -199,9 +199,9 @@ module _ (db : Trees) (moments : List Moment) (h : History) (held : HoldsHistory
       go true is = ((λ x. x), (λ x. x))
       go false is = ((λ x. none 0 refl (party_within relation 0 seer x)), (λ x. none party is (party_within relation party seer x)))
 
--- ---- answers
+-- ---- results
 
--- what the text of a relation answers are all that it tells of, where the rows are few
+-- the result of a relation's statement has all its viewers, if there are few rows
 pub are_few : (relation : Relation) (party : ℕ) (t : ℤ) (db : Trees) (rows : List Row) → IsAnswer (query_of relation) (overlay db []) (given (asked_for party) t) rows → length rows ≤ 16 → OfHeld db (λ h. AreNumberRows rows (IsSeer relation t h party))
 are_few relation party t db rows cut_off few moments h held =
     let asked = asked_for party in

@@ -1,4 +1,4 @@
--- In how many ways somebody is told of a party: at least as many as the rows that tell it.
+-- The number of pairs by which a party has viewers is at least the number of rows.
 use Rattle.std.proofs.Common.{◌≡◌, ◌<◌, ℕ, ℤ, List, [], ◌∷◌, length, codes, Bool, true, ◌&&◌, not, ◌∙◌, arith}
 use Rattle.std.proofs.lemmas.Bool.{and_parts}
 use Rattle.std.proofs.lemmas.Bool.Decides.{Decides-and, Decides-eqb, Decides-not, Decides-or}
@@ -34,7 +34,7 @@ word_decides : (c : Class) → Decides (not (is_mortgage c)) (¬ HasWord c (code
 word_decides c = Decides-not (is_mortgage c) (a_mortgage c)
 
 module _ (party : ℕ) (t : ℤ) where
-  -- four tests that hold, of versions of two tables that stand
+  -- four tests that hold of current versions of two tables
   of_two : {X Y A B C D : Type 0} (passes a b c d : Bool) (v : Version X) (w : Version Y) → Decides a A → Decides b B → Decides c C → Decides d D
       → Decides passes (A × (B × (C × (D × Lives t v (Lives t w (Unit {0})))))) → passes ≡ (stands t v && (stands t w && (a && (b && (c && d)))))
   of_two passes a b c d v w da db dc dd all =
@@ -95,13 +95,13 @@ module _ (party : ℕ) (t : ℤ) where
       of_three _ _ _ _ _ u v w (Decides-eqb v.what.unit u.what.1.unit) (Decides-eqb w.what.0 v.what.mutation) (Decides-eqb u.what.1.party party) (undecided w.what.1.state)
       (all_decided (filter_of relation.Awaiting) (three_rows u v w) (three_rows u v w) itself known)
 
-  -- the ways through the tables are the ways in which somebody is told
+  -- the matches of the join are these pairs
   told_ways : (relation : Relation) (h : History) → ways_through h (places_of relation) (passes relation) (given party t ∷ []) ≡ ways relation t h party
   told_ways relation.Holding h = two t true h.rrrs h.rrrs (λ v w. passes relation.Holding (two_rows v w)) (is_told_to_holder party) held_so
   told_ways relation.Crediting h = two t true h.rrrs h.rrrs (λ v w. passes relation.Crediting (two_rows v w)) (is_told_to_creditor party) credited_so
   told_ways relation.Awaiting h = three t h.rrrs h.namings h.mutations (λ u v w. passes relation.Awaiting (three_rows u v w)) (is_told_to_lodger party) lodged_so
 
--- where the rows are many, so are the ways
+-- many rows: many pairs
 pub are_many : (relation : Relation) (party : ℕ) (t : ℤ) (db : Trees) (rows : List Row) → IsAnswer (query_of relation) (overlay db []) (given (asked_for party) t) rows
     → 16 < length rows → OfHeld db (λ h. 16 < ways relation t h (asked_for party))
 are_many relation party t db rows a long moments h held =

@@ -1,4 +1,4 @@
--- What the terms of each text say is what its selection selects.
+-- The terms of each statement select what its selection selects.
 use Rattle.std.proofs.Common.{◌≡◌, ◌↔◌, ◌⊎◌, inl, inr, ℕ, ℤ, List, [], ◌∷◌, filter, codes, bytes_eq, Bool, true, false, ◌||◌, cond, int_le, int_lt, refl, sym, subst}
 use Rattle.std.proofs.lemmas.Bool.Decides.{Decides-at, Decides-or, not_from_Decides}
 use Rattle.std.proofs.lemmas.Slice.Eq.{bytes_eq-Decides}
@@ -34,7 +34,7 @@ use Rattle.sqlite_rules.proofs.ProbeLemmas.{has_mapped, mapped_has}
 use Rattle.sqlite_rules.specs.Lists.{Has}
 use Rattle.sqlite_sql.specs.Term.{Term, col}
 
--- ---- what stands
+-- ---- current versions
 
 kept : {X : Type 0} (p : X → Bool) (xs : List X) (x : X) → Has xs x → p x ≡ true → Has (filter p xs) x
 kept p [] x h is = absurd h
@@ -54,12 +54,12 @@ was_kept p (y ∷ ys) x h = go (p y) refl h (was_kept p ys x)
     go true is (inr rest) later = let it = later rest in (inr it.0, it.1)
     go false is rest later = let it = later rest in (inr it.0, it.1)
 
--- a version whose lifespan has the moment stands
+-- a version whose lifespan includes the time is current
 pub stood : {X : Type 0} (t : ℤ) (vs : List (Version X)) (v : Version X) → Has vs v → int_le v.since t ≡ true → int_lt t v.until ≡ true → Stands t vs v.what
 stood t vs v has begun going =
     contains_had (standing t vs) v.what (mapped_has (λ v. v.what) (filter (stands t) vs) v (kept (stands t) vs v has (and_from (int_le v.since t) (int_lt t v.until) begun going)))
 
--- and what stands is of such a version
+-- and a current value has such a version
 pub record IsVersion {X : Type 0} (t : ℤ) (vs : List (Version X)) (x : X) : Type 0 where
   pub since : ℤ
   pub until : ℤ
@@ -205,7 +205,7 @@ module _ (h : History) (caller : ℕ) (t : ℤ) (number : ℕ) where
     (λ s. let v = version t h.mutations s.0 s.1 in (of s.0 v.since v.until, v.has, ((v.begun, (v.going, tt)), s.2))),
   )
 
-  -- the caller itself, its groups, what it lodged
+  -- the caller itself, its groups, its lodgings
 
   itself : Says (parties ∷ []) known.itself (col 1 1) h caller t number ↔ selects selection.Itself t h caller number
   itself = (
@@ -225,7 +225,7 @@ module _ (h : History) (caller : ℕ) (t : ℤ) (number : ℕ) where
     (λ s. let v = version t h.mutations s.0 s.1 in (of s.0 v.since v.until, v.has, ((s.2, (v.begun, (v.going, tt))), s.3))),
   )
 
-  -- units that are held, or on which one is a creditor
+  -- units with a right or a mortgage of the caller
 
   held_units : Says (rrrs ∷ []) known.held_units (col 1 2) h caller t number ↔ selects selection.HeldUnits t h caller number
   held_units = (
@@ -264,7 +264,7 @@ module _ (h : History) (caller : ℕ) (t : ℤ) (number : ℕ) where
     )),
   )
 
-  -- entries of units that are held, and their parties
+  -- entries of units that the caller holds, and their parties
 
   abbrev IsHeldTold : Entry → Type 0
   IsHeldTold = IsTold t h (HoldsItself t h caller) IsToldToHolder
@@ -275,11 +275,11 @@ module _ (h : History) (caller : ℕ) (t : ℤ) (number : ℕ) where
   abbrev IsCreditTold : Entry → Type 0
   IsCreditTold = IsTold t h (Credits t h caller) (λ held. IsToldToCreditor caller)
 
-  -- two versions of entries, of which something is said
+  -- two versions of entries with a property
   abbrev Two : (Version Entry → Version Entry → Type 0) → Type 0
   Two P = (e : Version Entry) × Has h.rrrs e × ((s : Version Entry) × Has h.rrrs s × P e s)
 
-  -- a version has the moment
+  -- the lifespan of a version includes the time
   abbrev Lasts : {X : Type 0} → Version X → Type 0 → Type 0
   Lasts v Rest = (int_le v.since t ≡ true) × ((int_lt t v.until ≡ true) × Rest)
 
@@ -441,7 +441,7 @@ module _ (h : History) (caller : ℕ) (t : ℤ) (number : ℕ) where
     (λ s. group_back (λ e. e.1.party ≡ number) s.0 s.1 s.2),
   )
 
-  -- mutations that name units that are held
+  -- mutations that refer to units that the caller holds
 
   held_mutations : Says (rrrs ∷ names ∷ []) known.held_mutations (col 2 1) h caller t number ↔ selects selection.HeldMutations t h caller number
   held_mutations = (
@@ -500,7 +500,7 @@ module _ (h : History) (caller : ℕ) (t : ℤ) (number : ℕ) where
     )),
   )
 
-  -- what an undecided mutation of the caller names
+  -- the targets of a pending mutation of the caller
 
   awaits : (unit : ℕ) (m : Version (ℕ × MutationRecord)) (n : Version Naming) → Has h.mutations m → Has h.namings n → n.what.mutation ≡ m.what.0 → m.what.1.lodger ≡ caller
       → state_word m.what.1.state ≡ codes "lodged" → int_le m.since t ≡ true → int_lt t m.until ≡ true → int_le n.since t ≡ true → int_lt t n.until ≡ true → unit ≡ n.what.unit → Awaits t h caller unit
@@ -681,7 +681,7 @@ join_of selection.LodgedUnits = known.lodged_units_join
 join_of selection.LodgedEntries = known.lodged_rrrs_join
 join_of selection.LodgedParties = known.lodged_parties_join
 
--- what the terms of a text say is what its selection selects
+-- the terms of a statement select what its selection selects
 pub selected : (s : Selection) (h : History) (caller : ℕ) (t : ℤ) (number : ℕ) → Says (places_of s) (filter_of s) (shown_of s) h caller t number ↔ selects s t h caller number
 selected (selection.All kind.Party) = all_parties
 selected (selection.All kind.Unit) = all_units
@@ -707,7 +707,7 @@ selected selection.LodgedUnits = lodged_units
 selected selection.LodgedEntries = lodged_rrrs
 selected selection.LodgedParties = lodged_parties
 
--- a text gives what its selection selects
+-- a statement returns what its selection selects
 pub texts_select : TextsSelect
 texts_select s indexes db moments h caller t held =
     meaning (places_of s) (filter_of s) (shown_of s) (text_of s) (join_of s) indexes db moments h caller t (selects s t h caller) held (selected s h caller t)

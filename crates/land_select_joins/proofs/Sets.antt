@@ -1,4 +1,4 @@
--- What a join of tables answers, as a set.
+-- The result of a join, as a set.
 use Rattle.std.proofs.Common.{◌≡◌, ◌≤◌, ◌<◌, inl, inr, ℕ, pos, negsuc, List, [], ◌∷◌, ◌++◌, length, map, flat_map, None, Bool, true, false, cond, refl, sym, ap, ap₂, subst, ◌∙◌, true≢false, IsPermutation, IsSorted, Equal, arith}
 use Rattle.std.proofs.lemmas.List.{length-map, length-take, take_all}
 use Rattle.std.proofs.lemmas.List.Sorted.{length_permutation, Contains-permutation, IsPermutation-refl, IsPermutation-sym, IsPermutation-map}
@@ -26,7 +26,7 @@ to_flat_map f [] x y h k = absurd h
 to_flat_map f (z ∷ xs) x y (inl same) k = has_left (f z) (flat_map f xs) y (subst (λ w. Has (f w) y) same k)
 to_flat_map f (z ∷ xs) x y (inr more) k = has_right (f z) (flat_map f xs) y (to_flat_map f xs x y more k)
 
--- one row of each table of the join, in turn
+-- one row of each table of the join, in order
 abbrev pub Fills : Trees → Join → Env → Env → Type 0
 Fills db end env e = e ≡ env
 Fills db (inner t more) env e = (r : Row) × Has (db t) r × Fills db more (env ++ r ∷ []) e
@@ -62,11 +62,11 @@ abbrev pub plainly : Join → List Term → List Term → Query
 plainly from filter project =
     record { from = from; filter = filter; group = None; project = project; distinct = false; collations = []; order = []; limit = lit (Int (negsuc 0)); offset = lit (Int (pos 0)) }
 
--- the same, of which only so many rows are given
+-- the same with a limit on the number of rows
 abbrev pub cut : (most : ℕ) → Join → List Term → List Term → Query
 cut most from filter project = record (plainly from filter project) { limit = lit (Int (pos most)) }
 
--- where they are less, no row was cut off
+-- fewer rows than the limit: no row was cut off
 pub uncut : (most : ℕ) (from : Join) (filter project : List Term) (db : Trees) (params : Row) (rows : List Row) → length rows < most → IsAnswer (cut most from filter project) db params rows
     → IsAnswer (plainly from filter project) db params rows
 uncut most from filter project db params rows few a =
@@ -84,7 +84,7 @@ uncut most from filter project db params rows few a =
       shown = a.shown ∙ take_all most all (omega (arith, long, short));
     }
 
--- no more are given than are matched
+-- the result has at most as many rows as match
 pub no_more : (most : ℕ) (from : Join) (filter project : List Term) (db : Trees) (params : Row) (rows : List Row) → IsAnswer (cut most from filter project) db params rows
     → length rows ≤ length (matches db filter from (params ∷ []))
 no_more most from filter project db params rows a =
@@ -105,7 +105,7 @@ module _ (from : Join) (filter project : List Term) (plain : is_inner from ≡ t
       subst (λ l. IsPermutation l rows) (ap (map (λ (o : Output). o.1)) kept ∙ map-map (λ (o : Output). o.1) (output q) all)
       (subst (IsPermutation (map (λ (o : Output). o.1) a.kept)) (sym a.shown) moved)
 
-  -- each row of an answer is of some rows of the tables that pass
+  -- each row of a result comes from rows of the tables that pass
   pub answered : IsAnswer (plainly from filter project) db params rows → (row : Row) → Has rows row
       → (e : Env) × Fills db from (params ∷ []) e × (list_all (holds e) filter ≡ true) × (row ≡ eval_all project e)
   answered a row has =
@@ -115,13 +115,13 @@ module _ (from : Join) (filter project : List Term) (plain : is_inner from ≡ t
       let fills = matched db filter from (params ∷ []) from_env.0 plain from_env.1 in
       (from_env.0, fills.0, fills.1, from_env.2)
 
-  -- and of all that pass there is a row
+  -- and all rows that pass are in the result
   pub answers : IsAnswer (plainly from filter project) db params rows → (e : Env) → Fills db from (params ∷ []) e → list_all (holds e) filter ≡ true → Has rows (eval_all project e)
   answers a e fills passed =
       let all = matches db filter from (params ∷ []) in
       has_contained rows _ (Contains-permutation _ rows _ (shown_all a) (contains_had _ _ (mapped_has (eval_all project) all e (matches_all db filter from (params ∷ []) e plain fills passed))))
 
--- ---- some answer
+-- ---- existence of a result
 
 any_order : (xs : List Output) → IsSorted (λ (a b : Output). Equal) xs
 any_order xs k d low high = refl

@@ -1,4 +1,4 @@
--- Rows that are looked at in some columns alone: a shape has these, and NULL in the others.
+-- Rows of which only some columns are read: a shape has these, and NULL in the others.
 use Rattle.std.proofs.Common.{◌≡◌, ◌⊎◌, ℕ, zero, suc, pos, ◌+◌, List, [], ◌∷◌, ◌++◌, Bool, true, false, ◌&&◌, int_eq, int_le, int_lt, slice_index_or, refl, sym, ap, ap₂, subst, ◌∙◌, true≢false, arith}
 use Rattle.std.specs.Bool.{Decides}
 use Rattle.std.specs.List.{list_all}
@@ -101,7 +101,7 @@ seen_solid (Real x) cell seen solid = seen
 seen_solid (Text t) cell seen solid = seen
 seen_solid (Blob b) cell seen solid = seen
 
--- what is seen of a shape is so of the row
+-- a term that is known of a shape has the same value for the row
 pub same_value : (t : Term) (s e : Env) → AreShapes s e → is_simple t ≡ true → is_solid (eval t s) ≡ true → eval t e ≡ eval t s
 unfolding IsShape
 same_value (lit v) s e shapes simple solid = refl
@@ -111,7 +111,7 @@ same_value (op1 op a) s e shapes simple solid = absurd (true≢false (sym simple
 same_value (op2 op a b) s e shapes simple solid = absurd (true≢false (sym simple))
 same_value (case c a b) s e shapes simple solid = absurd (true≢false (sym simple))
 
--- two values by a test, where both are whole numbers from 0, both are integers or both are texts
+-- the comparison of two values that are natural numbers, integers or texts
 abbrev pub Compares : CompareOp → Value → Value → Type 0
 Compares Eq (Int (pos m)) (Int (pos n)) = m ≡ n
 Compares Eq (Text s) (Text t) = s ≡ t
@@ -128,7 +128,7 @@ comparable Le (Int y) (Int z) = true
 comparable Lt (Int y) (Int z) = true
 comparable _ a b = false
 
--- what a term says of rows
+-- the value of a term for rows
 abbrev pub Says : Term → Env → Type 0
 Says (op2 (Compare op Binary) a b) e = Compares op (eval a e) (eval b e)
 Says (op2 Or a b) e = Says a e ⊎ Says b e
@@ -170,7 +170,7 @@ compared Le (Int y) (Int z) h = Decides-at _ _ (at_ints false Le y z) (itself (i
 compared Lt (Int y) (Int z) h = Decides-at _ _ (at_ints false Lt y z) (itself (int_lt y z))
 compared _ a b h = absurd (true≢false (sym h))
 
--- what a term says of shapes decides whether it holds of the rows
+-- the value of a term for shapes decides whether it holds of the rows
 decided : (t : Term) (s e : Env) → AreShapes s e → is_known t s ≡ true → Decides (holds e t) (Says t s)
 decided (op2 (Compare op Binary) a b) s e shapes h =
     let p = and_parts (is_simple a && is_simple b) ((is_solid (eval a s) && is_solid (eval b s)) && comparable op (eval a s) (eval b s)) h in

@@ -1,4 +1,4 @@
--- What stands at a moment is what the register has.
+-- The current versions are the register's records.
 use Rattle.std.proofs.Common.{◌≡◌, ℕ, ℤ, Bool, true, false, List, Option, Some, None, is_some, refl, sym, ap, ◌∙◌}
 use Rattle.std.proofs.lemmas.Bool.{false≢true}
 use Rattle.std.proofs.lemmas.Bool.Decides.{Decides-like}
@@ -20,7 +20,7 @@ use Rattle.land_select_joins.specs.Sights.Selections.{Stands, StandsUnder}
 use Rattle.land_tables_history.specs.Standing.{IsPartAt, standing}
 use Rattle.land_tables_history.specs.declared.version.Version.{Version}
 
--- the entries of a map are what it has
+-- the entries of a map are its contents
 module _ {V : Type 0} (m : FinMap nat_cmp V) where
   pub entry_there : (e : ℕ × V) → Contains (map.entries m) e → map.get m e.0 ≡ Some e.1
   entry_there e h =
@@ -35,7 +35,7 @@ module _ {V : Type 0} (m : FinMap nat_cmp V) where
 one_value : {V : Type 0} {x y : V} → Some x ≡ Some y → x ≡ y
 one_value e = cc
 
--- records that stand under numbers
+-- current records with numbers
 module _ {V : Type 0} (t : ℤ) (versions : List (Version (ℕ × V))) (m : FinMap nat_cmp V) (is : IsPartAt t versions m) where
   pub listed : (e : ℕ × V) → Stands t versions e → Contains (map.entries m) e
   listed e h = Contains-permutation (standing t versions) (map.entries m) e is h
@@ -49,7 +49,7 @@ module _ {V : Type 0} (t : ℤ) (versions : List (Version (ℕ × V))) (m : FinM
   pub stood : (n : ℕ) (v : V) → map.get m n ≡ Some v → Stands t versions (n, v)
   stood n v got = unlisted (n, v) (entry_found m n v got)
 
-  -- one record stands under a number
+  -- a number has one current record
   pub one_stands : (e f : ℕ × V) → Stands t versions e → Stands t versions f → e.0 ≡ f.0 → e.1 ≡ f.1
   one_stands e f h k same = one_value (sym (there e h) ∙ ap (map.get m) same ∙ there f k)
 

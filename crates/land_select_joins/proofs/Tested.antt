@@ -1,4 +1,4 @@
--- Which rows pass the tests of a look-up, by what they say.
+-- The rows that pass the tests of a lookup, by their contents.
 use Rattle.std.proofs.Common.{◌≡◌, ℕ, ℤ, Bool, true, false, ◌&&◌, nat_eq, bytes_eq, codes, int_le, int_lt, List, [], ◌∷◌, Ok, refl, sym, ap, subst, ◌∙◌, true≢false}
 use Rattle.std.proofs.lemmas.Bool.Decides.{Decides-and, Decides-at, Decides-eqb, Decides-like, same_from_decides}
 use Rattle.std.proofs.lemmas.Slice.Eq.{bytes_eq-Decides}
@@ -19,23 +19,23 @@ use Rattle.land_tables_schema.specs.Rows.Looks.{columns_from}
 use Rattle.sqlite.specs.Term.{Term}
 use Rattle.sqlite_value.specs.Order.{Row}
 
--- a row passes the tests that a shape of it passes
+-- a row passes the tests that its shape passes
 pub decides_by : (filter : List Term) (params shape r : Row) → Fits shape 0 r → are_known filter (params ∷ shape ∷ []) ≡ true → Decides (passes filter params r) (SayAll filter (params ∷ shape ∷ []))
 decides_by filter params shape r fits known = all_decided filter (params ∷ shape ∷ []) (params ∷ r ∷ []) (shape_itself params, (is_shape shape r fits, tt)) known
 
--- a row that says a version passes the tests that the shape of the version passes
+-- a row of a version passes the tests that the shape of the version passes
 module _ (p : Place) (r : Row) (v : Version (What p)) (e : (reading p).said (columns_from 1 (reading p).width r) ≡ Ok v) (asked : ℕ) (t : ℤ) where
   pub decides : (filter : List Term) → are_known filter (given asked t ∷ shape p v ∷ []) ≡ true → Decides (passes filter (given asked t) r) (SayAll filter (given asked t ∷ shape p v ∷ []))
   decides filter known = decides_by filter (given asked t) (shape p v) r (shows p r v e).0 known
 
--- a lifespan has the moment
+-- a lifespan includes the time
 abbrev pub Lives : (t since until : ℤ) → Type 0
 Lives t since until = (int_le since t ≡ true) × ((int_lt t until ≡ true) × Unit {0})
 
 pub itself : (b : Bool) → Decides b (b ≡ true)
 itself b = ((λ h. h), (λ h. h))
 
--- a version stands, and is meant
+-- a version is current and matches
 pub meant_lives : (b c : Bool) (P : Type 0) (t since until : ℤ) → Decides c P → Decides b (P × Lives t since until) → b ≡ ((int_le since t && int_lt t until) && c)
 meant_lives b c P t since until means passes =
     same_from_decides b ((int_le since t && int_lt t until) && c) passes
@@ -45,7 +45,7 @@ meant_lives b c P t since until means passes =
 none_is_zero : (key : ℕ) → is_number key ≡ true → key ≡ 0 → ⊥
 none_is_zero key within is = true≢false (sym within ∙ ap is_number is)
 
--- a number that an object can have is the one that is asked for where it is the one that is given
+-- a number in range equals the queried one if it equals the given one
 pub asked_is : (key number : ℕ) → is_number key ≡ true → Decides (nat_eq key number) (key ≡ asked_for number)
 asked_is key number within = Decides-like (nat_eq key number) (λ is. is ∙ kept (subst (λ n. is_number n ≡ true) is within)) (λ is. back (is_number number) refl is) (Decides-eqb key number)
   where
@@ -59,7 +59,7 @@ asked_is key number within = Decides-like (nat_eq key number) (λ is. is ∙ kep
 pub by_number : (b : Bool) (key number : ℕ) (t since until : ℤ) → is_number key ≡ true → Decides b ((key ≡ asked_for number) × Lives t since until) → b ≡ ((int_le since t && int_lt t until) && nat_eq key number)
 by_number b key number t since until within passes = meant_lives b (nat_eq key number) (key ≡ asked_for number) t since until (asked_is key number within) passes
 
--- and a reference is the one that is given
+-- and a reference equals the given one
 pub by_reference : (b : Bool) (key number : ℕ) (word reference : List ℕ) (t since until : ℤ) → is_number key ≡ true
     → Decides b ((key ≡ asked_for number) × ((word ≡ reference) × Lives t since until)) → b ≡ ((int_le since t && int_lt t until) && (nat_eq key number && bytes_eq word reference))
 by_reference b key number word reference t since until within passes =

@@ -1,4 +1,4 @@
--- Looks one after another, whose numbers are put together.
+-- A sequence of read-only queries, whose numbers are concatenated.
 use Rattle.std.proofs.Common.{◌⊎◌, ◌↔◌, inl, inr, ℕ, ℤ, List, [], ◌∷◌, ◌++◌, Ok, Err, Result, IfOk, subst, sym}
 use Rattle.std.specs.List.{Contains}
 use Rattle.land_select_joins.proofs.Containing.{first, first_or_later, in_nothing, later}
@@ -35,7 +35,7 @@ contains_both xs ys n = (
 pub none_yet : (t : ℤ) (caller : ℕ) (db : Trees) → AreNumbersOfAny [] t caller db []
 none_yet t caller db moments h held n = ((λ has. absurd (has_contained [] n has)), (λ x. absurd x))
 
--- the numbers of one selection more
+-- the numbers of one more selection
 pub one_more : (ss : List Selection) (s : Selection) (t : ℤ) (caller : ℕ) (db : Trees) (xs ys : List ℕ) → AreNumbersOfAny ss t caller db xs → AreNumbersOf s t caller db ys
     → AreNumbersOfAny (ss ++ s ∷ []) t caller db (xs ++ ys)
 one_more ss s t caller db xs ys all more moments h held n =
@@ -55,7 +55,7 @@ one_more ss s t caller db xs ys all more moments h held n =
 pub all_through : (ss : List Selection) (t : ℤ) (caller : ℕ) (db : Trees) (it found : List ℕ) → AreAll it (λ n. Contains found n) → AreNumbersOfAny ss t caller db found → AreNumbersOfAny ss t caller db it
 all_through ss t caller db it found same all moments h held n = ((λ x. (all moments h held n).0 ((same n).0 x)), (λ w. (same n).1 ((all moments h held n).1 w)))
 
--- ---- one caller after another
+-- ---- a sequence of callers
 
 module _ (ss : List Selection) (t : ℤ) (h : History) (n : ℕ) where
   given_left : (cs ds : List ℕ) → AnyGiven ss t h cs n → AnyGiven ss t h (cs ++ ds) n
@@ -72,7 +72,7 @@ module _ (ss : List Selection) (t : ℤ) (h : History) (n : ℕ) where
   given_either (c ∷ cs) ds (inl x) = inl (inl x)
   given_either (c ∷ cs) ds (inr x) = elim (given_either cs ds x) [ inl a ↦ inl (inr a) | inr b ↦ inr b ]
 
-  -- what is given is given to one of them
+  -- a number of the result is one of theirs
   pub given_to : (cs : List ℕ) → AnyGiven ss t h cs n → (c : ℕ) × Contains cs c × AnySelects ss t h c n
   given_to [] x = absurd x
   given_to (c ∷ cs) (inl x) = (c, first c cs, x)
@@ -85,7 +85,7 @@ module _ (ss : List Selection) (t : ℤ) (h : History) (n : ℕ) where
     | inr more ↦ inr (given_by ds c more x)
   ]
 
--- the numbers of one caller more
+-- the numbers of one more caller
 pub one_caller_more : (ss : List Selection) (cs : List ℕ) (c : ℕ) (t : ℤ) (db : Trees) (xs ys : List ℕ) → AreNumbersForAny ss t cs db xs → AreNumbersOfAny ss t c db ys
     → AreNumbersForAny ss t (cs ++ c ∷ []) db (xs ++ ys)
 one_caller_more ss cs c t db xs ys all more moments h held n =
@@ -105,12 +105,12 @@ one_caller_more ss cs c t db xs ys all more moments h held n =
 pub given_through : (ss : List Selection) (t : ℤ) (cs : List ℕ) (db : Trees) (it found : List ℕ) → AreAll it (λ n. Contains found n) → AreNumbersForAny ss t cs db found → AreNumbersForAny ss t cs db it
 given_through ss t cs db it found same all moments h held n = ((λ x. (all moments h held n).0 ((same n).0 x)), (λ w. (same n).1 ((all moments h held n).1 w)))
 
--- a look that gives a value gives what is known of it besides, and what follows from both
+-- a query with a result, and a known fact, together with their consequence
 pub look_known : {X E : Type 0} {P K Q : X → Type 0} (a b : State) (r : Result X E) → IsLook r P a b → IfOk r K → ((x : X) → HasCleanDisk b → P x → K x → Q x) → IsLook r Q a b
 look_known a b (Ok x) look known so = record { given = λ clean. so x clean (look.given clean) known; same = look.same; left = look.left; survives = look.survives }
 look_known a b (Err e) look known so = record { given = λ _. tt; same = look.same; left = look.left; survives = look.survives }
 
--- a look, by what it means
+-- a read-only query, by its meaning
 pub look_means : {X E : Type 0} {P Q : X → Type 0} (a b : State) (r : Result X E) → IsLook r P a b → ((x : X) → P x → Q x) → IsLook r Q a b
 look_means a b (Ok x) look means = record { given = λ clean. means x (look.given clean); same = look.same; left = look.left; survives = look.survives }
 look_means a b (Err e) look means = record { given = λ _. tt; same = look.same; left = look.left; survives = look.survives }

@@ -1,4 +1,4 @@
--- What the rules decide, by what stands.
+-- The policy's decisions, by the current versions.
 use Rattle.std.proofs.Common.{◌≡◌, ◌⊎◌, inl, inr, ℕ, ℤ, Bool, true, false, not, ◌&&◌, nat_eq, Some, refl, sym, subst}
 use Rattle.std.proofs.lemmas.Bool.{false≢true}
 use Rattle.std.proofs.lemmas.Bool.Decides.{Decides-and, Decides-eqb, Decides-like, Decides-or}
@@ -21,7 +21,7 @@ use Rattle.land_select_joins.specs.Sights.Selections.{Awaits, Credits, Entry, Ho
 use Rattle.land_tables_history.specs.History.{StandsAt}
 use Rattle.land_tables_history.specs.declared.history.History.{History}
 
--- what entries, members and mutations refer to stands
+-- the targets of references of entries, members and mutations exist
 pub record Refers (r : Register) : Type 0 where
   pub unit : (n : ℕ) (e : RrrRecord) → map.get r.rrrs n ≡ Some e → has r.units e.unit ≡ true
   pub party : (n : ℕ) (e : RrrRecord) → map.get r.rrrs n ≡ Some e → has r.parties e.party ≡ true
@@ -47,15 +47,15 @@ owned_is_right (Mortgage amount currency rank) h = absurd (false≢true h)
 abbrev pub Holds : (t : ℤ) → History → (caller : ℕ) → Entry → Type 0
 Holds t h caller e = HoldsItself t h caller e ⊎ HoldsThrough t h caller e
 
--- a right of some classes in a unit is held
+-- a right of some classes in a unit has a holder
 abbrev pub HeldAs : (t : ℤ) → History → (caller : ℕ) → (Class → Bool) → (unit : ℕ) → Type 0
 HeldAs t h caller is_of unit = (e : Entry) × Holds t h caller e × (is_of e.1.class ≡ true) × (e.1.unit ≡ unit)
 
--- an entry is told to a holder
+-- an entry that a holder sees
 abbrev pub ToldToHolder : (t : ℤ) → History → (caller : ℕ) → Entry → Type 0
 ToldToHolder t h caller seen = IsTold t h (HoldsItself t h caller) IsToldToHolder seen ⊎ IsTold t h (HoldsThrough t h caller) IsToldToHolder seen
 
--- an undecided mutation of a party names a unit
+-- a pending mutation of a party refers to a unit
 pub awaits_decides : (r : Register) (t : ℤ) (h : History) → StandsAt t h r → (p unit : ℕ) → Decides (is_lodger_on r p unit) (Awaits t h p unit)
 awaits_decides r t h is p unit =
     Decides-like (is_lodger_on r p unit)
@@ -74,7 +74,8 @@ awaits_decides r t h is p unit =
     (λ e stands. Decides-and _ _ (Decides-and _ _ (plain (is_undecided e.1)) (Decides-eqb e.1.lodger p)) (names_decides r t h is (λ k. nat_eq k unit) (λ k. k ≡ unit) (λ k. Decides-eqb k unit) e stands)))
 
 module _ (r : Register) (t : ℤ) (h : History) (is : StandsAt t h r) (refers : Refers r) (p : ℕ) where
-  -- the unit and the party of an entry that stands do so, a group and its members, and who lodged a mutation
+  -- an existing entry has a unit and a party that exist; so do a group and its members, and a mutation and
+  -- its lodger
   pub unit_stands : (e : Entry) → Stands t h.rrrs e → StandsUnder t h.units e.1.unit
   unit_stands e stands = (has_decides t h.units r.units is.units e.1.unit).0 (refers.unit e.0 e.1 (there t h.rrrs r.rrrs is.rrrs e stands))
 

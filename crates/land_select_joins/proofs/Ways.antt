@@ -1,4 +1,4 @@
--- In how many ways the tables of a join are passed through, by their rows and by the versions that these say.
+-- The number of matches of a join: by rows and by the versions of these.
 use Rattle.std.proofs.Common.{◌≡◌, inl, inr, ℕ, ℤ, ◌+◌, List, [], ◌∷◌, ◌++◌, length, map, Bool, true, false, ◌&&◌, cond, int_le, int_lt, filter, Result, Ok, Err, refl, sym, ap, ap₂, subst, ◌∙◌, IsPermutation, arith}
 use Rattle.std.proofs.lemmas.Bool.{and_from, and_parts}
 use Rattle.std.proofs.lemmas.List.Concat.{length-flat_map}
@@ -42,7 +42,7 @@ zeros : {X : Type 0} (xs : List X) → sum_by (λ x. 0) xs ≡ 0
 zeros [] = refl
 zeros (x ∷ xs) = sum_by-cons (λ x. 0) x xs ∙ ap (λ n. 0 + n) (zeros xs)
 
--- of the versions that stand
+-- of the current versions
 sum_standing : {X : Type 0} (t : ℤ) (f : X → ℕ) (vs : List (Version X)) → sum_by (λ v. cond (stands t v) (f v.what) 0) vs ≡ sum_by f (standing t vs)
 sum_standing t f [] = refl
 sum_standing {X} t f (v ∷ vs) = sum_by-cons (λ v. cond (stands t v) (f v.what) 0) v vs ∙ ap (λ n. cond (stands t v) (f v.what) 0 + n) (sum_standing t f vs) ∙ go (stands t v)
@@ -80,9 +80,9 @@ module _ (t : ℤ) where
       level us (λ u. sum_by (λ v. sum_by (λ w. cond (passes u v w) 1 0) ws) vs) (λ x. sum_by (λ y. count_by (test x y) (standing t ws)) (standing t vs))
       (λ u. two (stands t u) vs ws (passes u) (test u.what) (same u))
 
--- ---- ways
+-- ---- matches
 
--- through versions of these tables, in turn
+-- by versions of these tables, in order
 abbrev pub ways_through : History → List Place → (Env → Bool) → Env → ℕ
 ways_through h [] passes s = cond (passes s) 1 0
 ways_through h (p ∷ ps) passes s = sum_by (λ v. ways_through h ps passes (s ++ shape p v ∷ [])) (versions p h)
@@ -98,7 +98,7 @@ module _ (db over : Trees) (stored : (p : Place) → over (tree p) ≡ db (tree 
   abbrev Sure : Env → Type 0
   Sure s = (are_known filter s && is_whole (eval shown s)) ≡ true
 
-  -- what is known of shapes passes where their rows do
+  -- terms that hold of shapes hold of their rows
   as_shapes : (s env : Env) → AreShapes s env → AreShapes s s → Sure s → passes env ≡ passes s
   as_shapes s env shapes itself sure =
       let known = (and_parts (are_known filter s) (is_whole (eval shown s)) sure).0 in
@@ -113,7 +113,7 @@ module _ (db over : Trees) (stored : (p : Place) → over (tree p) ≡ db (tree 
   abbrev saying : (p : Place) → Row → Result (Version (What p)) WireFault
   saying p r = (reading p).said (columns_from 1 (reading p).width r)
 
-  -- as many rows are matched as there are ways through versions
+  -- there are as many matches of rows as of versions
   pub counted : (ps : List Place) (s env : Env) → AreShapes s env → AreShapes s s → ForAll ps Sure s → length (matches over filter (from ps) env) ≡ ways_through h ps passes s
   unfolding by_version
   counted [] s env shapes itself sure = one_way (passes env) env ∙ ap (λ b. cond b 1 0) (as_shapes s env shapes itself sure)
@@ -132,9 +132,9 @@ module _ (db over : Trees) (stored : (p : Place) → over (tree p) ≡ db (tree 
       ∙ sym (sum_by-IsPermutation (by_version p ps s) (map (saying p) rows) (map fine (versions p h)) said)
       ∙ sum_mapped (by_version p ps s) fine (versions p h)
 
--- ---- what passes
+-- ---- tests
 
--- versions that stand, and are so
+-- current versions with a property
 abbrev pub Lives : {X : Type 0} → (t : ℤ) → Version X → Type 0 → Type 0
 Lives t v Rest = (int_le v.since t ≡ true) × ((int_lt t v.until ≡ true) × Rest)
 

@@ -1,4 +1,4 @@
--- Which words and numbers the cells of a row have, by what they say.
+-- The words and numbers in the cells of a row, by their contents.
 use Rattle.std.proofs.Common.{◌≡◌, ◌⊎◌, inl, inr, ℕ, List, codes, bytes_eq, Bool, true, false, if◌then◌else◌, Result, Ok, Err, refl, sym, ap, ◌∙◌}
 use Rattle.std.proofs.lemmas.Slice.Eq.{bytes_eq-Decides}
 use Rattle.land_core.specs.Numbers.{is_number}
@@ -27,7 +27,7 @@ use Rattle.sqlite_value.specs.Order.{Row, column}
 use Rattle.sqlite_value.specs.declared.value.Value.{Value}
 use Rattle.sqlite_value.specs.declared.value.Value.TheVariants.{Text}
 
--- a number that is read is within its limits
+-- a decoded number is within its limits
 within : (b : Bool) (m n : ℕ) → b ≡ is_number m → ◌≡◌ {A = Result ℕ WireFault} (if b then Ok m else Err fault.Number) (Ok n) → is_number n ≡ true
 within true m n is e = ap is_number (sym (same_value m n e)) ∙ sym is
 within false m n is e = let none : ⊥ = cc in absurd none
@@ -40,12 +40,12 @@ in_range c n e =
 
 -- ---- words
 
--- a word that is tried
+-- a word that is compared
 tried : {X : Type 0} (b : Bool) (w t : List ℕ) (x y : X) (rest : Result X WireFault) → bytes_eq w t ≡ b → (if b then Ok x else rest) ≡ Ok y → ((w ≡ t) × (x ≡ y)) ⊎ (rest ≡ Ok y)
 tried true w t x y rest is e = inl ((bytes_eq-Decides w t).0 is, same_value x y e)
 tried false w t x y rest is e = inr e
 
--- the next words are tried where it is not this one
+-- the next words are compared if it is not this one
 or_else : {X : Type 0} (wording : X → List ℕ) (w t : List ℕ) (x y : X) (rest : Result X WireFault) → t ≡ wording x → (rest ≡ Ok y → w ≡ wording y) → (if bytes_eq w t then Ok x else rest) ≡ Ok y
     → w ≡ wording y
 or_else wording w t x y rest is later e = elim (tried (bytes_eq w t) w t x y rest refl e) [
@@ -111,7 +111,7 @@ class_cell c which e =
 
 -- ---- the class of an entry
 
--- which word a class has
+-- the word of a class
 abbrev pub which_of : Class → ClassWord
 which_of (class.Right type share) = word.Right type
 which_of (class.Restriction words) = word.Restriction

@@ -1,4 +1,4 @@
--- Definitions of the texts of the selections, of what they mean, and of what running them gives.
+-- Definitions of the selections' SQL statements, their meaning and their results.
 pub mod Meaning
 pub mod Running
 pub mod Sight

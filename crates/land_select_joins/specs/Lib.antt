@@ -1,4 +1,5 @@
--- Definitions of what is selected from the tables: what a caller may see, texts of SQL and their meaning, look-ups.
+-- Definitions of queries on the tables: what a caller sees, SQL statements with their meaning, and lookups.
 pub mod Joins
 pub mod Lookups
 pub mod Sights
+pub mod TableReads

@@ -1,5 +1,5 @@
--- Definitions of what look-ups find, of their texts, and of the parts of a register that are made of it.
-pub mod Finding
+-- Definitions of lookups: their results, their SQL statements, and the parts of a register that they return.
+pub mod RecordRows
 pub mod Numbered
 pub mod Numbers
 pub mod Parties

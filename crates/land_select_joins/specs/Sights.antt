@@ -1,19 +1,33 @@
--- The sight of a role, kind by kind: the selections of which it is the union.
+-- The selections whose union is the sight of a role, for each kind.
 pub mod Laws
 pub mod Selections
 use Rattle.std.specs.Prelude.{◌⊎◌, ℕ, ℤ, List, [], ◌∷◌}
 use Rattle.land_core.specs.declared.kind.Kind.{Kind}
 use Rattle.land_core.specs.declared.kind.Kind.TheVariants as kind
 use Rattle.land_core.specs.declared.role.Role.{Role}
-use Rattle.land_core.specs.declared.role.Role.TheVariants.{Citizen, Conveyancer, Notary, Bank, CertifiedSurveyor, StateAdministrator}
+use Rattle.land_core.specs.declared.role.Role.TheVariants.{Citizen, Conveyancer, Notary, Bank}
+use Rattle.land_core.specs.declared.role.Role.TheVariants.{CertifiedSurveyor, StateAdministrator}
 use Rattle.land_select_joins.specs.Sights.Selections.{selects}
 use Rattle.land_select_joins.specs.declared.sights.selection.Selection.{Selection}
-use Rattle.land_select_joins.specs.declared.sights.selection.Selection.TheVariants.{All, Itself, ItsGroups, ItsLodgings, HeldUnits, GroupUnits, HeldEntries, GroupEntries, HeldParties, GroupParties, HeldMutations, GroupMutations, CreditUnits, CreditEntries, CreditParties, LodgedUnits, LodgedEntries, LodgedParties}
+use Rattle.land_select_joins.specs.declared.sights.selection.Selection.TheVariants.{All, Itself, ItsGroups}
+use Rattle.land_select_joins.specs.declared.sights.selection.Selection.TheVariants.{ItsLodgings, HeldUnits}
+use Rattle.land_select_joins.specs.declared.sights.selection.Selection.TheVariants.{GroupUnits, HeldEntries}
+use Rattle.land_select_joins.specs.declared.sights.selection.Selection.TheVariants.{GroupEntries, HeldParties}
+use Rattle.land_select_joins.specs.declared.sights.selection.Selection.TheVariants.{GroupParties}
+use Rattle.land_select_joins.specs.declared.sights.selection.Selection.TheVariants.{HeldMutations}
+use Rattle.land_select_joins.specs.declared.sights.selection.Selection.TheVariants.{GroupMutations}
+use Rattle.land_select_joins.specs.declared.sights.selection.Selection.TheVariants.{CreditUnits}
+use Rattle.land_select_joins.specs.declared.sights.selection.Selection.TheVariants.{CreditEntries}
+use Rattle.land_select_joins.specs.declared.sights.selection.Selection.TheVariants.{CreditParties}
+use Rattle.land_select_joins.specs.declared.sights.selection.Selection.TheVariants.{LodgedUnits}
+use Rattle.land_select_joins.specs.declared.sights.selection.Selection.TheVariants.{LodgedEntries}
+use Rattle.land_select_joins.specs.declared.sights.selection.Selection.TheVariants.{LodgedParties}
 use Rattle.land_tables_history.specs.declared.history.History.{History}
 
--- the selections of a role and a kind: a citizen sees by what it holds, itself or through its groups; a bank by its mortgages; a
--- conveyancer by its undecided mutations; those who lodge see what they lodged; notaries and state administrators see all; and
--- everybody sees the parcels
+-- The selections of a role and a kind. A citizen sees by the rights that it holds, itself or through a group;
+-- a bank by its mortgages; a conveyancer by its pending mutations. Conveyancers, banks and surveyors see the
+-- mutations that they lodged. Notaries and state administrators see everything, and all roles see all
+-- parcels.
 abbrev pub selections_of : Role → Kind → List Selection
 selections_of Citizen kind.Party = Itself ∷ ItsGroups ∷ HeldParties ∷ GroupParties ∷ []
 selections_of Citizen kind.Unit = HeldUnits ∷ GroupUnits ∷ []
@@ -42,7 +56,7 @@ selections_of CertifiedSurveyor kind.Source = []
 selections_of CertifiedSurveyor kind.Mutation = ItsLodgings ∷ []
 selections_of StateAdministrator k = All k ∷ []
 
--- some of these selections gives a number to a caller
+-- at least one of these selections returns the number for the caller
 abbrev pub AnySelects : List Selection → (t : ℤ) → History → (caller number : ℕ) → Type 0
 AnySelects [] t h caller number = ⊥
 AnySelects (s ∷ ss) t h caller number = selects s t h caller number ⊎ AnySelects ss t h caller number

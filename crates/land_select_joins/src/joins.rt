@@ -1,4 +1,4 @@
-//! What a caller may see, selected from the tables: each selection as a text of SQL, its meaning, and the union of some.
+//! The objects that a caller sees: each selection as an SQL statement, its meaning, and the union of several.
 
 pub mod all;
 pub mod creditor;

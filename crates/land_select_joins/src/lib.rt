@@ -1,5 +1,5 @@
-//! What is selected from the tables: what a caller may see, as selections (`sights`) and as texts of SQL with their meaning (`joins`); what
-//! stands at a moment, found by the numbers of objects (`lookups`).
+//! Queries on the tables: the objects that a caller sees, as selections (`sights`) and as SQL statements with
+//! their meaning (`joins`); and records by key (`lookups`).
 #![tactic(auto)]
 
 pub mod joins;

@@ -1,9 +1,7 @@
-//! Look-ups: what of the register stands at a moment, found in the tables by numbers of objects.
+//! Lookups: parts of the register at a time, read from the tables by the number of an object.
 
 pub mod by_number;
-pub mod finding;
 pub mod lodgers;
-pub mod look_up;
 pub mod number_look_up;
 pub mod numbered;
 pub mod numbers;
@@ -16,6 +14,8 @@ pub mod of_party;
 pub mod of_unit;
 pub mod office;
 pub mod presence;
+pub mod record_lookup;
+pub mod record_rows;
 pub mod relation;
 pub mod seers;
 pub mod shown;

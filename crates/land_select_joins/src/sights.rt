@@ -1,4 +1,4 @@
-//! What a caller may see, as selections from the versions of the register's records.
+//! The objects that a caller sees, as selections from the versions of the register's records.
 
 pub mod laws;
 pub mod selection;

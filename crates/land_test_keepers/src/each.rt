@@ -1,4 +1,5 @@
-//! Each keeper of a new register: the one in memory, the one over the tables of sqlite read whole, and the one over the same read by joins.
+//! The three keepers of a new register: in memory (`PlainKeeper`), on tables that are read whole
+//! (`TableKeeper`), and on the same tables with indexed queries (`SqlKeeper`).
 use land_keep::keeper::Keeper;
 use land_keep::plain_keeper::PlainKeeper;
 use land_select::sql_keeper::SqlKeeper;
@@ -8,7 +9,7 @@ use land_test_scenario::stop::Stop;
 use sqlite::{Connection, MemStore};
 use std::alloc::Global;
 
-/// The tables of a new register.
+/// Creates the tables of a new register.
 pub fn new_tables(alloc: Global) -> Result<Tables<MemStore>, Stop> {
     match Tables::create(Connection::open_in_memory(alloc)?) {
         Ok(tables) => Ok(tables),
@@ -16,13 +17,13 @@ pub fn new_tables(alloc: Global) -> Result<Tables<MemStore>, Stop> {
     }
 }
 
-/// What is tried over a new register, whatever its keeper.
+/// A test case for a new register, with any keeper.
 pub trait Trial {
-    /// Tries it.
+    /// Runs the test case.
     fn run<K: Keeper>(&self, alloc: Global, keeper: &mut K) -> Result<(), Stop>;
 }
 
-/// Tries it over each keeper, over a new register each.
+/// Runs the test case for each keeper, each on a new register.
 pub fn over_each<T: Trial>(alloc: Global, trial: &T) -> Result<(), Stop> {
     let mut memory = PlainKeeper::new(alloc)?;
     trial.run(alloc, &mut memory)?;

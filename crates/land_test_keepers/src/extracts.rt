@@ -1,5 +1,6 @@
-//! Trials of extracts: those of a register after the scenario, over the plain keeper and over joins, and what is told where a writer
-//! fails; and the rows that are lent one at a time. Where memory is refused, the bytes that were written before are those that are told.
+//! Test cases of extracts: those of a register after the scenario, in memory and with indexed queries; errors
+//! of a writer; and rows that a keeper lends one at a time. If out of memory, the error has the number of
+//! bytes written before.
 
 pub mod extract_rows;
 pub mod lent_rows;

@@ -1,7 +1,7 @@
-//! How often calls of a keeper ask for memory: over the tables of sqlite read whole, and over the same read by joins and look-ups. By
-//! these a call has to ask for a part of it alone, or it reads what it does not tell. The same calls are made over each of the two,
-//! and what they are told is held; how often memory is asked for is counted from outside, by `.ci/alloc-counts`. What was found as a request was
-//! judged is not looked up again for its reply.
+//! The number of allocations of keeper calls, on whole tables and with indexed queries. An indexed call has
+//! to allocate only a small part of what whole tables need; more means that it reads data that it does not
+//! return. Both keepers get the same calls, and their results are checked; `.ci/alloc-counts` counts the
+//! allocations from outside. A value that a verdict has read is not read again for the reply.
 
 pub mod calls_read_less;
 pub(crate) mod marks;

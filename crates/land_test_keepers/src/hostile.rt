@@ -1,5 +1,5 @@
-//! Hostile use, over each keeper: a request that is cut off after each of its bytes, a reply that breaks off after each of its bytes, and
-//! the largest registration.
+//! Robustness tests with each keeper: a request that is truncated after each of its bytes, a reply whose
+//! writer fails after each of its bytes, and the largest registration.
 
 pub mod every_cut;
 pub mod every_write;

@@ -1,5 +1,5 @@
-//! The worked rows as bytes, over each keeper: the register in memory, the tables of sqlite read whole, and the same read by joins.
-//! What is told has to be, byte for byte, what the rows say, so that all keepers tell the same.
+//! The worked rows as bytes, with each keeper: in memory, on whole tables, and with indexed queries. The
+//! replies have to be those of the rows, byte for byte, so all keepers return the same.
 
 pub(crate) mod keepers;
 mod looks;

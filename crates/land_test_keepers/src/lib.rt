@@ -1,8 +1,9 @@
-//! Trials over the three keepers of the register, the one in memory, the one over whole tables and the one over joins: worked rows as bytes
-//! (`keepers`), hostile use (`hostile`), requests that meet a refused growth (`every_growth`), registers made by chance (`random`), what is
-//! read for a request (`growths`), which texts are run for a list (`sights`), extracts (`extracts`), large sizes (`sizes`). A trial is a public function that answers
-//! why it stops, if it does; the tests that call them are in `land_test_run_store`. Nothing here has a contract, but for the store of `sights`:
-//! it is for tests alone.
+//! Test cases for the three keepers of the register: in memory, on whole tables, and with indexed queries.
+//! Worked rows as bytes (`keepers`), robustness (`hostile`), requests with an allocation failure
+//! (`every_growth`), random registers (`random`), allocations of a request (`growths`), the SQL statements of
+//! a list (`sights`), extracts (`extracts`) and large sizes (`sizes`). A test case is a public function that
+//! returns an error if it fails; `land_test_run_store` has the tests that call them. Only the store of
+//! `sights` has contracts, as the store interface requires.
 #![tactic(auto)]
 
 mod each;

@@ -1,7 +1,8 @@
-//! Registers made by chance, over each keeper: requests that follow from a seed are answered over the register in memory, over the
-//! tables of sqlite read whole, and over the same read by joins. All three tell the same of each, byte for byte. Then the register in
-//! memory and the joins show the same to every party and to strangers, in every role and of every kind, now and at moments that are
-//! drawn, and so do the tables read whole, in a drawn part of these lists.
+//! Random registers, with each keeper: requests that follow from a seed are sent to the register in memory,
+//! to whole tables, and to the indexed keeper. All three return the same replies, byte for byte. Then the
+//! register in memory and the indexed keeper return the same lists to each party and to callers that are not
+//! parties, in each role and of each kind, now and at random times; whole tables do so for a random part of
+//! these lists.
 
 mod dice;
 mod drafts;

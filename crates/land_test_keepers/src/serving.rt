@@ -1,10 +1,10 @@
-//! Streams that a keeper is asked.
+//! Streams of requests to a keeper.
 use land_desk::serve::{DeskFault, Served, serve};
 use land_keep::keeper::Keeper;
 use land_test_scenario::doubles::{Pieces, Readings, Sink};
 use std::alloc::Global;
 
-/// Serves a stream over a keeper, where the clock reads 1000 each time. What was told before is taken off the sink.
+/// Serves a stream with a keeper and the clock at 1000. Clears the output of the stream before.
 pub fn serve_stream<K: Keeper>(
     alloc: Global,
     keeper: &mut K,

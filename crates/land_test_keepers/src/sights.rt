@@ -1,5 +1,5 @@
-//! What is asked of the store for a list, or for the view of a party: over joins a keeper runs the texts of that, one after another, and asks
-//! for nothing else.
+//! The store operations of a list, or of the view of a party: the indexed keeper runs the SQL statements of
+//! that request in order, and reads nothing else.
 
 pub mod parties_are_seen;
 mod recorder;

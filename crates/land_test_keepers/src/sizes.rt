@@ -1,5 +1,5 @@
-//! Sizes that no other test reaches: a list of more than 64 KiB, an extract of several parts with gaps between its numbers, each part more
-//! than 64 KiB, and a circle of more than 64 parties.
+//! Sizes that no other test reaches: a list of more than 64 KiB, an extract of several parts with gaps
+//! between its numbers, each part more than 64 KiB, and a circle of more than 64 parties.
 use crate::each::new_tables;
 use land_core::caller::Caller;
 use land_core::kind::Kind;
@@ -26,7 +26,7 @@ struct Requests {
 }
 
 impl Requests {
-    /// No request to a new register, whose clock reads 1000.
+    /// Returns no requests, for a new register whose clock is at 1000.
     fn new(alloc: Global) -> Result<Requests, AllocError> {
         Ok(Requests {
             talk: Talk::new(alloc)?,
@@ -36,7 +36,8 @@ impl Requests {
         })
     }
 
-    /// An act that creates `count` objects, of which the one at `place` is the object of the act. Returns the number of that object.
+    /// Adds an act that creates `count` objects, of which the one at `place` is the object of the act.
+    /// Returns the number of that object.
     fn act(&mut self, line: &str, fields: &str, count: u64, place: u64) -> Result<u64, AllocError> {
         self.talk.push_request(line, fields, self.text.as_bytes())?;
         let first = self.next;
@@ -58,7 +59,7 @@ impl Requests {
         Ok(number)
     }
 
-    /// Enrols a party under a name.
+    /// Adds the enrolment of a party with a name.
     fn enrol(&mut self, name: &str) -> Result<u64, AllocError> {
         self.text.clear();
         write!(
@@ -68,7 +69,7 @@ impl Requests {
         self.act("POST /acts/enrol", OFFICE, 1, 0)
     }
 
-    /// Registers a unit of a party with `parcels` parcels.
+    /// Adds the registration of a unit of a party with `parcels` parcels.
     fn register(&mut self, party: u64, parcels: u64) -> Result<u64, AllocError> {
         self.text.clear();
         self.text.push_str("{\"name\":\"G\",\"checked\":true,\"document\":\"D\",\"parcels\":[")?;
@@ -85,7 +86,7 @@ impl Requests {
         self.act("POST /acts/register", OFFICE, parcels.saturating_add(3), 1)
     }
 
-    /// A party gives a mandate to an agent.
+    /// Adds a mandate of a party for an agent.
     fn mandate(&mut self, fields: &str, agent: u64) -> Result<(), AllocError> {
         self.text.clear();
         write!(self.text, "{{\"agent\":{agent}}}")?;
@@ -102,7 +103,7 @@ impl Requests {
         self.talk.mark("a mandate", 0)
     }
 
-    /// A list that returns these numbers.
+    /// Adds a list that returns these numbers.
     fn list(&mut self, line: &str, fields: &str, numbers: &[u64]) -> Result<(), AllocError> {
         self.talk.push_request(line, fields, b"")?;
         self.text.clear();
@@ -122,7 +123,7 @@ impl Requests {
 /// The number of parties of the long list: its reply has 70,929 bytes of numbers and commas.
 const PARTIES: u64 = 12_000;
 
-/// Twelve thousand enrolments, and then the list of all parties.
+/// Returns twelve thousand enrolments, and then the list of all parties.
 fn long_list(alloc: Global) -> Result<Requests, AllocError> {
     let mut requests = Requests::new(alloc)?;
     let mut numbers = Vec::with_capacity(alloc, 16_384)?;
@@ -135,7 +136,7 @@ fn long_list(alloc: Global) -> Result<Requests, AllocError> {
     Ok(requests)
 }
 
-/// A list of 12,001 numbers is returned whole.
+/// Tests that a list of 12,001 numbers is returned whole.
 pub fn a_long_list_is_returned(alloc: Global) -> Result<(), Stop> {
     let requests = long_list(alloc)?;
     let mut keeper = SqlKeeper::new(new_tables(alloc)?);
@@ -145,7 +146,8 @@ pub fn a_long_list_is_returned(alloc: Global) -> Result<(), Stop> {
 /// The number of principals of one agent.
 const PRINCIPALS: u64 = 70;
 
-/// Seventy parties, each with a unit, give a mandate to party 2, which then lists all units as its own.
+/// Returns the requests of seventy parties, each with a unit, that give a mandate to party 2, which then
+/// lists all units as its own.
 fn large_circle(alloc: Global) -> Result<Requests, AllocError> {
     let mut requests = Requests::new(alloc)?;
     let mut units = Vec::with_capacity(alloc, 128)?;
@@ -170,7 +172,7 @@ fn large_circle(alloc: Global) -> Result<Requests, AllocError> {
     Ok(requests)
 }
 
-/// An agent of seventy principals sees the units of each.
+/// Tests that an agent of seventy principals sees the units of each.
 pub fn a_large_circle_is_seen(alloc: Global) -> Result<(), Stop> {
     let requests = large_circle(alloc)?;
     let mut plain = PlainKeeper::new(alloc)?;
@@ -179,7 +181,7 @@ pub fn a_large_circle_is_seen(alloc: Global) -> Result<(), Stop> {
     play(alloc, &mut keeper, &[], &requests.talk)
 }
 
-/// The name of each party of the extract: 200 characters of four bytes.
+/// Returns the name of each party of the extract: 200 characters of four bytes.
 fn long_name(alloc: Global) -> Result<String, AllocError> {
     let mut name = String::with_capacity(alloc, 1024)?;
     for _ in 0..200 {
@@ -188,7 +190,8 @@ fn long_name(alloc: Global) -> Result<String, AllocError> {
     Ok(name)
 }
 
-/// The extract of six hundred parties: after each hundred a registration takes 23 numbers, so that a part ends there or after 256 rows.
+/// Returns the extract of six hundred parties: after each hundred a registration takes 23 numbers, so that a
+/// part ends there or after 256 rows.
 fn long_extract(alloc: Global) -> Result<(Requests, String), AllocError> {
     let mut requests = Requests::new(alloc)?;
     let mut rows = String::with_capacity(alloc, 524_288)?;
@@ -205,7 +208,7 @@ fn long_extract(alloc: Global) -> Result<(Requests, String), AllocError> {
     Ok((requests, rows))
 }
 
-/// A keeper that gets these requests writes this extract of the parties.
+/// Checks that a keeper that gets these requests writes this extract of the parties.
 fn expect_extract<K: Keeper>(
     alloc: Global,
     keeper: &mut K,
@@ -234,7 +237,7 @@ fn expect_extract<K: Keeper>(
     }
 }
 
-/// An extract of several parts is written whole.
+/// Tests that an extract of several parts is written whole.
 pub fn a_long_extract_is_written(alloc: Global) -> Result<(), Stop> {
     let (requests, rows) = long_extract(alloc)?;
     let mut plain = PlainKeeper::new(alloc)?;

@@ -1,4 +1,4 @@
--- Parts of a register, as far as they are gathered.
+-- Parts of a register, read number by number.
 use Rattle.std.specs.Prelude.{◌≡◌, ℤ, ℕ, Bool, ◌||◌, nat_eq, List, [], ◌∷◌, Option, None, Some}
 use Rattle.std.specs.FinMap as map
 use Rattle.std.specs.FinMap.{FinMap}
@@ -15,16 +15,16 @@ use Rattle.land_core.specs.declared.register.Register.{Register}
 use Rattle.land_core.specs.declared.rrr.RrrRecord.{RrrRecord}
 use Rattle.land_core.specs.declared.source.SourceRecord.{SourceRecord}
 use Rattle.land_core.specs.declared.unit.UnitRecord.{UnitRecord}
-use Rattle.land_select.specs.declared.slices.holdings.Holdings.{Holdings}
-use Rattle.land_select.specs.declared.slices.papers.Papers.{Papers}
-use Rattle.land_select.specs.declared.slices.people.People.{People}
+use Rattle.land_select.specs.declared.slices.units_and_entries.UnitsAndEntries.{UnitsAndEntries}
+use Rattle.land_select.specs.declared.slices.gathered_sources.GatheredSources.{GatheredSources}
+use Rattle.land_select.specs.declared.slices.parties_and_roles.PartiesAndRoles.{PartiesAndRoles}
 use Rattle.land_select.specs.declared.slices.slice.Known.{Known}
 use Rattle.land_select_joins.specs.Joins.Running.{OfHeld}
 use Rattle.land_tables_history.specs.Groups.{HaveMembers}
 use Rattle.land_tables_history.specs.History.{StandsAt}
 use Rattle.sqlite_trees.specs.Tree.{Trees}
 
--- a number joins those that are asked for, and so do the numbers of a list
+-- a set of numbers with one more, or with those of a list
 abbrev pub with_number : ℕ → (ℕ → Bool) → ℕ → Bool
 with_number n asked k = nat_eq k n || asked k
 
@@ -32,65 +32,71 @@ abbrev pub with_numbers : List ℕ → (ℕ → Bool) → ℕ → Bool
 with_numbers [] asked = asked
 with_numbers (n ∷ ns) asked = with_numbers ns (with_number n asked)
 
--- at most one record, under its number
+-- at most one record, inserted with its number
 abbrev pub put_one : {V : Type 0} → FinMap nat_cmp V → ℕ → Option V → FinMap nat_cmp V
 put_one m n None = m
 put_one m n (Some value) = map.insert m n value
 
--- all that is in another map is put in
+-- all entries of another map, inserted
 abbrev pub put_all : {K V : Type 0} {R : K → K → _} → FinMap R V → FinMap R V → FinMap R V
 put_all m more = with_entries m (map.entries more)
 
--- what is known of the parties that are asked for, with their roles and their members
-pub record KnowsPeople (r : Register) (asked : ℕ → Bool) (known : People) : Type 0 where
+-- the parties of a set of numbers, with their roles and members, are those of the register
+pub record KnowsPeople (r : Register) (asked : ℕ → Bool) (known : PartiesAndRoles) : Type 0 where
   pub parties : known.parties ≡ only (λ n p. asked n) r.parties
   pub roles : known.roles ≡ only (λ grant u. asked grant.party) r.roles
   pub members : known.members ≡ only (λ n members. asked n) r.members
 
--- and of the units that are asked for, with their parcels and their entries
-pub record KnowsHoldings (r : Register) (asked : ℕ → Bool) (known : Holdings) : Type 0 where
+-- the units of a set of numbers, with their parcels and entries, are those of the register
+pub record KnowsHoldings (r : Register) (asked : ℕ → Bool) (known : UnitsAndEntries) : Type 0 where
   pub units : known.units ≡ only (λ n u. asked n) r.units
   pub parcels : known.parcels ≡ only (λ n p. asked p.unit) r.parcels
   pub rrrs : known.rrrs ≡ only (λ n e. asked e.unit) r.rrrs
 
--- and of the sources that are asked for
-pub record KnowsPapers (r : Register) (asked : ℕ → Bool) (known : Papers) : Type 0 where
+-- the sources of a set of numbers are those of the register
+pub record KnowsPapers (r : Register) (asked : ℕ → Bool) (known : GatheredSources) : Type 0 where
   pub sources : known.sources ≡ only (λ n s. asked n) r.sources
 
--- people, and one more with its roles and its members
-abbrev pub with_person : People → ℕ → Option PartyRecord → Grants → FinMap nat_cmp Members → People
+-- the parts with one more party, its roles and its members
+abbrev pub with_person : PartiesAndRoles → ℕ → Option PartyRecord → Grants → FinMap nat_cmp Members
+    → PartiesAndRoles
 with_person known n party roles members = record {
   parties = put_one known.parties n party;
   roles = put_all known.roles roles;
   members = put_all known.members members;
 }
 
--- units, and one more with its parcels and its entries
-abbrev pub with_unit : Holdings → ℕ → Option UnitRecord → FinMap nat_cmp ParcelRecord → FinMap nat_cmp RrrRecord → Holdings
+-- the parts with one more unit, its parcels and its entries
+abbrev pub with_unit : UnitsAndEntries → ℕ → Option UnitRecord → FinMap nat_cmp ParcelRecord
+    → FinMap nat_cmp RrrRecord → UnitsAndEntries
 with_unit known n unit parcels rrrs = record {
   units = put_one known.units n unit;
   parcels = put_all known.parcels parcels;
   rrrs = put_all known.rrrs rrrs;
 }
 
--- sources, and one more
-abbrev pub with_source : Papers → ℕ → Option SourceRecord → Papers
+-- the parts with one more source
+abbrev pub with_source : GatheredSources → ℕ → Option SourceRecord → GatheredSources
 with_source known n source = record { sources = put_one known.sources n source }
 
--- ---- what tables tell of them
+-- ---- results of reads
 
--- where the tables hold a history that at the moment stands for a register, in which no group is without members, this is so of that register
+-- If the tables hold a history that at time t represents a register without empty groups, the property holds
+-- of that register.
 abbrev pub IsSo : (Register → Type 0) → (t : ℤ) → Trees → Type 0
 IsSo holds t db = OfHeld db (λ h. (r : Register) → HaveMembers r.members → StandsAt t h r → holds r)
 
--- what was known of what is asked for is known with more
-abbrev pub Grows : {T : Type 0} → (Register → (ℕ → Bool) → T → Type 0) → (more : (ℕ → Bool) → ℕ → Bool) → (from it : T) → (t : ℤ) → Trees → Type 0
-Grows knows more from it t db = IsSo (λ r. (asked : ℕ → Bool) → knows r asked from → knows r (more asked) it) t db
+-- a part that is correct for a set of numbers is correct for a larger set after the read
+abbrev pub Grows : {T : Type 0} → (Register → (ℕ → Bool) → T → Type 0) → (more : (ℕ → Bool) → ℕ → Bool)
+    → (from it : T) → (t : ℤ) → Trees → Type 0
+Grows knows more from it t db = IsSo (λ r. (asked : ℕ → Bool) → knows r asked from → knows r (more asked) it)
+    t db
 
--- what is known of a slice before its sources, and before the entry that the act lifts, is that of the register
+-- the parts of a slice that are read first, before its sources and the lifted entry, are those of the
+-- register
 pub record IsKnown (r : Register) (caller : Caller) (a : Act) (known : Known) : Type 0 where
   pub mutations : known.mutations ≡ mutations_looked_at r caller a
-  pub people : KnowsPeople r (λ n. looks_at_party r a n) known.people
-  pub holdings : KnowsHoldings r (λ n. names_unit r a n) known.holdings
+  pub parties_and_roles : KnowsPeople r (λ n. looks_at_party r a n) known.parties_and_roles
+  pub units_and_entries : KnowsHoldings r (λ n. names_unit r a n) known.units_and_entries
   pub mandates : known.mandates ≡ only (λ m u. names_mandate caller a m) r.mandates
   pub next : r.next ≡ known.next

@@ -1,4 +1,4 @@
--- Whom and what an act names, of a register's mutations.
+-- The numbers that an act refers to, by a register's mutations.
 use Rattle.std.specs.Prelude.{ℕ, Bool, nat_eq, List, [], ◌∷◌, Option, Some, None, map as map_list}
 use Rattle.std.specs.FinMap as map
 use Rattle.std.specs.FinMap.{FinMap}
@@ -14,11 +14,11 @@ use Rattle.land_core.specs.declared.content.Content.TheVariants as content
 use Rattle.land_core.specs.declared.mandates.Mandate.{Mandate}
 use Rattle.land_core.specs.declared.mutation.MutationRecord.{MutationRecord}
 
--- whether a number is listed
+-- whether a number is in a list
 abbrev pub lists : List ℕ → ℕ → Bool
 lists numbers n = list_any (nat_eq n) numbers
 
--- the parties that a content names: who receives, or who lends
+-- the party that a content refers to: the receiver or the creditor
 abbrev pub parties_of_content : Content → List ℕ
 parties_of_content (content.Transfer it) = it.receiver ∷ []
 parties_of_content (content.Subdivision it) = []
@@ -26,7 +26,7 @@ parties_of_content (content.Merger it) = []
 parties_of_content (content.Mortgage it) = it.creditor ∷ []
 parties_of_content (content.Discharge it) = []
 
--- and the units
+-- the units that a content refers to
 abbrev pub units_of_content : Content → List ℕ
 units_of_content (content.Transfer it) = it.unit ∷ []
 units_of_content (content.Subdivision it) = it.unit ∷ []
@@ -34,11 +34,11 @@ units_of_content (content.Merger it) = it.unit ∷ it.others
 units_of_content (content.Mortgage it) = it.unit ∷ []
 units_of_content (content.Discharge it) = it.unit ∷ []
 
--- those of the content of a mutation that stands at a number
+-- those of the content of the mutation of a number, if it exists
 abbrev pub of_mutation : (Content → List ℕ) → FinMap nat_cmp MutationRecord → ℕ → List ℕ
 of_mutation listed mutations n = option_map_or (λ m. listed m.content) (map.get mutations n) []
 
--- the parties that an act names, in itself or through the mutation that it decides
+-- the parties that an act refers to, itself or by the mutation that it decides
 abbrev pub parties_of : Act → FinMap nat_cmp MutationRecord → List ℕ
 parties_of (act.Enrol it) mutations = []
 parties_of (act.Group it) mutations = map_list (λ member. member.party) it.members
@@ -54,7 +54,7 @@ parties_of (act.Lodge it) mutations = parties_of_content it.content
 parties_of (act.Approve it) mutations = of_mutation parties_of_content mutations it.mutation
 parties_of (act.Refuse it) mutations = of_mutation parties_of_content mutations it.mutation
 
--- the units that it names, likewise
+-- the units that an act refers to, itself or by the mutation that it decides
 abbrev pub units_of : Act → FinMap nat_cmp MutationRecord → List ℕ
 units_of (act.Enrol it) mutations = []
 units_of (act.Group it) mutations = []
@@ -70,7 +70,7 @@ units_of (act.Lodge it) mutations = units_of_content it.content
 units_of (act.Approve it) mutations = of_mutation units_of_content mutations it.mutation
 units_of (act.Refuse it) mutations = of_mutation units_of_content mutations it.mutation
 
--- the mandate that it gives or withdraws, if any
+-- the mandate that an act gives or withdraws, if any
 abbrev pub mandate_of_act : Caller → Act → Option Mandate
 mandate_of_act caller (act.Enrol it) = None
 mandate_of_act caller (act.Group it) = None

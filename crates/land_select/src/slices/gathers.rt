@@ -1,22 +1,20 @@
-//! Parts of a register that are gathered number by number.
-ghost use Rattle.std.specs.Prelude.{◌≡◌, false, ℕ, Bool, IsTrue};
+//! Parts of a register that are read number by number.
+ghost use Rattle.std.specs.Prelude.{ℕ, Bool};
 ghost use Rattle.land_core.specs.declared.register.Register.{Register};
 ghost use Rattle.land_select.specs.Slices.Gathered.{Grows, with_number, with_numbers};
-ghost use Rattle.land_tables_schema.specs.Land.{IsLand};
-ghost use Rattle.land_tables_schema.specs.Rows.Looks.{IsLook};
-ghost use Rattle.sqlite.specs.Held.{state};
-ghost use Rattle.sqlite.specs.State.{HasCleanDisk};
+ghost use Rattle.land_select_joins.specs.TableReads.{ReadsTables};
+ghost use Rattle.land_tables_schema.specs.Connections.{HasRegisterTables, IsUsable, LeavesAutocommit};
 
 use land_tables_rows::listing::fault::ReadFault;
 use sqlite::{Alter, Connection};
 use std::alloc::Global;
 
-/// A part of a register that is gathered number by number.
+/// A part of a register that is read number by number.
 pub(crate) trait Gathers: Sized {
-    /// That what a register has under the numbers that are asked for is known.
+    /// The part is correct for a set of numbers.
     ghost knows: { Register → (ℕ → Bool) → Self → Type 0 };
 
-    /// Looks up what stands under one more number at a moment, in milliseconds since 1970 UTC.
+    /// Reads the records of one more number at a time, in Unix milliseconds.
     fn gather<S: Alter>(
         self,
         alloc: Global,
@@ -24,12 +22,13 @@ pub(crate) trait Gathers: Sized {
         number: u64,
         at: i64,
     ) -> Result<Self, ReadFault>
-        requires land { HasCleanDisk (state S.Store conn.old) → IsLand (state S.Store conn.old).now.schema }
-        ensures look { IsLook result (λ it. Grows knows (with_number number) self it at (state S.Store conn.old).now.trees) (state S.Store conn.old) (state S.Store conn.new) }
-        ensures mode { conn.old.in_transaction ≡ false → conn.new.in_transaction ≡ false };
+        requires land { HasRegisterTables S.Store conn.old }
+        ensures look { ReadsTables S.Store result (λ db it. Grows knows (with_number number) self it at db)
+            conn.old conn.new }
+        ensures mode { LeavesAutocommit conn.old conn.new };
 }
 
-/// Looks up what stands under some numbers at a moment, in milliseconds since 1970 UTC.
+/// Reads the records of a list of numbers at a time, in Unix milliseconds.
 pub(crate) fn gather_all<G: Gathers + Drop, S: Alter>(
     alloc: Global,
     conn: &mut Connection<S>,
@@ -37,10 +36,11 @@ pub(crate) fn gather_all<G: Gathers + Drop, S: Alter>(
     numbers: &[u64],
     at: i64,
 ) -> Result<G, ReadFault>
-    requires open { HasCleanDisk (state S.Store conn.old) → IsTrue (state S.Store conn.old).is_open }
-    requires land { HasCleanDisk (state S.Store conn.old) → IsLand (state S.Store conn.old).now.schema }
-    ensures look { IsLook result (λ it. Grows G.knows (with_numbers numbers.now) from it at (state S.Store conn.old).now.trees) (state S.Store conn.old) (state S.Store conn.new) }
-    ensures mode { conn.old.in_transaction ≡ false → conn.new.in_transaction ≡ false }
+    requires open { IsUsable S.Store conn.old }
+    requires land { HasRegisterTables S.Store conn.old }
+    ensures look { ReadsTables S.Store result
+        (λ db it. Grows G.knows (with_numbers numbers.now) from it at db) conn.old conn.new }
+    ensures mode { LeavesAutocommit conn.old conn.new }
 {
     let mut gathered = from;
     for number in numbers {

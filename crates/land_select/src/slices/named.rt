@@ -1,6 +1,7 @@
-//! Whom and what an act names.
+//! The numbers that an act refers to.
 ghost use Rattle.std.specs.Prelude.{◌≡◌, [], ◌∷◌, map as map_list, IfOk};
-ghost use Rattle.land_select.specs.Slices.Named.{of_mutation, parties_of, parties_of_content, sources_of, units_of, units_of_content};
+ghost use Rattle.land_select.specs.Slices.Named.{of_mutation, parties_of, parties_of_content, sources_of};
+ghost use Rattle.land_select.specs.Slices.Named.{units_of, units_of_content};
 
 use land_core::act::{Act, NewRight};
 use land_core::content::Content;
@@ -11,7 +12,7 @@ use land_core::records::Records;
 use land_core::sequence::NumberList;
 use std::alloc::{AllocError, Global};
 
-/// The parties of listed members.
+/// Returns the parties of members.
 fn parties_of_members(alloc: Global, members: &[Member]) -> Result<NumberList, AllocError>
     ensures { IfOk result (λ it. it ≡ map_list (λ member. member.party) members.now) }
 {
@@ -22,7 +23,7 @@ fn parties_of_members(alloc: Global, members: &[Member]) -> Result<NumberList, A
     Ok(parties)
 }
 
-/// A group, and the parties of the members that it is to have.
+/// Returns a group and the parties of its new members.
 fn group_and_members(
     alloc: Global,
     group: u64,
@@ -37,7 +38,7 @@ fn group_and_members(
     Ok(parties)
 }
 
-/// The parties of first rights.
+/// Returns the parties of first rights.
 fn parties_of_rights(alloc: Global, rights: &[NewRight]) -> Result<NumberList, AllocError>
     ensures { IfOk result (λ it. it ≡ map_list (λ right. right.party) rights.now) }
 {
@@ -48,7 +49,7 @@ fn parties_of_rights(alloc: Global, rights: &[NewRight]) -> Result<NumberList, A
     Ok(parties)
 }
 
-/// The two parties of a mandate.
+/// Returns the two parties of a mandate.
 fn principal_and_agent(alloc: Global, mandate: Mandate) -> Result<NumberList, AllocError>
     ensures { IfOk result (λ it. it ≡ mandate.principal ∷ mandate.agent ∷ []) }
 {
@@ -57,7 +58,7 @@ fn principal_and_agent(alloc: Global, mandate: Mandate) -> Result<NumberList, Al
     Ok(parties)
 }
 
-/// The party that a content names, if any.
+/// Returns the party that a content refers to, if any.
 fn parties_of_content(alloc: Global, content: &Content) -> Result<NumberList, AllocError>
     ensures { IfOk result (λ it. it ≡ parties_of_content content.now) }
 {
@@ -70,7 +71,7 @@ fn parties_of_content(alloc: Global, content: &Content) -> Result<NumberList, Al
     }
 }
 
-/// A unit, and others.
+/// Returns a unit and others.
 fn unit_and_others(alloc: Global, unit: u64, others: &[u64]) -> Result<NumberList, AllocError>
     ensures { IfOk result (λ it. it ≡ unit ∷ others.now) }
 {
@@ -81,7 +82,7 @@ fn unit_and_others(alloc: Global, unit: u64, others: &[u64]) -> Result<NumberLis
     Ok(units)
 }
 
-/// The units that a content names.
+/// Returns the units that a content refers to.
 fn units_of_content(alloc: Global, content: &Content) -> Result<NumberList, AllocError>
     ensures { IfOk result (λ it. it ≡ units_of_content content.now) }
 {
@@ -94,7 +95,8 @@ fn units_of_content(alloc: Global, content: &Content) -> Result<NumberList, Allo
     }
 }
 
-/// The parties that an act names, in itself or through the mutation that it decides. 501: there was no memory.
+/// Returns the parties that an act refers to, itself or by the mutation that it decides. Fails if out of
+/// memory.
 pub(crate) fn parties_of(
     alloc: Global,
     act: &Act,
@@ -119,7 +121,8 @@ pub(crate) fn parties_of(
     }
 }
 
-/// The units that an act names, in itself or through the mutation that it decides. 501: there was no memory.
+/// Returns the units that an act refers to, itself or by the mutation that it decides. Fails if out of
+/// memory.
 pub(crate) fn units_of(
     alloc: Global,
     act: &Act,
@@ -138,7 +141,7 @@ pub(crate) fn units_of(
     }
 }
 
-/// The sources of some mutations. 501: there was no memory.
+/// Returns the sources of mutations. Fails if out of memory.
 pub(crate) fn sources_of(
     alloc: Global,
     mutations: &Records<MutationRecord>,

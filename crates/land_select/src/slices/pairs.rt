@@ -1,13 +1,11 @@
 //! The mandate that an act gives or withdraws.
-ghost use Rattle.std.specs.Prelude.{◌≡◌, false, IfOk, IsTrue};
+ghost use Rattle.std.specs.Prelude.{◌≡◌, IfOk};
 ghost use Rattle.land_acts.specs.Slices.{is_mandate, names_mandate};
 ghost use Rattle.land_core.specs.Entries.{only};
 ghost use Rattle.land_select.specs.Slices.Named.{mandate_of_act};
 ghost use Rattle.land_select_joins.specs.Lookups.Parts.{IsPart};
-ghost use Rattle.land_tables_schema.specs.Land.{IsLand};
-ghost use Rattle.land_tables_schema.specs.Rows.Looks.{IsLook};
-ghost use Rattle.sqlite.specs.Held.{state};
-ghost use Rattle.sqlite.specs.State.{HasCleanDisk};
+ghost use Rattle.land_select_joins.specs.TableReads.{ReadsTables};
+ghost use Rattle.land_tables_schema.specs.Connections.{HasRegisterTables, IsUsable, LeavesAutocommit};
 
 use land_core::act::Act;
 use land_core::caller::Caller;
@@ -17,7 +15,7 @@ use land_tables_rows::listing::fault::ReadFault;
 use sqlite::{Alter, Connection};
 use std::alloc::{AllocError, Global};
 
-/// The mandate that an act gives or withdraws, if any.
+/// Returns the mandate that an act gives or withdraws, if any.
 fn mandate_of_act(caller: Caller, act: &Act) -> Option<Mandate>
     ensures { result ≡ mandate_of_act caller act.now }
 {
@@ -31,14 +29,14 @@ fn mandate_of_act(caller: Caller, act: &Act) -> Option<Mandate>
     }
 }
 
-/// Whether a mandate is another: of the same principal, to the same agent.
+/// Checks if two mandates have the same principal and the same agent.
 fn is_mandate(it: Mandate, mandate: Mandate) -> bool
     ensures { result ≡ is_mandate it mandate }
 {
     mandate.principal == it.principal && mandate.agent == it.agent
 }
 
-/// A mandate alone, where it is among some.
+/// Returns a mandate as the only one, if it is in a list.
 fn one_of(alloc: Global, mandates: &Mandates, it: Mandate) -> Result<Mandates, AllocError>
     ensures { IfOk result (λ kept. kept ≡ only (λ mandate u. is_mandate it mandate) mandates.now) }
 {
@@ -51,22 +49,23 @@ fn one_of(alloc: Global, mandates: &Mandates, it: Mandate) -> Result<Mandates, A
     Ok(kept)
 }
 
-/// A mandate, if it stands: it is looked for among those that its agent holds.
+/// Reads a mandate, if it exists, from those that its agent holds.
 fn between<S: Alter>(
     alloc: Global,
     conn: &mut Connection<S>,
     it: Mandate,
     at: i64,
 ) -> Result<Mandates, ReadFault>
-    requires land { HasCleanDisk (state S.Store conn.old) → IsLand (state S.Store conn.old).now.schema }
-    ensures look { IsLook result (λ found. IsPart (λ r. only (λ mandate u. is_mandate it mandate) r.mandates) at (state S.Store conn.old).now.trees found) (state S.Store conn.old) (state S.Store conn.new) }
-    ensures mode { conn.old.in_transaction ≡ false → conn.new.in_transaction ≡ false }
+    requires land { HasRegisterTables S.Store conn.old }
+    ensures look { ReadsTables S.Store result
+        (IsPart (λ r. only (λ mandate u. is_mandate it mandate) r.mandates) at) conn.old conn.new }
+    ensures mode { LeavesAutocommit conn.old conn.new }
 {
     let held = of_agent::mandates(alloc, conn, it.agent, at)?;
     Ok(one_of(alloc, &held, it)?)
 }
 
-/// The mandate that an act gives or withdraws, if it stands at a moment in milliseconds since 1970 UTC.
+/// Reads the mandate that an act gives or withdraws, if it exists at a time, in Unix milliseconds.
 pub(crate) fn mandates_of<S: Alter>(
     alloc: Global,
     conn: &mut Connection<S>,
@@ -74,10 +73,12 @@ pub(crate) fn mandates_of<S: Alter>(
     act: &Act,
     at: i64,
 ) -> Result<Mandates, ReadFault>
-    requires open { HasCleanDisk (state S.Store conn.old) → IsTrue (state S.Store conn.old).is_open }
-    requires land { HasCleanDisk (state S.Store conn.old) → IsLand (state S.Store conn.old).now.schema }
-    ensures look { IsLook result (λ it. IsPart (λ r. only (λ mandate u. names_mandate caller act.now mandate) r.mandates) at (state S.Store conn.old).now.trees it) (state S.Store conn.old) (state S.Store conn.new) }
-    ensures mode { conn.old.in_transaction ≡ false → conn.new.in_transaction ≡ false }
+    requires open { IsUsable S.Store conn.old }
+    requires land { HasRegisterTables S.Store conn.old }
+    ensures look { ReadsTables S.Store result
+        (IsPart (λ r. only (λ mandate u. names_mandate caller act.now mandate) r.mandates) at) conn.old
+        conn.new }
+    ensures mode { LeavesAutocommit conn.old conn.new }
 {
     match mandate_of_act(caller, act) {
         Some(it) => between(alloc, conn, it, at),

@@ -1,25 +1,24 @@
-//! The slice of a register for an act, by look-ups.
+//! Reads the slice of a register for an act, by lookups.
 ghost use Rattle.std.specs.FinMap as map;
-ghost use Rattle.std.specs.Prelude.{◌≡◌, ◌++◌, false, nat_eq, map as map_list, IfOk, IsTrue};
-ghost use Rattle.land_acts.specs.Slices.{looks_at_party, looks_at_source, mutations_looked_at, names_mandate, names_rrr, names_unit, slice_of};
+ghost use Rattle.std.specs.Prelude.{◌≡◌, ◌++◌, nat_eq, map as map_list, IfOk};
+ghost use Rattle.land_acts.specs.Slices.{looks_at_party, looks_at_source, mutations_looked_at, names_mandate};
+ghost use Rattle.land_acts.specs.Slices.{names_rrr, names_unit, slice_of};
 ghost use Rattle.land_core.specs.Entries.{only, some};
 ghost use Rattle.land_core.specs.Grants.{grants_in};
 ghost use Rattle.land_core.specs.declared.caller.Caller.{Caller as Asker};
 ghost use Rattle.land_select.specs.Slices.Gathered.{IsKnown, IsSo, KnowsHoldings, KnowsPapers, KnowsPeople};
 ghost use Rattle.land_select.specs.Slices.Named.{parties_of};
 ghost use Rattle.land_select_joins.specs.Lookups.Parts.{IsPart};
-ghost use Rattle.land_tables_schema.specs.Land.{IsLand};
-ghost use Rattle.land_tables_schema.specs.Rows.Looks.{IsLook};
-ghost use Rattle.sqlite.specs.Held.{state};
-ghost use Rattle.sqlite.specs.State.{HasCleanDisk};
+ghost use Rattle.land_select_joins.specs.TableReads.{ReadsTables};
+ghost use Rattle.land_tables_schema.specs.Connections.{HasRegisterTables, IsUsable, LeavesAutocommit};
 
+use crate::slices::gathered_sources::GatheredSources;
 use crate::slices::gathers::gather_all;
-use crate::slices::holdings::Holdings;
 use crate::slices::mutations::mutations_of;
 use crate::slices::named::{parties_of, sources_of, units_of};
 use crate::slices::pairs::mandates_of;
-use crate::slices::papers::Papers;
-use crate::slices::people::{People, put_all, put_one};
+use crate::slices::parties_and_roles::{PartiesAndRoles, put_all, put_one};
+use crate::slices::units_and_entries::UnitsAndEntries;
 use land_acts::slice::Slice;
 use land_core::act::Act;
 use land_core::caller::Caller;
@@ -35,14 +34,15 @@ use land_tables_rows::listing::fault::ReadFault;
 use sqlite::{Alter, Connection};
 use std::alloc::{AllocError, Global};
 
-/// The parties that an act names, and who holds some roles.
+/// Returns the parties that an act refers to, and the holders of some roles.
 fn named_and_holders(
     alloc: Global,
     act: &Act,
     mutations: &Records<MutationRecord>,
     roles: &Roles,
 ) -> Result<NumberList, AllocError>
-    ensures { IfOk result (λ it. it ≡ parties_of act.now mutations.now ++ map_list (λ grant. grant.party) (grants_in roles.now)) }
+    ensures { IfOk result (λ it. it ≡ parties_of act.now mutations.now ++ map_list (λ grant. grant.party)
+        (grants_in roles.now)) }
 {
     let mut parties = parties_of(alloc, act, mutations)?;
     for grant in roles.iter() {
@@ -51,83 +51,109 @@ fn named_and_holders(
     Ok(parties)
 }
 
-/// The parties that an act names, and all state administrators.
+/// Reads the parties that an act refers to, and all state administrators.
 fn people_of<S: Alter>(
     alloc: Global,
     conn: &mut Connection<S>,
     act: &Act,
     mutations: &Records<MutationRecord>,
     at: i64,
-) -> Result<People, ReadFault>
-    requires open { HasCleanDisk (state S.Store conn.old) → IsTrue (state S.Store conn.old).is_open }
-    requires land { HasCleanDisk (state S.Store conn.old) → IsLand (state S.Store conn.old).now.schema }
-    ensures look { IsLook result (λ it. IsSo (λ r. (caller : Asker) → mutations.now ≡ mutations_looked_at r caller act.now → KnowsPeople r (λ n. looks_at_party r act.now n) it) at (state S.Store conn.old).now.trees) (state S.Store conn.old) (state S.Store conn.new) }
-    ensures mode { conn.old.in_transaction ≡ false → conn.new.in_transaction ≡ false }
+) -> Result<PartiesAndRoles, ReadFault>
+    requires open { IsUsable S.Store conn.old }
+    requires land { HasRegisterTables S.Store conn.old }
+    ensures look { ReadsTables S.Store result
+        (λ db it. IsSo (λ r. (caller : Asker) → mutations.now ≡ mutations_looked_at r caller act.now
+        → KnowsPeople r (λ n. looks_at_party r act.now n) it) at db) conn.old conn.new }
+    ensures mode { LeavesAutocommit conn.old conn.new }
 {
     let office = office::administrators(alloc, conn, at)?;
     let parties = named_and_holders(alloc, act, mutations, &office)?;
-    gather_all(alloc, conn, People::nobody(alloc), parties.as_slice(), at)
+    gather_all(
+        alloc,
+        conn,
+        PartiesAndRoles::nobody(alloc),
+        parties.as_slice(),
+        at,
+    )
 }
 
-/// The units that an act names.
+/// Reads the units that an act refers to.
 fn holdings_of<S: Alter>(
     alloc: Global,
     conn: &mut Connection<S>,
     act: &Act,
     mutations: &Records<MutationRecord>,
     at: i64,
-) -> Result<Holdings, ReadFault>
-    requires open { HasCleanDisk (state S.Store conn.old) → IsTrue (state S.Store conn.old).is_open }
-    requires land { HasCleanDisk (state S.Store conn.old) → IsLand (state S.Store conn.old).now.schema }
-    ensures look { IsLook result (λ it. IsSo (λ r. (caller : Asker) → mutations.now ≡ mutations_looked_at r caller act.now → KnowsHoldings r (λ n. names_unit r act.now n) it) at (state S.Store conn.old).now.trees) (state S.Store conn.old) (state S.Store conn.new) }
-    ensures mode { conn.old.in_transaction ≡ false → conn.new.in_transaction ≡ false }
+) -> Result<UnitsAndEntries, ReadFault>
+    requires open { IsUsable S.Store conn.old }
+    requires land { HasRegisterTables S.Store conn.old }
+    ensures look { ReadsTables S.Store result
+        (λ db it. IsSo (λ r. (caller : Asker) → mutations.now ≡ mutations_looked_at r caller act.now
+        → KnowsHoldings r (λ n. names_unit r act.now n) it) at db) conn.old conn.new }
+    ensures mode { LeavesAutocommit conn.old conn.new }
 {
     let units = units_of(alloc, act, mutations)?;
-    gather_all(alloc, conn, Holdings::none(alloc), units.as_slice(), at)
+    gather_all(
+        alloc,
+        conn,
+        UnitsAndEntries::none(alloc),
+        units.as_slice(),
+        at,
+    )
 }
 
-/// The sources of the mutations that an act is about.
+/// Reads the sources of the mutations that an act refers to.
 fn papers_of<S: Alter>(
     alloc: Global,
     conn: &mut Connection<S>,
     mutations: &Records<MutationRecord>,
     at: i64,
-) -> Result<Papers, ReadFault>
-    requires open { HasCleanDisk (state S.Store conn.old) → IsTrue (state S.Store conn.old).is_open }
-    requires land { HasCleanDisk (state S.Store conn.old) → IsLand (state S.Store conn.old).now.schema }
-    ensures look { IsLook result (λ it. IsSo (λ r. KnowsPapers r (λ n. some (λ k m. nat_eq m.source n) mutations.now) it) at (state S.Store conn.old).now.trees) (state S.Store conn.old) (state S.Store conn.new) }
-    ensures mode { conn.old.in_transaction ≡ false → conn.new.in_transaction ≡ false }
+) -> Result<GatheredSources, ReadFault>
+    requires open { IsUsable S.Store conn.old }
+    requires land { HasRegisterTables S.Store conn.old }
+    ensures look { ReadsTables S.Store result
+        (λ db it. IsSo (λ r. KnowsPapers r (λ n. some (λ k m. nat_eq m.source n) mutations.now) it) at db)
+        conn.old conn.new }
+    ensures mode { LeavesAutocommit conn.old conn.new }
 {
     let sources = sources_of(alloc, mutations)?;
-    gather_all(alloc, conn, Papers::none(alloc), sources.as_slice(), at)
+    gather_all(
+        alloc,
+        conn,
+        GatheredSources::none(alloc),
+        sources.as_slice(),
+        at,
+    )
 }
 
-/// The entry at a number, if one stands there.
+/// Reads the entry of a number, if it exists.
 fn entry_at<S: Alter>(
     alloc: Global,
     conn: &mut Connection<S>,
     number: u64,
     at: i64,
 ) -> Result<Records<RrrRecord>, ReadFault>
-    requires land { HasCleanDisk (state S.Store conn.old) → IsLand (state S.Store conn.old).now.schema }
-    ensures look { IsLook result (λ it. IsPart (λ r. only (λ n e. nat_eq n number) r.rrrs) at (state S.Store conn.old).now.trees it) (state S.Store conn.old) (state S.Store conn.new) }
-    ensures mode { conn.old.in_transaction ≡ false → conn.new.in_transaction ≡ false }
+    requires land { HasRegisterTables S.Store conn.old }
+    ensures look { ReadsTables S.Store result (IsPart (λ r. only (λ n e. nat_eq n number) r.rrrs) at) conn.old
+        conn.new }
+    ensures mode { LeavesAutocommit conn.old conn.new }
 {
     let found = by_number::record(alloc, conn, number, at)?;
     Ok(put_one(Records::new(alloc), number, found)?)
 }
 
-/// The entry that an act lifts, if it lifts one.
+/// Reads the entry that an act lifts, if any.
 fn lifted_by<S: Alter>(
     alloc: Global,
     conn: &mut Connection<S>,
     act: &Act,
     at: i64,
 ) -> Result<Records<RrrRecord>, ReadFault>
-    requires open { HasCleanDisk (state S.Store conn.old) → IsTrue (state S.Store conn.old).is_open }
-    requires land { HasCleanDisk (state S.Store conn.old) → IsLand (state S.Store conn.old).now.schema }
-    ensures look { IsLook result (λ it. IsPart (λ r. only (λ n e. names_rrr r act.now n) r.rrrs) at (state S.Store conn.old).now.trees it) (state S.Store conn.old) (state S.Store conn.new) }
-    ensures mode { conn.old.in_transaction ≡ false → conn.new.in_transaction ≡ false }
+    requires open { IsUsable S.Store conn.old }
+    requires land { HasRegisterTables S.Store conn.old }
+    ensures look { ReadsTables S.Store result (IsPart (λ r. only (λ n e. names_rrr r act.now n) r.rrrs) at)
+        conn.old conn.new }
+    ensures mode { LeavesAutocommit conn.old conn.new }
 {
     match act {
         Act::Lift(it) => entry_at(alloc, conn, it.rrr, at),
@@ -135,17 +161,17 @@ fn lifted_by<S: Alter>(
     }
 }
 
-/// What of a slice is known before its sources and the entry that is lifted.
+/// The parts of a slice that are read before its sources and the lifted entry.
 #[derive(Debug, Drop)]
 struct Known {
     mutations: Records<MutationRecord>,
-    people: People,
-    holdings: Holdings,
+    parties_and_roles: PartiesAndRoles,
+    units_and_entries: UnitsAndEntries,
     mandates: Mandates,
     next: u64,
 }
 
-/// The slice, of what is known of it.
+/// Completes a slice.
 fn slice_with<S: Alter>(
     alloc: Global,
     conn: &mut Connection<S>,
@@ -153,35 +179,37 @@ fn slice_with<S: Alter>(
     known: Known,
     at: i64,
 ) -> Result<Slice, ReadFault>
-    requires open { HasCleanDisk (state S.Store conn.old) → IsTrue (state S.Store conn.old).is_open }
-    requires land { HasCleanDisk (state S.Store conn.old) → IsLand (state S.Store conn.old).now.schema }
-    ensures look { IsLook result (λ it. IsSo (λ r. (caller : Asker) → IsKnown r caller act.now known → it ≡ slice_of r caller act.now) at (state S.Store conn.old).now.trees) (state S.Store conn.old) (state S.Store conn.new) }
-    ensures mode { conn.old.in_transaction ≡ false → conn.new.in_transaction ≡ false }
+    requires open { IsUsable S.Store conn.old }
+    requires land { HasRegisterTables S.Store conn.old }
+    ensures look { ReadsTables S.Store result
+        (λ db it. IsSo (λ r. (caller : Asker) → IsKnown r caller act.now known
+        → it ≡ slice_of r caller act.now) at db) conn.old conn.new }
+    ensures mode { LeavesAutocommit conn.old conn.new }
 {
     let Known {
         mutations,
-        people,
-        holdings,
+        parties_and_roles,
+        units_and_entries,
         mandates,
         next,
     } = known;
-    let papers = papers_of(alloc, conn, &mutations, at)?;
+    let gathered_sources = papers_of(alloc, conn, &mutations, at)?;
     let lifted = lifted_by(alloc, conn, act, at)?;
     Ok(Register {
-        parties: people.parties,
-        roles: people.roles,
-        members: people.members,
-        units: holdings.units,
-        parcels: holdings.parcels,
-        rrrs: put_all(alloc, holdings.rrrs, &lifted)?,
-        sources: papers.sources,
+        parties: parties_and_roles.parties,
+        roles: parties_and_roles.roles,
+        members: parties_and_roles.members,
+        units: units_and_entries.units,
+        parcels: units_and_entries.parcels,
+        rrrs: put_all(alloc, units_and_entries.rrrs, &lifted)?,
+        sources: gathered_sources.sources,
         mutations,
         mandates,
         next,
     })
 }
 
-/// The slice, of the mutations that the act is about and of the mandate that it names.
+/// Reads the slice of an act whose mutations and mandate are known.
 fn slice_about<S: Alter>(
     alloc: Global,
     conn: &mut Connection<S>,
@@ -191,26 +219,30 @@ fn slice_about<S: Alter>(
     next: u64,
     at: i64,
 ) -> Result<Slice, ReadFault>
-    requires open { HasCleanDisk (state S.Store conn.old) → IsTrue (state S.Store conn.old).is_open }
-    requires land { HasCleanDisk (state S.Store conn.old) → IsLand (state S.Store conn.old).now.schema }
-    ensures look { IsLook result (λ it. IsSo (λ r. r.next ≡ next → (caller : Asker) → mutations ≡ mutations_looked_at r caller act.now → mandates ≡ only (λ m u. names_mandate caller act.now m) r.mandates → it ≡ slice_of r caller act.now) at (state S.Store conn.old).now.trees) (state S.Store conn.old) (state S.Store conn.new) }
-    ensures mode { conn.old.in_transaction ≡ false → conn.new.in_transaction ≡ false }
+    requires open { IsUsable S.Store conn.old }
+    requires land { HasRegisterTables S.Store conn.old }
+    ensures look { ReadsTables S.Store result
+        (λ db it. IsSo (λ r. r.next ≡ next → (caller : Asker)
+        → mutations ≡ mutations_looked_at r caller act.now
+        → mandates ≡ only (λ m u. names_mandate caller act.now m) r.mandates → it ≡ slice_of r caller act.now)
+        at db) conn.old conn.new }
+    ensures mode { LeavesAutocommit conn.old conn.new }
 {
-    let people = people_of(alloc, conn, act, &mutations, at)?;
-    let holdings = holdings_of(alloc, conn, act, &mutations, at)?;
+    let parties_and_roles = people_of(alloc, conn, act, &mutations, at)?;
+    let units_and_entries = holdings_of(alloc, conn, act, &mutations, at)?;
     let known = Known {
         mutations,
-        people,
-        holdings,
+        parties_and_roles,
+        units_and_entries,
         mandates,
         next,
     };
     slice_with(alloc, conn, act, known, at)
 }
 
-/// The slice for an act of the register that stands at a moment, in milliseconds since 1970 UTC, and whose next number is given: nothing is read
-/// but what stands under the numbers that the act names, and under the number of its caller. 520: the tables hold no history. 501: there was no
-/// memory.
+/// Reads the slice for an act at a time, in Unix milliseconds, with the given next number. Only records of
+/// the numbers that the act refers to, and those of its caller, are read. Returns error 520 only if the
+/// tables hold no history, and 501 if out of memory.
 pub fn slice_at<S: Alter>(
     alloc: Global,
     conn: &mut Connection<S>,
@@ -219,10 +251,11 @@ pub fn slice_at<S: Alter>(
     next: u64,
     at: i64,
 ) -> Result<Slice, ReadFault>
-    requires open { HasCleanDisk (state S.Store conn.old) → IsTrue (state S.Store conn.old).is_open }
-    requires land { HasCleanDisk (state S.Store conn.old) → IsLand (state S.Store conn.old).now.schema }
-    ensures look { IsLook result (λ it. IsSo (λ r. r.next ≡ next → it ≡ slice_of r caller act.now) at (state S.Store conn.old).now.trees) (state S.Store conn.old) (state S.Store conn.new) }
-    ensures mode { conn.old.in_transaction ≡ false → conn.new.in_transaction ≡ false }
+    requires open { IsUsable S.Store conn.old }
+    requires land { HasRegisterTables S.Store conn.old }
+    ensures look { ReadsTables S.Store result
+        (λ db it. IsSo (λ r. r.next ≡ next → it ≡ slice_of r caller act.now) at db) conn.old conn.new }
+    ensures mode { LeavesAutocommit conn.old conn.new }
 {
     let mutations = mutations_of(alloc, conn, caller, act, at)?;
     let mandates = mandates_of(alloc, conn, caller, act, at)?;

@@ -1,4 +1,4 @@
--- What running the texts of selections gives.
+-- The results of running the statements of selections.
 use Rattle.std.specs.Prelude.{◌≡◌, ◌⊎◌, ◌↔◌, ℕ, ℤ, List, [], ◌∷◌, if◌then◌else◌}
 use Rattle.std.specs.List.{Contains}
 use Rattle.land_core.specs.Numbers.{is_number}
@@ -14,39 +14,39 @@ use Rattle.land_tables_rows.specs.declared.listing.fault.ReadFault.TheVariants.{
 use Rattle.sqlite_trees.specs.Tree.{Trees}
 use Rattle.sqlite_value.specs.Order.{Row}
 
--- The number for which a caller is asked for: its own, or 0 where that is none that an object can have, which is nobody's.
+-- The number that a query uses for a caller: its own, or 0, which no object has, if it is out of range.
 abbrev pub asked_for : (caller : ℕ) → ℕ
 asked_for caller = if is_number caller then caller else 0
 
--- these are the wanted numbers and no others, in whatever order
+-- the list has exactly the wanted numbers, in any order
 abbrev pub AreAll : List ℕ → (ℕ → Type 0) → Type 0
 AreAll numbers Wanted = (n : ℕ) → Contains numbers n ↔ Wanted n
 
--- whatever history the tables hold
+-- P holds of each history that the tables hold
 abbrev pub OfHeld : Trees → (History → Type 0) → Type 0
 OfHeld db P = (moments : List Moment) (history : History) → HoldsHistory db moments history → P history
 
--- the rows that a selection gives to a caller at a moment
+-- the rows that a selection returns for a caller at a time
 abbrev pub AreRowsOf : Selection → (t : ℤ) → (caller : ℕ) → Trees → List Row → Type 0
 AreRowsOf s t caller db rows = OfHeld db (λ h. AreNumberRows rows (selects s t h caller))
 
--- the numbers that a selection gives to a caller at a moment
+-- the numbers that a selection returns for a caller at a time
 abbrev pub AreNumbersOf : Selection → (t : ℤ) → (caller : ℕ) → Trees → List ℕ → Type 0
 AreNumbersOf s t caller db numbers = OfHeld db (λ h. AreAll numbers (selects s t h caller))
 
--- the numbers that some of these selections gives to a caller at a moment
+-- the numbers that at least one of these selections returns for a caller at a time
 abbrev pub AreNumbersOfAny : List Selection → (t : ℤ) → (caller : ℕ) → Trees → List ℕ → Type 0
 AreNumbersOfAny ss t caller db numbers = OfHeld db (λ h. AreAll numbers (AnySelects ss t h caller))
 
--- some of these selections gives a number to one of some callers
+-- at least one of these selections returns the number for at least one of the callers
 abbrev pub AnyGiven : List Selection → (t : ℤ) → History → (callers : List ℕ) → (number : ℕ) → Type 0
 AnyGiven ss t h [] number = ⊥
 AnyGiven ss t h (caller ∷ callers) number = AnySelects ss t h caller number ⊎ AnyGiven ss t h callers number
 
--- the numbers that some of these selections gives at a moment to one of some callers
+-- the numbers that at least one of these selections returns at a time for at least one of the callers
 abbrev pub AreNumbersForAny : List Selection → (t : ℤ) → (callers : List ℕ) → Trees → List ℕ → Type 0
 AreNumbersForAny ss t callers db numbers = OfHeld db (λ h. AreAll numbers (AnyGiven ss t h callers))
 
--- a fault that says that rows cannot be read is right: the tables hold no history
+-- the fault `Unreadable` is returned only if the tables hold no history
 abbrev pub HoldsNone : Trees → ReadFault → Type 0
 HoldsNone db fault = fault ≡ Unreadable → OfHeld db (λ h. ⊥)

@@ -1,4 +1,4 @@
--- What a caller sees of a kind, as the rules have it.
+-- The numbers of a kind that a caller sees, according to the policy.
 use Rattle.std.specs.Prelude.{◌≡◌, ℕ, ℤ, List}
 use Rattle.land_core.specs.declared.caller.Caller.{Caller}
 use Rattle.land_core.specs.declared.kind.Kind.{Kind}
@@ -10,11 +10,14 @@ use Rattle.land_select_joins.specs.Joins.Running.{OfHeld}
 use Rattle.land_tables_history.specs.History.{StandsAt}
 use Rattle.sqlite_trees.specs.Tree.{Trees}
 
--- Where the tables hold a history that at the moment stands for a register, sound or with nothing in it, these are the numbers of the kind
--- that the rules let the caller see in that register: none is missing, none is more, each stands once, and they ascend.
+-- If the tables hold a history that at time t represents a register, sound or empty, the list has exactly the
+-- numbers of the kind that the policy lets the caller see in it, in increasing order and without repetition.
 abbrev pub IsSight : Caller → Kind → (t : ℤ) → Trees → List ℕ → Type 0
-IsSight caller kind t db numbers = OfHeld db (λ h. (r : Register) → IsSoundOrNothing r → StandsAt t h r → numbers ≡ seen_of r caller kind)
+IsSight caller kind t db numbers = OfHeld db
+    (λ h. (r : Register) → IsSoundOrNothing r → StandsAt t h r → numbers ≡ seen_of r caller kind)
 
--- And these are those that the rules would let the caller see if no mandates stood in that register.
+-- The same for a policy without mandates.
 abbrev pub IsSightAlone : Caller → Kind → (t : ℤ) → Trees → List ℕ → Type 0
-IsSightAlone caller kind t db numbers = OfHeld db (λ h. (r : Register) → IsSoundOrNothing r → StandsAt t h r → numbers ≡ seen_of (without_mandates r) caller kind)
+IsSightAlone caller kind t db numbers =
+    OfHeld db (λ h. (r : Register) → IsSoundOrNothing r → StandsAt t h r
+    → numbers ≡ seen_of (without_mandates r) caller kind)

@@ -1,4 +1,4 @@
--- The text of each selection.
+-- The SQL statement of each selection.
 use Rattle.std.specs.Prelude.{ℕ, List}
 use Rattle.land_core.specs.declared.kind.Kind.{Kind}
 use Rattle.land_core.specs.declared.kind.Kind.TheVariants as kind
@@ -12,7 +12,7 @@ use Rattle.land_select_joins.specs.declared.joins.own.TheConstants as own
 use Rattle.land_select_joins.specs.declared.sights.selection.Selection.{Selection}
 use Rattle.land_select_joins.specs.declared.sights.selection.Selection.TheVariants as selection
 
--- all objects of a kind
+-- the statement that selects all objects of a kind
 abbrev pub all_text : Kind → List ℕ
 all_text kind.Party = all.PARTIES.now
 all_text kind.Unit = all.UNITS.now

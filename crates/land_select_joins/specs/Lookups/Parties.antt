@@ -17,14 +17,14 @@ use Rattle.sqlite_rules.specs.Lists.{Has}
 use Rattle.sqlite_trees.specs.Tree.{Trees}
 use Rattle.sqlite_value.specs.Order.{Row}
 
--- the entries of a unit, and those of a range of numbers
+-- whether an entry is of a unit, or in a range of numbers
 abbrev pub of_unit : (unit : ℕ) → (number : ℕ) → RrrRecord → Bool
 of_unit unit number entry = nat_eq entry.unit unit
 
 abbrev pub of_range : (first last : ℕ) → (number : ℕ) → RrrRecord → Bool
 of_range first last number entry = is_within first last number
 
--- whether a party has one of the entries that are meant
+-- whether a party has a matching entry
 abbrev pub has_entry_among : Register → (ℕ → RrrRecord → Bool) → (party : ℕ) → Bool
 has_entry_among r meant party = some (λ n e. meant n e && nat_eq e.party party) r.rrrs
 
@@ -32,32 +32,39 @@ has_entry_among r meant party = some (λ n e. meant n e && nat_eq e.party party)
 abbrev pub has_entry_in : Register → (unit party : ℕ) → Bool
 has_entry_in r unit party = has_entry_among r (of_unit unit) party
 
--- a party stands at a moment, and so does an entry that is meant and is the party's
-pub record HasEntry (t : ℤ) (h : History) (meant : ℕ → RrrRecord → Bool) (party : ℕ × PartyRecord) : Type 0 where
-  pub party_stands : Stands t h.parties party
-  pub entry : Entry
-  pub entry_stands : Stands t h.rrrs entry
-  pub is_meant : meant entry.0 entry.1 ≡ true
-  pub of_party : entry.1.party ≡ party.0
+-- a party is current at time t and has a current entry that matches
+pub record HasEntry (t : ℤ) (h : History) (meant : ℕ → RrrRecord → Bool) (party : ℕ × PartyRecord) : Type 0
+  where
+    pub party_stands : Stands t h.parties party
+    pub entry : Entry
+    pub entry_stands : Stands t h.rrrs entry
+    pub is_meant : meant entry.0 entry.1 ≡ true
+    pub of_party : entry.1.party ≡ party.0
 
--- each row says a version of a party that is wanted, and of each such party a row says one
+-- Each row decodes to a version of a wanted party, and each wanted party has a row.
 pub record SayParties (rows : List Row) (Wanted : ℕ × PartyRecord → Type 0) : Type 0 where
-  pub each : (row : Row) → Has rows row → (v : Version (ℕ × PartyRecord)) × (parties.said row ≡ Ok v) × Wanted v.what
-  pub all : (party : ℕ × PartyRecord) → Wanted party → (row : Row) × Has rows row × ((v : Version (ℕ × PartyRecord)) × (parties.said row ≡ Ok v) × (v.what ≡ party))
+  pub each : (row : Row) → Has rows row → (v : Version (ℕ × PartyRecord)) × (parties.said row ≡ Ok v)
+      × Wanted v.what
+  pub all : (party : ℕ × PartyRecord) → Wanted party → (row : Row) × Has rows row
+      × ((v : Version (ℕ × PartyRecord)) × (parties.said row ≡ Ok v) × (v.what ≡ party))
 
--- the rows of the parties that have an entry that is meant at a moment
+-- the rows of the parties that have a matching entry at a time
 abbrev pub ArePartyRows : (ℕ → RrrRecord → Bool) → (t : ℤ) → Trees → List Row → Type 0
 ArePartyRows meant t db rows = OfHeld db (λ h. SayParties rows (HasEntry t h meant))
 
--- where the tables hold a history that at the moment stands for a register, these are versions of the parties that have an entry that is meant
-abbrev pub ArePartiesAmong : (ℕ → RrrRecord → Bool) → (t : ℤ) → Trees → List (Version (ℕ × PartyRecord)) → Type 0
-ArePartiesAmong meant t db versions = OfHeld db (λ h. (r : Register) → StandsAt t h r → (party : ℕ × PartyRecord)
-    → Contains (map_list (λ (v : Version (ℕ × PartyRecord)). v.what) versions) party ↔ ((has_entry_among r meant party.0 ≡ true) × (map.get r.parties party.0 ≡ Some party.1)))
+-- If the tables hold a history that at time t represents a register, these are versions of the parties that
+-- have a matching entry in it.
+abbrev pub ArePartiesAmong : (ℕ → RrrRecord → Bool) → (t : ℤ) → Trees → List (Version (ℕ × PartyRecord))
+    → Type 0
+ArePartiesAmong meant t db versions =
+    OfHeld db (λ h. (r : Register) → StandsAt t h r → (party : ℕ × PartyRecord)
+    → Contains (map_list (λ (v : Version (ℕ × PartyRecord)). v.what) versions) party
+    ↔ ((has_entry_among r meant party.0 ≡ true) × (map.get r.parties party.0 ≡ Some party.1)))
 
--- those that have an entry in a unit
+-- the parties that have an entry in a unit
 abbrev pub ArePartiesIn : (unit : ℕ) → (t : ℤ) → Trees → List (Version (ℕ × PartyRecord)) → Type 0
 ArePartiesIn unit t db versions = ArePartiesAmong (of_unit unit) t db versions
 
--- those that have an entry in a range of numbers
+-- the parties that have an entry in a range of numbers
 abbrev pub ArePartiesWithin : (first last : ℕ) → (t : ℤ) → Trees → List (Version (ℕ × PartyRecord)) → Type 0
 ArePartiesWithin first last t db versions = ArePartiesAmong (of_range first last) t db versions

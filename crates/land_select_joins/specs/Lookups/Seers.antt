@@ -1,4 +1,4 @@
--- Who is told of a party, by what stands at a moment.
+-- The viewers of a party: the callers that see it by one of its entries.
 use Rattle.std.specs.List.{sum_by, count_by}
 use Rattle.std.specs.Prelude.{ℕ, ℤ, ◌≤◌, ◌<◌, nat_eq, Bool, ◌&&◌, ◌||◌, not, List, length, Option, Some, None}
 use Rattle.land_core.specs.Mutations.{is_undecided}
@@ -12,51 +12,61 @@ use Rattle.land_select_joins.specs.Sights.Selections.{Entry, selects}
 use Rattle.land_select_joins.specs.declared.lookups.relation.Relation.{Relation}
 use Rattle.land_select_joins.specs.declared.lookups.relation.Relation.TheVariants as relation
 use Rattle.land_select_joins.specs.declared.sights.selection.Selection.{Selection}
-use Rattle.land_select_joins.specs.declared.sights.selection.Selection.TheVariants.{HeldParties, CreditParties, LodgedParties}
+use Rattle.land_select_joins.specs.declared.sights.selection.Selection.TheVariants.{HeldParties}
+use Rattle.land_select_joins.specs.declared.sights.selection.Selection.TheVariants.{CreditParties}
+use Rattle.land_select_joins.specs.declared.sights.selection.Selection.TheVariants.{LodgedParties}
 use Rattle.land_tables_history.specs.Standing.{standing}
 use Rattle.land_tables_history.specs.declared.history.History.{History}
 use Rattle.land_tables_history.specs.declared.naming.Naming.{Naming}
 use Rattle.sqlite_trees.specs.Tree.{Trees}
 use Rattle.sqlite_value.specs.Order.{Row}
 
--- the selection that tells a caller of parties by such a relation to the units of their entries
+-- the selection that shows parties to a caller with this relation to the units of their entries
 abbrev pub parties_by : Relation → Selection
 parties_by relation.Holding = HeldParties
 parties_by relation.Crediting = CreditParties
 parties_by relation.Awaiting = LodgedParties
 
--- who is told of a party: those to whom that selection gives it
+-- a viewer of a party: a caller for which that selection returns the party
 abbrev pub IsSeer : Relation → (t : ℤ) → History → (party seer : ℕ) → Type 0
 IsSeer relation t h party seer = selects (parties_by relation) t h seer party
 
--- to who holds a right in a unit an entry of that unit is told, a mortgage where that right is ownership
+-- An entry is visible to the holder of a right in its unit; a mortgage only if that right is ownership.
 abbrev pub is_told_to_holder : (party : ℕ) → (seen held : Entry) → Bool
 is_told_to_holder party seen held =
-    nat_eq held.1.unit seen.1.unit && (nat_eq seen.1.party party && (is_right held.1.class && (not (is_mortgage seen.1.class) || is_right_of Ownership held.1.class)))
+    nat_eq held.1.unit seen.1.unit && (nat_eq seen.1.party party
+    && (is_right held.1.class && (not (is_mortgage seen.1.class) || is_right_of Ownership held.1.class)))
 
--- to who has a mortgage on it, of mortgages its own alone
+-- An entry is visible to the creditor of a mortgage on its unit; a mortgage only if it is its own.
 abbrev pub is_told_to_creditor : (party : ℕ) → (seen held : Entry) → Bool
 is_told_to_creditor party seen held =
-    nat_eq held.1.unit seen.1.unit && (nat_eq seen.1.party party && (is_mortgage held.1.class && (not (is_mortgage seen.1.class) || nat_eq seen.1.party held.1.party)))
+    nat_eq held.1.unit seen.1.unit && (nat_eq seen.1.party party
+    && (is_mortgage held.1.class && (not (is_mortgage seen.1.class) || nat_eq seen.1.party held.1.party)))
 
--- to who lodged a mutation that is undecided and names it
+-- An entry is visible to the lodger of a pending mutation that refers to its unit.
 abbrev pub is_told_to_lodger : (party : ℕ) → (seen : Entry) → Naming → ℕ × MutationRecord → Bool
 is_told_to_lodger party seen naming mutation =
-    nat_eq naming.unit seen.1.unit && (nat_eq mutation.0 naming.mutation && (nat_eq seen.1.party party && is_undecided mutation.1))
+    nat_eq naming.unit seen.1.unit && (nat_eq mutation.0 naming.mutation
+    && (nat_eq seen.1.party party && is_undecided mutation.1))
 
--- in how many ways somebody is told of a party: by each of its entries, of each right, mortgage or mutation to whose party that is told
+-- The number of pairs of an entry of the party and a right, a mortgage or a pending mutation that makes this
+-- entry visible: an upper bound of the number of viewers.
 abbrev pub ways : Relation → (t : ℤ) → History → (party : ℕ) → ℕ
-ways relation.Holding t h party = sum_by (λ seen. count_by (is_told_to_holder party seen) (standing t h.rrrs)) (standing t h.rrrs)
-ways relation.Crediting t h party = sum_by (λ seen. count_by (is_told_to_creditor party seen) (standing t h.rrrs)) (standing t h.rrrs)
+ways relation.Holding t h party = sum_by (λ seen. count_by (is_told_to_holder party seen) (standing t h.rrrs))
+    (standing t h.rrrs)
+ways relation.Crediting t h party =
+    sum_by (λ seen. count_by (is_told_to_creditor party seen) (standing t h.rrrs)) (standing t h.rrrs)
 ways relation.Awaiting t h party =
-    sum_by (λ seen. sum_by (λ naming. count_by (is_told_to_lodger party seen naming) (standing t h.mutations)) (standing t h.namings)) (standing t h.rrrs)
+    sum_by (λ seen. sum_by (λ naming. count_by (is_told_to_lodger party seen naming) (standing t h.mutations))
+    (standing t h.namings)) (standing t h.rrrs)
 
--- these rows are theirs; or they are more than sixteen, and so are the ways
+-- These rows are the viewers, if they are at most sixteen; if there are more rows, there are more than
+-- sixteen pairs.
 pub record AreSeerRows (relation : Relation) (party : ℕ) (t : ℤ) (db : Trees) (rows : List Row) : Type 0 where
   pub few : length rows ≤ 16 → OfHeld db (λ h. AreNumberRows rows (IsSeer relation t h party))
   pub many : 16 < length rows → OfHeld db (λ h. 16 < ways relation t h (asked_for party))
 
--- these are their numbers; or none are listed, since there are more than sixteen ways
+-- These are the numbers of the viewers; `None` only if there are more than sixteen pairs.
 abbrev pub AreSeers : Relation → (party : ℕ) → (t : ℤ) → Trees → Option (List ℕ) → Type 0
 AreSeers relation party t db (Some seers) = OfHeld db (λ h. AreAll seers (IsSeer relation t h party))
 AreSeers relation party t db None = OfHeld db (λ h. 16 < ways relation t h (asked_for party))

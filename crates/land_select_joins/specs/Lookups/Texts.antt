@@ -1,8 +1,8 @@
--- The text of each look-up.
+-- The SQL statement of each lookup.
 use Rattle.std.specs.Prelude.{ℕ, List}
 use Rattle.land_select_joins.specs.declared.joins.own.TheConstants as own
-use Rattle.land_select_joins.specs.declared.lookups.look_up.LookUp.{LookUp}
-use Rattle.land_select_joins.specs.declared.lookups.look_up.LookUp.TheVariants as look_up
+use Rattle.land_select_joins.specs.declared.lookups.record_lookup.LookUp.{LookUp}
+use Rattle.land_select_joins.specs.declared.lookups.record_lookup.LookUp.TheVariants as record_lookup
 use Rattle.land_select_joins.specs.declared.lookups.number_look_up.NumberLookUp.{NumberLookUp}
 use Rattle.land_select_joins.specs.declared.lookups.number_look_up.NumberLookUp.TheVariants as number_look_up
 use Rattle.land_select_joins.specs.declared.lookups.relation.Relation.{Relation}
@@ -10,27 +10,27 @@ use Rattle.land_select_joins.specs.declared.lookups.relation.Relation.TheVariant
 use Rattle.land_select_joins.specs.declared.lookups.texts.TheConstants as texts
 
 abbrev pub text_of : LookUp → List ℕ
-text_of look_up.Party = texts.PARTY.now
-text_of look_up.Unit = texts.UNIT.now
-text_of look_up.Parcel = texts.PARCEL.now
-text_of look_up.Entry = texts.ENTRY.now
-text_of look_up.Source = texts.SOURCE.now
-text_of look_up.Mutation = texts.MUTATION.now
-text_of look_up.ParcelsOfUnit = texts.PARCELS_OF_UNIT.now
-text_of look_up.EntriesOfUnit = texts.ENTRIES_OF_UNIT.now
-text_of look_up.RolesOfParty = texts.ROLES_OF_PARTY.now
-text_of look_up.MembersOfGroup = texts.MEMBERS_OF_GROUP.now
-text_of look_up.MandatesOfAgent = texts.MANDATES_OF_AGENT.now
-text_of look_up.Administrators = texts.ADMINISTRATORS.now
+text_of record_lookup.Party = texts.PARTY.now
+text_of record_lookup.Unit = texts.UNIT.now
+text_of record_lookup.Parcel = texts.PARCEL.now
+text_of record_lookup.Entry = texts.ENTRY.now
+text_of record_lookup.Source = texts.SOURCE.now
+text_of record_lookup.Mutation = texts.MUTATION.now
+text_of record_lookup.ParcelsOfUnit = texts.PARCELS_OF_UNIT.now
+text_of record_lookup.EntriesOfUnit = texts.ENTRIES_OF_UNIT.now
+text_of record_lookup.RolesOfParty = texts.ROLES_OF_PARTY.now
+text_of record_lookup.MembersOfGroup = texts.MEMBERS_OF_GROUP.now
+text_of record_lookup.MandatesOfAgent = texts.MANDATES_OF_AGENT.now
+text_of record_lookup.Administrators = texts.ADMINISTRATORS.now
 
--- and of each look-up of numbers
+-- the statement of each lookup of one column
 abbrev pub number_text_of : NumberLookUp → List ℕ
 number_text_of number_look_up.Party = own.ITSELF.now
 number_text_of number_look_up.Unit = texts.UNIT_NUMBER.now
 number_text_of number_look_up.LodgerOfMutation = texts.LODGER_OF_MUTATION.now
 number_text_of number_look_up.LodgersOnUnit = texts.LODGERS_ON_UNIT.now
 
--- and of each relation by which somebody is told of a party
+-- the statement of each relation between a viewer and a unit
 abbrev pub seer_text_of : Relation → List ℕ
 seer_text_of relation.Holding = texts.SEERS_BY_HOLDING.now
 seer_text_of relation.Crediting = texts.SEERS_BY_CREDITING.now

@@ -1,7 +1,7 @@
-//! All objects of a kind that stand at a moment.
+//! All objects of a kind at a time.
 //!
-//! In each text of this crate parameter 1 is the caller and parameter 2 the moment. A row stands where the moment is not before its `since`
-//! and is before its `until`.
+//! In each statement of this crate, parameter 1 is the caller and parameter 2 the time. A row is valid if the
+//! time is not before its `since` and is before its `until`.
 
 /// All parties.
 pub const PARTIES: &str = "SELECT number FROM party WHERE since <= ?2 AND ?2 < until";

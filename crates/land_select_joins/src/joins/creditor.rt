@@ -1,6 +1,6 @@
-//! Being a creditor: an entry is a mortgage, and the caller is its party.
+//! A creditor: an entry is a mortgage, and the caller is its party.
 //!
-//! A creditor sees the unit with all its entries and their parties, but of mortgages its own alone.
+//! A creditor sees the unit with all its entries and their parties, but only its own mortgages.
 
 /// The units on which the caller has a mortgage.
 pub const UNITS: &str =

@@ -1,6 +1,7 @@
-//! Holding through a group: an entry is a right, its party is a group, and the caller is a member of that group.
+//! A member of a group that holds a right: an entry is a right, its party is a group, and the caller is a
+//! member of it.
 //!
-//! A member sees what a holder in its own name sees.
+//! A member sees the same as a holder in its own name.
 
 /// The units that the caller holds through groups.
 pub const UNITS: &str =

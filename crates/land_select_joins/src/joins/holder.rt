@@ -1,7 +1,8 @@
-//! Holding in one's own name: an entry is a right, and the caller is its party.
+//! A holder in its own name: an entry is a right, and the caller is its party.
 //!
-//! A holder sees its unit with all its entries and their parties, but of mortgages only where what it holds is ownership. A caller that has an
-//! ownership and another right in one unit comes twice, once for each, so the test on both rows is enough.
+//! A holder sees its unit with all entries and their parties, but mortgages only if its right is ownership. A
+//! caller with an ownership and another right in one unit appears twice, once for each, so the test on both
+//! rows is enough.
 
 /// The units that the caller holds.
 pub const UNITS: &str =

@@ -1,8 +1,8 @@
-//! Laws, each stated over the definitions alone.
+//! Laws, each stated on definitions only.
 ghost use Rattle.land_select_joins.specs.Joins.Meaning.{TextsSelect};
 
-/// Over tables that hold a history, whatever indexes they have, the text of a selection gives the numbers that the selection gives, and no
-/// others.
+/// States that the statement of a selection, on tables that hold a history and with any indexes, returns
+/// exactly the numbers of the selection.
 pub fn texts_select()
     ensures { TextsSelect }
 {}

@@ -1,6 +1,6 @@
-//! The caller itself, the groups of which it is a member, and what it lodged.
+//! The caller itself, its groups, and the mutations that it lodged.
 
-/// The caller, where it is a party.
+/// The caller, if it is a party.
 pub const ITSELF: &str =
     "SELECT number FROM party WHERE number = ?1 AND since <= ?2 AND ?2 < until";
 

@@ -1,17 +1,16 @@
-//! Selections are run, and what they give is united.
-ghost use Rattle.std.specs.Prelude.{◌≡◌, false, IfErr, IfOk, IsTrue};
+//! Runs selections and unites their results.
+ghost use Rattle.std.specs.Prelude.{◌≡◌, IfErr, IfOk};
 ghost use Rattle.std.specs.List.{Contains};
 ghost use Rattle.std.specs.List.Sorted.{IsStrictlyIncreasing};
-ghost use Rattle.land_select_joins.specs.Joins.Running.{AreAll, AreNumbersForAny, AreNumbersOf, AreNumbersOfAny, AreRowsOf, HoldsNone, asked_for};
+ghost use Rattle.land_select_joins.specs.Joins.Running.{AreAll, AreNumbersForAny, AreNumbersOf};
+ghost use Rattle.land_select_joins.specs.Joins.Running.{AreNumbersOfAny, AreRowsOf, asked_for};
+ghost use Rattle.land_select_joins.specs.TableReads.{FailsOnlyWithoutHistory, ReadsTables};
 ghost use Rattle.land_tables_rows.specs.Listing.Reading.{IsRead};
 ghost use Rattle.land_tables_rows.specs.Reading.Cells.{natural_in};
 ghost use Rattle.land_tables_rows.specs.Reading.Readings.{each_of};
 ghost use Rattle.land_tables_rows.specs.declared.listing.fault.ReadFault.TheVariants.{NoMemory};
-ghost use Rattle.land_tables_schema.specs.Land.{IsLand};
-ghost use Rattle.land_tables_schema.specs.Rows.Looks.{IsLook};
+ghost use Rattle.land_tables_schema.specs.Connections.{HasRegisterTables, IsUsable, LeavesAutocommit};
 ghost use Rattle.land_wire_json.specs.Bodies.WireFaults.{Gives};
-ghost use Rattle.sqlite.specs.Held.{state};
-ghost use Rattle.sqlite.specs.State.{HasCleanDisk};
 ghost use Rattle.sqlite_value.specs.Order.{column};
 
 use crate::joins::text::text_of;
@@ -25,23 +24,25 @@ use land_wire_json::bodies::wire_fault::WireFault;
 use sqlite::{Alter, Connection, Error, Row};
 use std::alloc::Global;
 
-/// The number that is asked for in place of one that is given: 0, which is nobody's, where no object can have it.
+/// Returns the number to query for: the given one, or 0, which no object has, if it is out of range. Sqlite
+/// integers are signed, so a larger number cannot be a parameter.
 pub fn asked_for(caller: u64) -> u64
     ensures { result ≡ asked_for caller }
 {
     if is_number(caller) { caller } else { 0 }
 }
 
-/// The rows that a selection gives to a caller at a moment, in whatever order.
+/// Runs a selection for a caller at a time and returns its rows, in any order.
 fn rows_of<S: Alter>(
     conn: &mut Connection<S>,
     selection: Selection,
     caller: u64,
     at: i64,
 ) -> Result<Vec<Row>, Error>
-    requires land { HasCleanDisk (state S.Store conn.old) → IsLand (state S.Store conn.old).now.schema }
-    ensures look { IsLook result (λ rows. AreRowsOf selection at caller (state S.Store conn.old).now.trees rows.items) (state S.Store conn.old) (state S.Store conn.new) }
-    ensures mode { conn.old.in_transaction ≡ false → conn.new.in_transaction ≡ false }
+    requires land { HasRegisterTables S.Store conn.old }
+    ensures look { ReadsTables S.Store result (λ db rows. AreRowsOf selection at caller db rows.items)
+        conn.old conn.new }
+    ensures mode { LeavesAutocommit conn.old conn.new }
 {
     conn.query_all(
         text_of(selection),
@@ -49,7 +50,8 @@ fn rows_of<S: Alter>(
     )
 }
 
-/// The number in the one column of each row. 131: it is of another kind. 132: it is negative. 501: there was no memory.
+/// Decodes the number in the only column of each row. Returns error 131 for another type, 132 for a negative
+/// number, and 501 if out of memory.
 fn each_number(alloc: Global, rows: &[Row]) -> Result<NumberList, WireFault>
     ensures { Gives (λ it. it) result (each_of (λ row. natural_in (column row 0)) rows.now) }
 {
@@ -60,15 +62,15 @@ fn each_number(alloc: Global, rows: &[Row]) -> Result<NumberList, WireFault>
     Ok(all)
 }
 
-/// The numbers in rows. 520: one of them cannot be read. 501: there was no memory.
+/// Decodes the numbers in rows. Returns error 520 if a row is unreadable, and 501 if out of memory.
 pub(crate) fn read(alloc: Global, rows: &[Row]) -> Result<NumberList, ReadFault>
     ensures { IsRead (λ row. natural_in (column row 0)) rows.now result }
 {
     Ok(each_number(alloc, rows)?)
 }
 
-/// The numbers that a selection gives to a caller at a moment, in milliseconds since 1970 UTC, in whatever order. 520: the tables hold no
-/// history. 501: there was no memory.
+/// Returns the numbers of a selection for a caller at a time, in Unix milliseconds, in any order. Returns
+/// error 520 only if the tables hold no history, and 501 if out of memory.
 pub fn numbers<S: Alter>(
     alloc: Global,
     conn: &mut Connection<S>,
@@ -76,28 +78,30 @@ pub fn numbers<S: Alter>(
     caller: u64,
     at: i64,
 ) -> Result<NumberList, ReadFault>
-    requires land { HasCleanDisk (state S.Store conn.old) → IsLand (state S.Store conn.old).now.schema }
-    ensures look { IsLook result (λ it. AreNumbersOf selection at caller (state S.Store conn.old).now.trees it) (state S.Store conn.old) (state S.Store conn.new) }
-    ensures unreadable { HasCleanDisk (state S.Store conn.new) → IfErr result (HoldsNone (state S.Store conn.old).now.trees) }
-    ensures mode { conn.old.in_transaction ≡ false → conn.new.in_transaction ≡ false }
+    requires land { HasRegisterTables S.Store conn.old }
+    ensures look { ReadsTables S.Store result (AreNumbersOf selection at caller) conn.old conn.new }
+    ensures unreadable { FailsOnlyWithoutHistory S.Store result conn.old conn.new }
+    ensures mode { LeavesAutocommit conn.old conn.new }
 {
     let rows = rows_of(conn, selection, caller, at)?;
     read(alloc, rows.as_slice())
 }
 
-/// The numbers that some of the selections gives, in whatever order, and a number as often as selections give it.
-fn gather<S: Alter>(
+/// Returns the numbers of several selections, in any order. A number is repeated for each selection that
+/// returns it.
+fn collect_numbers<S: Alter>(
     alloc: Global,
     conn: &mut Connection<S>,
     selections: &[Selection],
     caller: u64,
     at: i64,
 ) -> Result<Vec<u64>, ReadFault>
-    requires open { HasCleanDisk (state S.Store conn.old) → IsTrue (state S.Store conn.old).is_open }
-    requires land { HasCleanDisk (state S.Store conn.old) → IsLand (state S.Store conn.old).now.schema }
-    ensures look { IsLook result (λ it. AreNumbersOfAny selections.now at caller (state S.Store conn.old).now.trees it.items) (state S.Store conn.old) (state S.Store conn.new) }
-    ensures unreadable { HasCleanDisk (state S.Store conn.new) → IfErr result (HoldsNone (state S.Store conn.old).now.trees) }
-    ensures mode { conn.old.in_transaction ≡ false → conn.new.in_transaction ≡ false }
+    requires open { IsUsable S.Store conn.old }
+    requires land { HasRegisterTables S.Store conn.old }
+    ensures look { ReadsTables S.Store result (λ db it. AreNumbersOfAny selections.now at caller db it.items)
+        conn.old conn.new }
+    ensures unreadable { FailsOnlyWithoutHistory S.Store result conn.old conn.new }
+    ensures mode { LeavesAutocommit conn.old conn.new }
 {
     let mut found = Vec::new(alloc);
     for selection in selections {
@@ -107,7 +111,7 @@ fn gather<S: Alter>(
     Ok(found)
 }
 
-/// The numbers that some of the selections gives to one of some callers, in whatever order, and a number as often as it is given.
+/// Returns the numbers of several selections for several callers, in any order and with repetitions.
 fn gather_for<S: Alter>(
     alloc: Global,
     conn: &mut Connection<S>,
@@ -115,21 +119,22 @@ fn gather_for<S: Alter>(
     callers: &[u64],
     at: i64,
 ) -> Result<Vec<u64>, ReadFault>
-    requires open { HasCleanDisk (state S.Store conn.old) → IsTrue (state S.Store conn.old).is_open }
-    requires land { HasCleanDisk (state S.Store conn.old) → IsLand (state S.Store conn.old).now.schema }
-    ensures look { IsLook result (λ it. AreNumbersForAny selections.now at callers.now (state S.Store conn.old).now.trees it.items) (state S.Store conn.old) (state S.Store conn.new) }
-    ensures unreadable { HasCleanDisk (state S.Store conn.new) → IfErr result (HoldsNone (state S.Store conn.old).now.trees) }
-    ensures mode { conn.old.in_transaction ≡ false → conn.new.in_transaction ≡ false }
+    requires open { IsUsable S.Store conn.old }
+    requires land { HasRegisterTables S.Store conn.old }
+    ensures look { ReadsTables S.Store result
+        (λ db it. AreNumbersForAny selections.now at callers.now db it.items) conn.old conn.new }
+    ensures unreadable { FailsOnlyWithoutHistory S.Store result conn.old conn.new }
+    ensures mode { LeavesAutocommit conn.old conn.new }
 {
     let mut found = Vec::new(alloc);
     for caller in callers {
-        let given = gather(alloc, conn, selections, *caller, at)?;
+        let given = collect_numbers(alloc, conn, selections, *caller, at)?;
         found.extend_from_slice(given.as_slice())?;
     }
     Ok(found)
 }
 
-/// Numbers in ascending order, each once.
+/// Sorts numbers and removes repetitions.
 fn each_once(mut numbers: Vec<u64>) -> Result<NumberList, ReadFault>
     ensures ascending { IfOk result IsStrictlyIncreasing }
     ensures same { IfOk result (λ it. AreAll it (λ n. Contains numbers.items n)) }
@@ -140,8 +145,8 @@ fn each_once(mut numbers: Vec<u64>) -> Result<NumberList, ReadFault>
     Ok(Sequence::from_vec(numbers))
 }
 
-/// The numbers that some of the selections gives to a caller at a moment, in milliseconds since 1970 UTC, in ascending order and each once.
-/// 520: the tables hold no history. 501: there was no memory.
+/// Returns the union of several selections for a caller at a time, in Unix milliseconds, in increasing order.
+/// Returns error 520 only if the tables hold no history, and 501 if out of memory.
 pub fn unite<S: Alter>(
     alloc: Global,
     conn: &mut Connection<S>,
@@ -149,18 +154,18 @@ pub fn unite<S: Alter>(
     caller: u64,
     at: i64,
 ) -> Result<NumberList, ReadFault>
-    requires open { HasCleanDisk (state S.Store conn.old) → IsTrue (state S.Store conn.old).is_open }
-    requires land { HasCleanDisk (state S.Store conn.old) → IsLand (state S.Store conn.old).now.schema }
+    requires open { IsUsable S.Store conn.old }
+    requires land { HasRegisterTables S.Store conn.old }
     ensures ascending { IfOk result IsStrictlyIncreasing }
-    ensures look { IsLook result (λ it. AreNumbersOfAny selections.now at caller (state S.Store conn.old).now.trees it) (state S.Store conn.old) (state S.Store conn.new) }
-    ensures unreadable { HasCleanDisk (state S.Store conn.new) → IfErr result (HoldsNone (state S.Store conn.old).now.trees) }
-    ensures mode { conn.old.in_transaction ≡ false → conn.new.in_transaction ≡ false }
+    ensures look { ReadsTables S.Store result (AreNumbersOfAny selections.now at caller) conn.old conn.new }
+    ensures unreadable { FailsOnlyWithoutHistory S.Store result conn.old conn.new }
+    ensures mode { LeavesAutocommit conn.old conn.new }
 {
-    each_once(gather(alloc, conn, selections, caller, at)?)
+    each_once(collect_numbers(alloc, conn, selections, caller, at)?)
 }
 
-/// The numbers that some of the selections gives at a moment, in milliseconds since 1970 UTC, to one of some callers, in ascending order and
-/// each once. 520: the tables hold no history. 501: there was no memory.
+/// Returns the union of several selections for several callers at a time, in Unix milliseconds, in increasing
+/// order. Returns error 520 only if the tables hold no history, and 501 if out of memory.
 pub fn unite_for<S: Alter>(
     alloc: Global,
     conn: &mut Connection<S>,
@@ -168,12 +173,13 @@ pub fn unite_for<S: Alter>(
     callers: &[u64],
     at: i64,
 ) -> Result<NumberList, ReadFault>
-    requires open { HasCleanDisk (state S.Store conn.old) → IsTrue (state S.Store conn.old).is_open }
-    requires land { HasCleanDisk (state S.Store conn.old) → IsLand (state S.Store conn.old).now.schema }
+    requires open { IsUsable S.Store conn.old }
+    requires land { HasRegisterTables S.Store conn.old }
     ensures ascending { IfOk result IsStrictlyIncreasing }
-    ensures look { IsLook result (λ it. AreNumbersForAny selections.now at callers.now (state S.Store conn.old).now.trees it) (state S.Store conn.old) (state S.Store conn.new) }
-    ensures unreadable { HasCleanDisk (state S.Store conn.new) → IfErr result (HoldsNone (state S.Store conn.old).now.trees) }
-    ensures mode { conn.old.in_transaction ≡ false → conn.new.in_transaction ≡ false }
+    ensures look { ReadsTables S.Store result (AreNumbersForAny selections.now at callers.now) conn.old
+        conn.new }
+    ensures unreadable { FailsOnlyWithoutHistory S.Store result conn.old conn.new }
+    ensures mode { LeavesAutocommit conn.old conn.new }
 {
     each_once(gather_for(alloc, conn, selections, callers, at)?)
 }

@@ -1,15 +1,12 @@
-//! What a caller sees of a kind at a moment.
-ghost use Rattle.std.specs.Prelude.{◌≡◌, ◌&&◌, false, not, IfErr, IsTrue};
+//! The objects of a kind that a caller sees at a time.
+ghost use Rattle.std.specs.Prelude.{◌≡◌, ◌&&◌, not};
 ghost use Rattle.land_core.specs.Role.{is_role};
 ghost use Rattle.land_core.specs.declared.role.Role.TheVariants as roles;
 ghost use Rattle.land_rules.specs.Denials.Sight.{sees_all};
 ghost use Rattle.land_rules.specs.Laws.{citizen};
-ghost use Rattle.land_select_joins.specs.Joins.Running.{HoldsNone};
 ghost use Rattle.land_select_joins.specs.Joins.Sight.{IsSight, IsSightAlone};
-ghost use Rattle.land_tables_schema.specs.Land.{IsLand};
-ghost use Rattle.land_tables_schema.specs.Rows.Looks.{IsLook};
-ghost use Rattle.sqlite.specs.Held.{state};
-ghost use Rattle.sqlite.specs.State.{HasCleanDisk};
+ghost use Rattle.land_select_joins.specs.TableReads.{FailsOnlyWithoutHistory, ReadsTables};
+ghost use Rattle.land_tables_schema.specs.Connections.{HasRegisterTables, IsUsable, LeavesAutocommit};
 
 use crate::joins::running::{unite, unite_for};
 use crate::lookups::of_agent::circle;
@@ -25,14 +22,16 @@ use land_tables_rows::listing::fault::ReadFault;
 use sqlite::{Alter, Connection};
 use std::alloc::Global;
 
-/// Whether mandates give a caller more to see of a kind: to a citizen, and not of parcels, which everybody sees.
+/// Checks if mandates add to a caller's sight of a kind: only for citizens, and not for parcels, which all
+/// roles see.
 fn has_circle(role: Role, kind: Kind) -> bool
     ensures { result ≡ is_role role roles.Citizen && not (sees_all role kind) }
 {
     role == Role::Citizen && !sees_all(role, kind)
 }
 
-/// The numbers of a kind that the rules would let a caller see at a moment if no mandates stood, in ascending order and each once.
+/// Returns the numbers of a kind that the policy, without mandates, lets a caller see at a time, in
+/// increasing order.
 fn sight_alone<S: Alter>(
     alloc: Global,
     conn: &mut Connection<S>,
@@ -40,18 +39,18 @@ fn sight_alone<S: Alter>(
     kind: Kind,
     at: i64,
 ) -> Result<NumberList, ReadFault>
-    requires open { HasCleanDisk (state S.Store conn.old) → IsTrue (state S.Store conn.old).is_open }
-    requires land { HasCleanDisk (state S.Store conn.old) → IsLand (state S.Store conn.old).now.schema }
-    ensures look { IsLook result (λ it. IsSightAlone caller kind at (state S.Store conn.old).now.trees it) (state S.Store conn.old) (state S.Store conn.new) }
-    ensures unreadable { HasCleanDisk (state S.Store conn.new) → IfErr result (HoldsNone (state S.Store conn.old).now.trees) }
-    ensures mode { conn.old.in_transaction ≡ false → conn.new.in_transaction ≡ false }
+    requires open { IsUsable S.Store conn.old }
+    requires land { HasRegisterTables S.Store conn.old }
+    ensures look { ReadsTables S.Store result (IsSightAlone caller kind at) conn.old conn.new }
+    ensures unreadable { FailsOnlyWithoutHistory S.Store result conn.old conn.new }
+    ensures mode { LeavesAutocommit conn.old conn.new }
 {
     selected_is_seen();
     unite(alloc, conn, selections(caller.role, kind), caller.party, at)
 }
 
-/// The numbers of a kind that the rules let a citizen see at a moment, in ascending order and each once: what is given to one of its circle
-/// at that moment.
+/// Returns the numbers of a kind that the policy lets a citizen see at a time, in increasing order: the union
+/// over its circle at that time.
 fn sight_of_circle<S: Alter>(
     alloc: Global,
     conn: &mut Connection<S>,
@@ -59,11 +58,11 @@ fn sight_of_circle<S: Alter>(
     kind: Kind,
     at: i64,
 ) -> Result<NumberList, ReadFault>
-    requires open { HasCleanDisk (state S.Store conn.old) → IsTrue (state S.Store conn.old).is_open }
-    requires land { HasCleanDisk (state S.Store conn.old) → IsLand (state S.Store conn.old).now.schema }
-    ensures look { IsLook result (λ it. IsSight (citizen party) kind at (state S.Store conn.old).now.trees it) (state S.Store conn.old) (state S.Store conn.new) }
-    ensures unreadable { HasCleanDisk (state S.Store conn.new) → IfErr result (HoldsNone (state S.Store conn.old).now.trees) }
-    ensures mode { conn.old.in_transaction ≡ false → conn.new.in_transaction ≡ false }
+    requires open { IsUsable S.Store conn.old }
+    requires land { HasRegisterTables S.Store conn.old }
+    ensures look { ReadsTables S.Store result (IsSight (citizen party) kind at) conn.old conn.new }
+    ensures unreadable { FailsOnlyWithoutHistory S.Store result conn.old conn.new }
+    ensures mode { LeavesAutocommit conn.old conn.new }
 {
     selections_are_the_rules();
     seen_is_exact();
@@ -78,9 +77,9 @@ fn sight_of_circle<S: Alter>(
     )
 }
 
-/// The numbers of a kind that the rules let a caller see at a moment, in milliseconds since 1970 UTC, in ascending order and each once; to a
-/// citizen is given what is given to itself and to those whose mandate it holds at that moment. 520: the tables hold no history. 501: there
-/// was no memory.
+/// Returns the numbers of a kind that the policy lets a caller see at a time, in Unix milliseconds, in
+/// increasing order. A citizen also sees the objects of the principals whose mandates it holds at that time.
+/// Returns error 520 only if the tables hold no history, and 501 if out of memory.
 pub fn sight<S: Alter>(
     alloc: Global,
     conn: &mut Connection<S>,
@@ -88,11 +87,11 @@ pub fn sight<S: Alter>(
     kind: Kind,
     at: i64,
 ) -> Result<NumberList, ReadFault>
-    requires open { HasCleanDisk (state S.Store conn.old) → IsTrue (state S.Store conn.old).is_open }
-    requires land { HasCleanDisk (state S.Store conn.old) → IsLand (state S.Store conn.old).now.schema }
-    ensures look { IsLook result (λ it. IsSight caller kind at (state S.Store conn.old).now.trees it) (state S.Store conn.old) (state S.Store conn.new) }
-    ensures unreadable { HasCleanDisk (state S.Store conn.new) → IfErr result (HoldsNone (state S.Store conn.old).now.trees) }
-    ensures mode { conn.old.in_transaction ≡ false → conn.new.in_transaction ≡ false }
+    requires open { IsUsable S.Store conn.old }
+    requires land { HasRegisterTables S.Store conn.old }
+    ensures look { ReadsTables S.Store result (IsSight caller kind at) conn.old conn.new }
+    ensures unreadable { FailsOnlyWithoutHistory S.Store result conn.old conn.new }
+    ensures mode { LeavesAutocommit conn.old conn.new }
 {
     if has_circle(caller.role, kind) {
         return sight_of_circle(alloc, conn, caller.party, kind, at);

@@ -1,4 +1,4 @@
-//! The text of each selection.
+//! The SQL statement of each selection.
 ghost use Rattle.std.specs.Prelude.{◌≡◌};
 ghost use Rattle.land_select_joins.specs.Joins.Texts.{all_text, text_of};
 
@@ -6,7 +6,7 @@ use crate::joins::{all, creditor, group, holder, lodger, named, own};
 use crate::sights::selection::Selection;
 use land_core::kind::Kind;
 
-/// The text of all objects of a kind.
+/// Returns the statement that selects all objects of a kind.
 fn all_of(kind: Kind) -> &'static str
     ensures { result.now ≡ all_text kind }
 {
@@ -20,7 +20,8 @@ fn all_of(kind: Kind) -> &'static str
     }
 }
 
-/// The text of a selection. Parameter 1 is the caller's number, parameter 2 the moment in milliseconds since 1970 UTC.
+/// Returns the statement of a selection. Parameter 1 is the caller's number, parameter 2 the time in Unix
+/// milliseconds.
 pub fn text_of(selection: Selection) -> &'static str
     ensures { result.now ≡ text_of selection }
 {

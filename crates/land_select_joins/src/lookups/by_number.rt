@@ -1,16 +1,12 @@
 //! Records by their numbers.
 ghost use Rattle.std.specs.FinMap as map;
-ghost use Rattle.std.specs.Prelude.{◌≡◌, false, IfErr};
-ghost use Rattle.land_select_joins.specs.Joins.Running.{HoldsNone};
-ghost use Rattle.land_select_joins.specs.Lookups.Finding.{IsOneOf};
+ghost use Rattle.land_select_joins.specs.Lookups.RecordRows.{IsOneOf};
 ghost use Rattle.land_select_joins.specs.Lookups.Parts.{IsPart};
-ghost use Rattle.land_tables_schema.specs.Land.{IsLand};
-ghost use Rattle.land_tables_schema.specs.Rows.Looks.{IsLook};
-ghost use Rattle.sqlite.specs.Held.{state};
-ghost use Rattle.sqlite.specs.State.{HasCleanDisk};
+ghost use Rattle.land_select_joins.specs.TableReads.{FailsOnlyWithoutHistory, ReadsTables};
+ghost use Rattle.land_tables_schema.specs.Connections.{HasRegisterTables, LeavesAutocommit};
 
-use crate::lookups::finding::find;
 use crate::lookups::numbered::Numbered;
+use crate::lookups::record_rows::find;
 use land_core::sequence::Sequence;
 use land_tables_history::version::Version;
 use land_tables_rows::listing::fault::ReadFault;
@@ -18,7 +14,7 @@ use land_tables_rows::reading::from_row::FromRow;
 use sqlite::{Alter, Connection};
 use std::alloc::Global;
 
-/// The record of one of some versions, `None` where there are none.
+/// Returns the record of one of the versions, or `None` if there are none.
 fn record_of<V: Drop>(found: Sequence<Version<(u64, V)>>) -> Option<V>
     ensures { IsOneOf found result }
 {
@@ -37,8 +33,8 @@ fn record_of<V: Drop>(found: Sequence<Version<(u64, V)>>) -> Option<V>
     }
 }
 
-/// The record of a kind that has a number and stands at a moment, in milliseconds since 1970 UTC, or `None`. 520: the tables hold no
-/// history. 501: there was no memory.
+/// Reads the record of a number at a time, in Unix milliseconds; `None` if it does not exist. Returns error
+/// 520 only if the tables hold no history, and 501 if out of memory.
 pub fn record<V: Numbered, S: Alter>(
     alloc: Global,
     conn: &mut Connection<S>,
@@ -47,10 +43,10 @@ pub fn record<V: Numbered, S: Alter>(
 ) -> Result<Option<V>, ReadFault>
 where
     Version<(u64, V)>: FromRow,
-    requires land { HasCleanDisk (state S.Store conn.old) → IsLand (state S.Store conn.old).now.schema }
-    ensures look { IsLook result (λ it. IsPart (λ r. map.get (V.part r) number) at (state S.Store conn.old).now.trees it) (state S.Store conn.old) (state S.Store conn.new) }
-    ensures unreadable { HasCleanDisk (state S.Store conn.new) → IfErr result (HoldsNone (state S.Store conn.old).now.trees) }
-    ensures mode { conn.old.in_transaction ≡ false → conn.new.in_transaction ≡ false }
+    requires land { HasRegisterTables S.Store conn.old }
+    ensures look { ReadsTables S.Store result (IsPart (λ r. map.get (V.part r) number) at) conn.old conn.new }
+    ensures unreadable { FailsOnlyWithoutHistory S.Store result conn.old conn.new }
+    ensures mode { LeavesAutocommit conn.old conn.new }
 {
     let found = find(alloc, conn, V::BY_NUMBER, number, at)?;
     Ok(record_of(found))

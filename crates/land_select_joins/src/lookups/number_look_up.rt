@@ -1,28 +1,29 @@
-//! Which numbers are looked for.
+//! The lookups of one column.
 ghost use Rattle.std.specs.Prelude.{◌≡◌};
 ghost use Rattle.land_select_joins.specs.Lookups.Texts.{number_text_of};
 
 use crate::joins::own;
 use crate::lookups::texts;
 
-/// Which numbers are looked for at a moment, by a number that is given. No other column of a row is read.
+/// A lookup of numbers by a number, at a time. Only one column of a row is read.
 #[derive(Clone, Copy, Debug, PartialEq, Eq)]
 pub enum NumberLookUp {
-    /// The number itself, where a party has it.
+    /// The number itself, if a party has it.
     Party,
-    /// The number itself, where a unit has it.
+    /// The number itself, if a unit has it.
     Unit,
-    /// Who lodged the mutation of the number, be it decided or not.
+    /// The lodger of the mutation of the number, decided or not.
     LodgerOfMutation,
-    /// Who lodged a mutation that is undecided and names the unit.
+    /// The lodgers of pending mutations that refer to the unit.
     LodgersOnUnit,
 }
 
-/// The text of a look-up of numbers. Parameter 1 is the number that is given, parameter 2 the moment in milliseconds since 1970 UTC.
-pub fn text_of(look_up: NumberLookUp) -> &'static str
-    ensures { result.now ≡ number_text_of look_up }
+/// Returns the SQL statement of a lookup. Parameter 1 is the number, parameter 2 the time in Unix
+/// milliseconds.
+pub fn text_of(record_lookup: NumberLookUp) -> &'static str
+    ensures { result.now ≡ number_text_of record_lookup }
 {
-    match look_up {
+    match record_lookup {
         NumberLookUp::Party => own::ITSELF,
         NumberLookUp::Unit => texts::UNIT_NUMBER,
         NumberLookUp::LodgerOfMutation => texts::LODGER_OF_MUTATION,

@@ -1,14 +1,14 @@
-//! Records that have numbers.
+//! Records that are looked up by number.
 ghost use Rattle.std.specs.FinMap.{FinMap};
 ghost use Rattle.std.specs.Ordering.{nat_cmp};
 ghost use Rattle.land_core.specs.declared.register.Register.{Register};
 ghost use Rattle.land_core.specs.declared.kind.Kind.{Kind as WhichKind};
 ghost use Rattle.land_core.specs.declared.kind.Kind.TheVariants as kinds;
 ghost use Rattle.land_select_joins.specs.Lookups.Numbered.{IsFoundBy, IsFoundWithin};
-ghost use Rattle.land_select_joins.specs.declared.lookups.look_up.LookUp.{LookUp as Which};
-ghost use Rattle.land_select_joins.specs.declared.lookups.look_up.LookUp.TheVariants as look_up;
+ghost use Rattle.land_select_joins.specs.declared.lookups.record_lookup.LookUp.{LookUp as Which};
+ghost use Rattle.land_select_joins.specs.declared.lookups.record_lookup.LookUp.TheVariants as record_lookup;
 
-use crate::lookups::look_up::LookUp;
+use crate::lookups::record_lookup::LookUp;
 use land_core::kind::Kind;
 use land_core::mutation::MutationRecord;
 use land_core::parcel::ParcelRecord;
@@ -19,30 +19,30 @@ use land_core::unit::UnitRecord;
 use land_tables_history::version::Version;
 use land_tables_rows::reading::from_row::FromRow;
 
-/// What the register has under a number, and a table versions of.
+/// A record type: the register has one per number, and a table has its versions.
 pub trait Numbered: Drop
 where
     Version<(u64, Self)>: FromRow,
 {
-    /// Where the register has them.
+    /// The part of the register that has these records.
     ghost part: { Register → FinMap nat_cmp Self };
 
-    /// The look-up that finds one by its number.
+    /// The lookup of one record by its number.
     const BY_NUMBER: LookUp;
 
-    /// The look-up that finds one by its number.
+    /// The lookup of one record by its number.
     ghost BY_NUMBER: { Which };
 
-    /// It finds what stands.
+    /// The lookup returns the current record.
     ghost found: { IsFoundBy ⟦<Version<(u64, Self)> as FromRow>⟧.said BY_NUMBER part };
 
-    /// Their kind.
+    /// The kind of the objects.
     const KIND: Kind;
 
-    /// Their kind.
+    /// The kind of the objects.
     ghost KIND: { WhichKind };
 
-    /// The text of the kind finds what stands under the numbers of a range.
+    /// The statement of the kind returns the records in a range of numbers.
     ghost within: { IsFoundWithin ⟦<Version<(u64, Self)> as FromRow>⟧.said KIND part };
 }
 
@@ -51,15 +51,25 @@ impl Numbered for PartyRecord {
 
     const BY_NUMBER: LookUp = LookUp::Party;
 
-    ghost BY_NUMBER = { look_up.Party };
+    ghost BY_NUMBER = { record_lookup.Party };
 
-    ghost found = { λ db moments h held. record { versions = h.parties; stand = λ t r stands. stands.parties; found = λ number t rows are. are h.parties held.the_parties.said } };
+    ghost found = { λ db moments h held. record {
+      versions = h.parties;
+      stand = λ t r stands. stands.parties;
+      found =
+          λ number t rows are. are h.parties held.the_parties.said;
+    } };
 
     const KIND: Kind = Kind::Party;
 
     ghost KIND = { kinds.Party };
 
-    ghost within = { λ db moments h held. record { versions = h.parties; stand = λ t r stands. stands.parties; found = λ first last t rows are. are h.parties held.the_parties.said } };
+    ghost within = { λ db moments h held. record {
+      versions = h.parties;
+      stand = λ t r stands. stands.parties;
+      found =
+          λ first last t rows are. are h.parties held.the_parties.said;
+    } };
 }
 
 impl Numbered for UnitRecord {
@@ -67,15 +77,25 @@ impl Numbered for UnitRecord {
 
     const BY_NUMBER: LookUp = LookUp::Unit;
 
-    ghost BY_NUMBER = { look_up.Unit };
+    ghost BY_NUMBER = { record_lookup.Unit };
 
-    ghost found = { λ db moments h held. record { versions = h.units; stand = λ t r stands. stands.units; found = λ number t rows are. are h.units held.the_units.said } };
+    ghost found = { λ db moments h held. record {
+      versions = h.units;
+      stand = λ t r stands. stands.units;
+      found =
+          λ number t rows are. are h.units held.the_units.said;
+    } };
 
     const KIND: Kind = Kind::Unit;
 
     ghost KIND = { kinds.Unit };
 
-    ghost within = { λ db moments h held. record { versions = h.units; stand = λ t r stands. stands.units; found = λ first last t rows are. are h.units held.the_units.said } };
+    ghost within = { λ db moments h held. record {
+      versions = h.units;
+      stand = λ t r stands. stands.units;
+      found =
+          λ first last t rows are. are h.units held.the_units.said;
+    } };
 }
 
 impl Numbered for ParcelRecord {
@@ -83,15 +103,25 @@ impl Numbered for ParcelRecord {
 
     const BY_NUMBER: LookUp = LookUp::Parcel;
 
-    ghost BY_NUMBER = { look_up.Parcel };
+    ghost BY_NUMBER = { record_lookup.Parcel };
 
-    ghost found = { λ db moments h held. record { versions = h.parcels; stand = λ t r stands. stands.parcels; found = λ number t rows are. are h.parcels held.the_parcels.said } };
+    ghost found = { λ db moments h held. record {
+      versions = h.parcels;
+      stand = λ t r stands. stands.parcels;
+      found =
+          λ number t rows are. are h.parcels held.the_parcels.said;
+    } };
 
     const KIND: Kind = Kind::Parcel;
 
     ghost KIND = { kinds.Parcel };
 
-    ghost within = { λ db moments h held. record { versions = h.parcels; stand = λ t r stands. stands.parcels; found = λ first last t rows are. are h.parcels held.the_parcels.said } };
+    ghost within = { λ db moments h held. record {
+      versions = h.parcels;
+      stand = λ t r stands. stands.parcels;
+      found =
+          λ first last t rows are. are h.parcels held.the_parcels.said;
+    } };
 }
 
 impl Numbered for RrrRecord {
@@ -99,15 +129,25 @@ impl Numbered for RrrRecord {
 
     const BY_NUMBER: LookUp = LookUp::Entry;
 
-    ghost BY_NUMBER = { look_up.Entry };
+    ghost BY_NUMBER = { record_lookup.Entry };
 
-    ghost found = { λ db moments h held. record { versions = h.rrrs; stand = λ t r stands. stands.rrrs; found = λ number t rows are. are h.rrrs held.the_rrrs.said } };
+    ghost found = { λ db moments h held. record {
+      versions = h.rrrs;
+      stand = λ t r stands. stands.rrrs;
+      found =
+          λ number t rows are. are h.rrrs held.the_rrrs.said;
+    } };
 
     const KIND: Kind = Kind::Rrr;
 
     ghost KIND = { kinds.Rrr };
 
-    ghost within = { λ db moments h held. record { versions = h.rrrs; stand = λ t r stands. stands.rrrs; found = λ first last t rows are. are h.rrrs held.the_rrrs.said } };
+    ghost within = { λ db moments h held. record {
+      versions = h.rrrs;
+      stand = λ t r stands. stands.rrrs;
+      found =
+          λ first last t rows are. are h.rrrs held.the_rrrs.said;
+    } };
 }
 
 impl Numbered for SourceRecord {
@@ -115,15 +155,25 @@ impl Numbered for SourceRecord {
 
     const BY_NUMBER: LookUp = LookUp::Source;
 
-    ghost BY_NUMBER = { look_up.Source };
+    ghost BY_NUMBER = { record_lookup.Source };
 
-    ghost found = { λ db moments h held. record { versions = h.sources; stand = λ t r stands. stands.sources; found = λ number t rows are. are h.sources held.the_sources.said } };
+    ghost found = { λ db moments h held. record {
+      versions = h.sources;
+      stand = λ t r stands. stands.sources;
+      found =
+          λ number t rows are. are h.sources held.the_sources.said;
+    } };
 
     const KIND: Kind = Kind::Source;
 
     ghost KIND = { kinds.Source };
 
-    ghost within = { λ db moments h held. record { versions = h.sources; stand = λ t r stands. stands.sources; found = λ first last t rows are. are h.sources held.the_sources.said } };
+    ghost within = { λ db moments h held. record {
+      versions = h.sources;
+      stand = λ t r stands. stands.sources;
+      found =
+          λ first last t rows are. are h.sources held.the_sources.said;
+    } };
 }
 
 impl Numbered for MutationRecord {
@@ -131,13 +181,23 @@ impl Numbered for MutationRecord {
 
     const BY_NUMBER: LookUp = LookUp::Mutation;
 
-    ghost BY_NUMBER = { look_up.Mutation };
+    ghost BY_NUMBER = { record_lookup.Mutation };
 
-    ghost found = { λ db moments h held. record { versions = h.mutations; stand = λ t r stands. stands.mutations; found = λ number t rows are. are h.mutations held.the_mutations.said } };
+    ghost found = { λ db moments h held. record {
+      versions = h.mutations;
+      stand = λ t r stands. stands.mutations;
+      found =
+          λ number t rows are. are h.mutations held.the_mutations.said;
+    } };
 
     const KIND: Kind = Kind::Mutation;
 
     ghost KIND = { kinds.Mutation };
 
-    ghost within = { λ db moments h held. record { versions = h.mutations; stand = λ t r stands. stands.mutations; found = λ first last t rows are. are h.mutations held.the_mutations.said } };
+    ghost within = { λ db moments h held. record {
+      versions = h.mutations;
+      stand = λ t r stands. stands.mutations;
+      found =
+          λ first last t rows are. are h.mutations held.the_mutations.said;
+    } };
 }

@@ -1,14 +1,10 @@
-//! Objects as they are shown, by their kinds and numbers.
+//! Objects by kind and number, as replies show them.
 ghost use Rattle.std.specs.FinMap as map;
-ghost use Rattle.std.specs.Prelude.{◌≡◌, false, IfErr};
 ghost use Rattle.land_core.specs.Register.{object_at};
 ghost use Rattle.land_core.specs.declared.kind.Kind.TheVariants as kinds;
-ghost use Rattle.land_select_joins.specs.Joins.Running.{HoldsNone};
 ghost use Rattle.land_select_joins.specs.Lookups.Parts.{IsPart};
-ghost use Rattle.land_tables_schema.specs.Land.{IsLand};
-ghost use Rattle.land_tables_schema.specs.Rows.Looks.{IsLook};
-ghost use Rattle.sqlite.specs.Held.{state};
-ghost use Rattle.sqlite.specs.State.{HasCleanDisk};
+ghost use Rattle.land_select_joins.specs.TableReads.{FailsOnlyWithoutHistory, ReadsTables};
+ghost use Rattle.land_tables_schema.specs.Connections.{HasRegisterTables, LeavesAutocommit};
 
 use crate::lookups::shown::{Shown, party_shown};
 use crate::lookups::{by_number, of_group, of_party};
@@ -26,7 +22,7 @@ use land_tables_rows::reading::from_row::FromRow;
 use sqlite::{Alter, Connection};
 use std::alloc::Global;
 
-/// A party that stands at a number, with its roles and its members.
+/// Builds the object of a party, with its roles and its members.
 fn party_with<S: Alter>(
     alloc: Global,
     conn: &mut Connection<S>,
@@ -34,27 +30,30 @@ fn party_with<S: Alter>(
     number: u64,
     at: i64,
 ) -> Result<Option<Object>, ReadFault>
-    requires land { HasCleanDisk (state S.Store conn.old) → IsLand (state S.Store conn.old).now.schema }
-    ensures look { IsLook result (λ it. IsPart (λ r. object_at (record r { parties = map.insert map.empty number found }) kinds.Party number) at (state S.Store conn.old).now.trees it) (state S.Store conn.old) (state S.Store conn.new) }
-    ensures unreadable { HasCleanDisk (state S.Store conn.new) → IfErr result (HoldsNone (state S.Store conn.old).now.trees) }
-    ensures mode { conn.old.in_transaction ≡ false → conn.new.in_transaction ≡ false }
+    requires land { HasRegisterTables S.Store conn.old }
+    ensures look { ReadsTables S.Store result
+        (IsPart (λ r. object_at (record r { parties = map.insert map.empty number found }) kinds.Party number)
+        at) conn.old conn.new }
+    ensures unreadable { FailsOnlyWithoutHistory S.Store result conn.old conn.new }
+    ensures mode { LeavesAutocommit conn.old conn.new }
 {
     let roles = of_party::roles(alloc, conn, number, at)?;
     let members = of_group::members(alloc, conn, number, at)?;
     Ok(party_shown(alloc, number, found, roles, members)?)
 }
 
-/// The party of a number, with its roles and its members.
+/// Reads the party of a number, with its roles and its members.
 fn party<S: Alter>(
     alloc: Global,
     conn: &mut Connection<S>,
     number: u64,
     at: i64,
 ) -> Result<Option<Object>, ReadFault>
-    requires land { HasCleanDisk (state S.Store conn.old) → IsLand (state S.Store conn.old).now.schema }
-    ensures look { IsLook result (λ it. IsPart (λ r. object_at r kinds.Party number) at (state S.Store conn.old).now.trees it) (state S.Store conn.old) (state S.Store conn.new) }
-    ensures unreadable { HasCleanDisk (state S.Store conn.new) → IfErr result (HoldsNone (state S.Store conn.old).now.trees) }
-    ensures mode { conn.old.in_transaction ≡ false → conn.new.in_transaction ≡ false }
+    requires land { HasRegisterTables S.Store conn.old }
+    ensures look { ReadsTables S.Store result (IsPart (λ r. object_at r kinds.Party number) at) conn.old
+        conn.new }
+    ensures unreadable { FailsOnlyWithoutHistory S.Store result conn.old conn.new }
+    ensures mode { LeavesAutocommit conn.old conn.new }
 {
     let known = by_number::record(alloc, conn, number, at)?;
     match known {
@@ -63,7 +62,7 @@ fn party<S: Alter>(
     }
 }
 
-/// What is shown as it stands in its own table, of a number.
+/// Reads the object of a kind that has a table of its own.
 fn shown<V: Shown, S: Alter>(
     alloc: Global,
     conn: &mut Connection<S>,
@@ -72,17 +71,17 @@ fn shown<V: Shown, S: Alter>(
 ) -> Result<Option<Object>, ReadFault>
 where
     Version<(u64, V)>: FromRow,
-    requires land { HasCleanDisk (state S.Store conn.old) → IsLand (state S.Store conn.old).now.schema }
-    ensures look { IsLook result (λ it. IsPart (λ r. object_at r V.kind number) at (state S.Store conn.old).now.trees it) (state S.Store conn.old) (state S.Store conn.new) }
-    ensures unreadable { HasCleanDisk (state S.Store conn.new) → IfErr result (HoldsNone (state S.Store conn.old).now.trees) }
-    ensures mode { conn.old.in_transaction ≡ false → conn.new.in_transaction ≡ false }
+    requires land { HasRegisterTables S.Store conn.old }
+    ensures look { ReadsTables S.Store result (IsPart (λ r. object_at r V.kind number) at) conn.old conn.new }
+    ensures unreadable { FailsOnlyWithoutHistory S.Store result conn.old conn.new }
+    ensures mode { LeavesAutocommit conn.old conn.new }
 {
     let found = by_number::record::<V, S>(alloc, conn, number, at)?;
     Ok(V::shown(number, found))
 }
 
-/// The object of a kind that stands at a number and a moment, in milliseconds since 1970 UTC, as it is shown, or `None`. 520: the tables hold
-/// no history. 501: there was no memory.
+/// Reads the object of a kind and a number at a time, in Unix milliseconds; `None` if it does not exist.
+/// Returns error 520 only if the tables hold no history, and 501 if out of memory.
 pub fn object<S: Alter>(
     alloc: Global,
     conn: &mut Connection<S>,
@@ -90,10 +89,10 @@ pub fn object<S: Alter>(
     number: u64,
     at: i64,
 ) -> Result<Option<Object>, ReadFault>
-    requires land { HasCleanDisk (state S.Store conn.old) → IsLand (state S.Store conn.old).now.schema }
-    ensures look { IsLook result (λ it. IsPart (λ r. object_at r kind number) at (state S.Store conn.old).now.trees it) (state S.Store conn.old) (state S.Store conn.new) }
-    ensures unreadable { HasCleanDisk (state S.Store conn.new) → IfErr result (HoldsNone (state S.Store conn.old).now.trees) }
-    ensures mode { conn.old.in_transaction ≡ false → conn.new.in_transaction ≡ false }
+    requires land { HasRegisterTables S.Store conn.old }
+    ensures look { ReadsTables S.Store result (IsPart (λ r. object_at r kind number) at) conn.old conn.new }
+    ensures unreadable { FailsOnlyWithoutHistory S.Store result conn.old conn.new }
+    ensures mode { LeavesAutocommit conn.old conn.new }
 {
     match kind {
         Kind::Party => party(alloc, conn, number, at),

@@ -1,15 +1,12 @@
-//! The mandates that a party holds, those who gave them, and the circle that they make with it.
-ghost use Rattle.std.specs.Prelude.{◌≡◌, false, map, nat_eq, IfErr, IfOk};
+//! The mandates that a party holds, their principals, and the circle of the party.
+ghost use Rattle.std.specs.Prelude.{◌≡◌, map, nat_eq, IfOk};
 ghost use Rattle.land_core.specs.Entries.{only};
-ghost use Rattle.land_select_joins.specs.Joins.Running.{HoldsNone};
 ghost use Rattle.land_select_joins.specs.Lookups.Parts.{ArePrincipalsOf, IsCircleOf, IsPart};
-ghost use Rattle.land_tables_schema.specs.Land.{IsLand};
-ghost use Rattle.land_tables_schema.specs.Rows.Looks.{IsLook};
-ghost use Rattle.sqlite.specs.Held.{state};
-ghost use Rattle.sqlite.specs.State.{HasCleanDisk};
+ghost use Rattle.land_select_joins.specs.TableReads.{FailsOnlyWithoutHistory, ReadsTables};
+ghost use Rattle.land_tables_schema.specs.Connections.{HasRegisterTables, LeavesAutocommit};
 
-use crate::lookups::finding::find;
-use crate::lookups::look_up::LookUp;
+use crate::lookups::record_lookup::LookUp;
+use crate::lookups::record_rows::find;
 use land_core::mandates::{Mandate, Mandates};
 use land_core::sequence::{NumberList, Sequence};
 use land_tables_history::mandates::mandates_at;
@@ -18,40 +15,43 @@ use land_tables_rows::listing::fault::ReadFault;
 use sqlite::{Alter, Connection};
 use std::alloc::{AllocError, Global};
 
-/// The mandates that a party holds at a moment, in milliseconds since 1970 UTC. 520: the tables hold no history. 501: there was no memory.
+/// Reads the mandates that a party holds at a time, in Unix milliseconds. Returns error 520 only if the
+/// tables hold no history, and 501 if out of memory.
 pub fn mandates<S: Alter>(
     alloc: Global,
     conn: &mut Connection<S>,
     agent: u64,
     at: i64,
 ) -> Result<Mandates, ReadFault>
-    requires land { HasCleanDisk (state S.Store conn.old) → IsLand (state S.Store conn.old).now.schema }
-    ensures look { IsLook result (λ it. IsPart (λ r. only (λ mandate u. nat_eq mandate.agent agent) r.mandates) at (state S.Store conn.old).now.trees it) (state S.Store conn.old) (state S.Store conn.new) }
-    ensures unreadable { HasCleanDisk (state S.Store conn.new) → IfErr result (HoldsNone (state S.Store conn.old).now.trees) }
-    ensures mode { conn.old.in_transaction ≡ false → conn.new.in_transaction ≡ false }
+    requires land { HasRegisterTables S.Store conn.old }
+    ensures look { ReadsTables S.Store result
+        (IsPart (λ r. only (λ mandate u. nat_eq mandate.agent agent) r.mandates) at) conn.old conn.new }
+    ensures unreadable { FailsOnlyWithoutHistory S.Store result conn.old conn.new }
+    ensures mode { LeavesAutocommit conn.old conn.new }
 {
     let held = find(alloc, conn, LookUp::MandatesOfAgent, agent, at)?;
     Ok(mandates_at(alloc, held.as_slice(), at)?)
 }
 
-/// Those whose mandate a party holds at a moment, in milliseconds since 1970 UTC, in whatever order and each once; the principals of these
-/// are not looked for. 520: the tables hold no history. 501: there was no memory.
+/// Reads the principals of a party at a time, in Unix milliseconds, in any order and each once. Mandates are
+/// not transitive: the principals of these are not included. Returns error 520 only if the tables hold no
+/// history, and 501 if out of memory.
 pub fn principals<S: Alter>(
     alloc: Global,
     conn: &mut Connection<S>,
     agent: u64,
     at: i64,
 ) -> Result<NumberList, ReadFault>
-    requires land { HasCleanDisk (state S.Store conn.old) → IsLand (state S.Store conn.old).now.schema }
-    ensures look { IsLook result (λ it. ArePrincipalsOf agent at (state S.Store conn.old).now.trees it) (state S.Store conn.old) (state S.Store conn.new) }
-    ensures unreadable { HasCleanDisk (state S.Store conn.new) → IfErr result (HoldsNone (state S.Store conn.old).now.trees) }
-    ensures mode { conn.old.in_transaction ≡ false → conn.new.in_transaction ≡ false }
+    requires land { HasRegisterTables S.Store conn.old }
+    ensures look { ReadsTables S.Store result (ArePrincipalsOf agent at) conn.old conn.new }
+    ensures unreadable { FailsOnlyWithoutHistory S.Store result conn.old conn.new }
+    ensures mode { LeavesAutocommit conn.old conn.new }
 {
     let found = find(alloc, conn, LookUp::MandatesOfAgent, agent, at)?;
     Ok(principals_of(alloc, found.as_slice())?)
 }
 
-/// The principals of some mandates, in the order of these.
+/// Returns the principals of mandates, in the same order.
 fn principals_of(alloc: Global, mandates: &[Version<Mandate>]) -> Result<NumberList, AllocError>
     ensures { IfOk result (λ it. it ≡ map (λ v. v.what.principal) mandates.now) }
 {
@@ -62,18 +62,18 @@ fn principals_of(alloc: Global, mandates: &[Version<Mandate>]) -> Result<NumberL
     Ok(numbers)
 }
 
-/// The circle of a party at a moment, in milliseconds since 1970 UTC, in whatever order: the party, and those whose mandate it holds. 520:
-/// the tables hold no history. 501: there was no memory.
+/// Reads the circle of a party at a time, in Unix milliseconds, in any order: the party and its principals.
+/// Returns error 520 only if the tables hold no history, and 501 if out of memory.
 pub fn circle<S: Alter>(
     alloc: Global,
     conn: &mut Connection<S>,
     party: u64,
     at: i64,
 ) -> Result<NumberList, ReadFault>
-    requires land { HasCleanDisk (state S.Store conn.old) → IsLand (state S.Store conn.old).now.schema }
-    ensures look { IsLook result (λ it. IsCircleOf party at (state S.Store conn.old).now.trees it) (state S.Store conn.old) (state S.Store conn.new) }
-    ensures unreadable { HasCleanDisk (state S.Store conn.new) → IfErr result (HoldsNone (state S.Store conn.old).now.trees) }
-    ensures mode { conn.old.in_transaction ≡ false → conn.new.in_transaction ≡ false }
+    requires land { HasRegisterTables S.Store conn.old }
+    ensures look { ReadsTables S.Store result (IsCircleOf party at) conn.old conn.new }
+    ensures unreadable { FailsOnlyWithoutHistory S.Store result conn.old conn.new }
+    ensures mode { LeavesAutocommit conn.old conn.new }
 {
     let mut numbers = principals(alloc, conn, party, at)?;
     numbers.push(party)?;

@@ -1,14 +1,11 @@
 //! The parties of the entries of a unit, or of a range of numbers.
-ghost use Rattle.std.specs.Prelude.{◌≡◌, false, IfErr};
-ghost use Rattle.land_select_joins.specs.Joins.Running.{HoldsNone};
-ghost use Rattle.land_select_joins.specs.Lookups.Parties.{ArePartiesIn, ArePartiesWithin, ArePartyRows, of_range, of_unit};
-ghost use Rattle.land_tables_schema.specs.Land.{IsLand};
-ghost use Rattle.land_tables_schema.specs.Rows.Looks.{IsLook};
-ghost use Rattle.sqlite.specs.Held.{state};
-ghost use Rattle.sqlite.specs.State.{HasCleanDisk};
+ghost use Rattle.land_select_joins.specs.Lookups.Parties.{ArePartiesIn, ArePartiesWithin, ArePartyRows};
+ghost use Rattle.land_select_joins.specs.Lookups.Parties.{of_range, of_unit};
+ghost use Rattle.land_select_joins.specs.TableReads.{FailsOnlyWithoutHistory, ReadsTables};
+ghost use Rattle.land_tables_schema.specs.Connections.{HasRegisterTables, LeavesAutocommit};
 
 use crate::joins::running::asked_for;
-use crate::lookups::finding::read;
+use crate::lookups::record_rows::read;
 use crate::lookups::texts;
 use crate::lookups::within::BEYOND;
 use land_core::party::PartyRecord;
@@ -19,11 +16,12 @@ use land_tables_schema::rows::cells::{of_moment, of_number};
 use sqlite::{Alter, Connection, Error, Row};
 use std::alloc::Global;
 
-/// The rows of the parties of the entries of a unit at a moment, in whatever order.
+/// Returns the rows of the parties of a unit's entries at a time, in any order.
 fn rows_of<S: Alter>(conn: &mut Connection<S>, unit: u64, at: i64) -> Result<Vec<Row>, Error>
-    requires land { HasCleanDisk (state S.Store conn.old) → IsLand (state S.Store conn.old).now.schema }
-    ensures look { IsLook result (λ rows. ArePartyRows (of_unit unit) at (state S.Store conn.old).now.trees rows.items) (state S.Store conn.old) (state S.Store conn.new) }
-    ensures mode { conn.old.in_transaction ≡ false → conn.new.in_transaction ≡ false }
+    requires land { HasRegisterTables S.Store conn.old }
+    ensures look { ReadsTables S.Store result (λ db rows. ArePartyRows (of_unit unit) at db rows.items)
+        conn.old conn.new }
+    ensures mode { LeavesAutocommit conn.old conn.new }
 {
     conn.query_all(
         texts::PARTIES_OF_UNIT,
@@ -31,33 +29,34 @@ fn rows_of<S: Alter>(conn: &mut Connection<S>, unit: u64, at: i64) -> Result<Vec
     )
 }
 
-/// The parties of the entries of a unit that stand at a moment, in milliseconds since 1970 UTC, in whatever order, and a party as often as it
-/// has an entry in the unit. 520: the tables hold no history. 501: there was no memory.
+/// Reads the parties of a unit's entries at a time, in Unix milliseconds, in any order. A party is repeated
+/// for each of its entries. Returns error 520 only if the tables hold no history, and 501 if out of memory.
 pub fn parties<S: Alter>(
     alloc: Global,
     conn: &mut Connection<S>,
     unit: u64,
     at: i64,
 ) -> Result<Sequence<Version<(u64, PartyRecord)>>, ReadFault>
-    requires land { HasCleanDisk (state S.Store conn.old) → IsLand (state S.Store conn.old).now.schema }
-    ensures look { IsLook result (λ it. ArePartiesIn unit at (state S.Store conn.old).now.trees it) (state S.Store conn.old) (state S.Store conn.new) }
-    ensures unreadable { HasCleanDisk (state S.Store conn.new) → IfErr result (HoldsNone (state S.Store conn.old).now.trees) }
-    ensures mode { conn.old.in_transaction ≡ false → conn.new.in_transaction ≡ false }
+    requires land { HasRegisterTables S.Store conn.old }
+    ensures look { ReadsTables S.Store result (ArePartiesIn unit at) conn.old conn.new }
+    ensures unreadable { FailsOnlyWithoutHistory S.Store result conn.old conn.new }
+    ensures mode { LeavesAutocommit conn.old conn.new }
 {
     let rows = rows_of(conn, unit, at)?;
     read(alloc, rows.as_slice())
 }
 
-/// The rows of the parties of the entries of a range of numbers at a moment, in whatever order.
+/// Returns the rows of the parties of entries in a range of numbers at a time, in any order.
 fn rows_within<S: Alter>(
     conn: &mut Connection<S>,
     first: u64,
     last: u64,
     at: i64,
 ) -> Result<Vec<Row>, Error>
-    requires land { HasCleanDisk (state S.Store conn.old) → IsLand (state S.Store conn.old).now.schema }
-    ensures look { IsLook result (λ rows. ArePartyRows (of_range first last) at (state S.Store conn.old).now.trees rows.items) (state S.Store conn.old) (state S.Store conn.new) }
-    ensures mode { conn.old.in_transaction ≡ false → conn.new.in_transaction ≡ false }
+    requires land { HasRegisterTables S.Store conn.old }
+    ensures look { ReadsTables S.Store result (λ db rows. ArePartyRows (of_range first last) at db rows.items)
+        conn.old conn.new }
+    ensures mode { LeavesAutocommit conn.old conn.new }
 {
     conn.query_all(
         texts::PARTIES_OF_ENTRIES,
@@ -69,8 +68,9 @@ fn rows_within<S: Alter>(
     )
 }
 
-/// The parties of the entries of a range of numbers, whose ends belong to it, that stand at a moment, in milliseconds since 1970 UTC, in
-/// whatever order, and a party as often as it has an entry there. 520: the tables hold no history. 501: there was no memory.
+/// Reads the parties of the entries in a range of numbers, both ends included, at a time, in Unix
+/// milliseconds, in any order. A party is repeated for each of its entries. Returns error 520 only if the
+/// tables hold no history, and 501 if out of memory.
 pub fn parties_within<S: Alter>(
     alloc: Global,
     conn: &mut Connection<S>,
@@ -78,10 +78,10 @@ pub fn parties_within<S: Alter>(
     last: u64,
     at: i64,
 ) -> Result<Sequence<Version<(u64, PartyRecord)>>, ReadFault>
-    requires land { HasCleanDisk (state S.Store conn.old) → IsLand (state S.Store conn.old).now.schema }
-    ensures look { IsLook result (λ it. ArePartiesWithin first last at (state S.Store conn.old).now.trees it) (state S.Store conn.old) (state S.Store conn.new) }
-    ensures unreadable { HasCleanDisk (state S.Store conn.new) → IfErr result (HoldsNone (state S.Store conn.old).now.trees) }
-    ensures mode { conn.old.in_transaction ≡ false → conn.new.in_transaction ≡ false }
+    requires land { HasRegisterTables S.Store conn.old }
+    ensures look { ReadsTables S.Store result (ArePartiesWithin first last at) conn.old conn.new }
+    ensures unreadable { FailsOnlyWithoutHistory S.Store result conn.old conn.new }
+    ensures mode { LeavesAutocommit conn.old conn.new }
 {
     let rows = rows_within(conn, first, last, at)?;
     read(alloc, rows.as_slice())

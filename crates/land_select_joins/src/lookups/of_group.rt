@@ -1,15 +1,12 @@
-//! What belongs to a group.
-ghost use Rattle.std.specs.Prelude.{◌≡◌, nat_eq, false, IfErr};
+//! The members of a group.
+ghost use Rattle.std.specs.Prelude.{nat_eq};
 ghost use Rattle.land_core.specs.Entries.{only};
-ghost use Rattle.land_select_joins.specs.Joins.Running.{HoldsNone};
 ghost use Rattle.land_select_joins.specs.Lookups.Parts.{IsPart};
-ghost use Rattle.land_tables_schema.specs.Land.{IsLand};
-ghost use Rattle.land_tables_schema.specs.Rows.Looks.{IsLook};
-ghost use Rattle.sqlite.specs.Held.{state};
-ghost use Rattle.sqlite.specs.State.{HasCleanDisk};
+ghost use Rattle.land_select_joins.specs.TableReads.{FailsOnlyWithoutHistory, ReadsTables};
+ghost use Rattle.land_tables_schema.specs.Connections.{HasRegisterTables, LeavesAutocommit};
 
-use crate::lookups::finding::find;
-use crate::lookups::look_up::LookUp;
+use crate::lookups::record_lookup::LookUp;
+use crate::lookups::record_rows::find;
 use land_core::member::Members;
 use land_core::records::Records;
 use land_tables_history::groups::groups_at;
@@ -17,18 +14,20 @@ use land_tables_rows::listing::fault::ReadFault;
 use sqlite::{Alter, Connection};
 use std::alloc::Global;
 
-/// The members of a group at a moment, in milliseconds since 1970 UTC, under the number of the group; nothing where it has none. 520: the
-/// tables hold no history. 501: there was no memory.
+/// Reads the members of a group at a time, in Unix milliseconds, as a map from the group's number; the map is
+/// empty if the group has none. Returns error 520 only if the tables hold no history, and 501 if out of
+/// memory.
 pub fn members<S: Alter>(
     alloc: Global,
     conn: &mut Connection<S>,
     group: u64,
     at: i64,
 ) -> Result<Records<Members>, ReadFault>
-    requires land { HasCleanDisk (state S.Store conn.old) → IsLand (state S.Store conn.old).now.schema }
-    ensures look { IsLook result (λ it. IsPart (λ r. only (λ n members. nat_eq n group) r.members) at (state S.Store conn.old).now.trees it) (state S.Store conn.old) (state S.Store conn.new) }
-    ensures unreadable { HasCleanDisk (state S.Store conn.new) → IfErr result (HoldsNone (state S.Store conn.old).now.trees) }
-    ensures mode { conn.old.in_transaction ≡ false → conn.new.in_transaction ≡ false }
+    requires land { HasRegisterTables S.Store conn.old }
+    ensures look { ReadsTables S.Store result (IsPart (λ r. only (λ n members. nat_eq n group) r.members) at)
+        conn.old conn.new }
+    ensures unreadable { FailsOnlyWithoutHistory S.Store result conn.old conn.new }
+    ensures mode { LeavesAutocommit conn.old conn.new }
 {
     let found = find(alloc, conn, LookUp::MembersOfGroup, group, at)?;
     Ok(groups_at(alloc, found.as_slice(), at)?)

@@ -1,15 +1,11 @@
-//! What belongs to a lodger.
-ghost use Rattle.std.specs.Prelude.{◌≡◌, false, IfErr};
+//! The mutations of a lodger.
 ghost use Rattle.land_core.specs.Entries.{only};
 ghost use Rattle.land_core.specs.Mutations.{is_lodged_as};
-ghost use Rattle.land_select_joins.specs.Joins.Running.{HoldsNone};
 ghost use Rattle.land_select_joins.specs.Lookups.Parts.{IsPart};
-ghost use Rattle.land_tables_schema.specs.Land.{IsLand};
-ghost use Rattle.land_tables_schema.specs.Rows.Looks.{IsLook};
-ghost use Rattle.sqlite.specs.Held.{state};
-ghost use Rattle.sqlite.specs.State.{HasCleanDisk};
+ghost use Rattle.land_select_joins.specs.TableReads.{FailsOnlyWithoutHistory, ReadsTables};
+ghost use Rattle.land_tables_schema.specs.Connections.{HasRegisterTables, LeavesAutocommit};
 
-use crate::lookups::finding::{read, rows_lodged_as};
+use crate::lookups::record_rows::{read, rows_lodged_as};
 use land_core::mutation::MutationRecord;
 use land_core::records::Records;
 use land_core::sequence::Sequence;
@@ -19,8 +15,8 @@ use land_tables_rows::listing::fault::ReadFault;
 use sqlite::{Alter, Connection};
 use std::alloc::Global;
 
-/// The mutation that a party lodged under a reference and that stands at a moment, in milliseconds since 1970 UTC, under its number, if any.
-/// 520: the tables hold no history. 501: there was no memory.
+/// Reads the mutation that a party lodged with a reference, at a time, in Unix milliseconds, as a map from
+/// its number. Returns error 520 only if the tables hold no history, and 501 if out of memory.
 pub fn lodged_as<S: Alter>(
     alloc: Global,
     conn: &mut Connection<S>,
@@ -28,10 +24,11 @@ pub fn lodged_as<S: Alter>(
     reference: &str,
     at: i64,
 ) -> Result<Records<MutationRecord>, ReadFault>
-    requires land { HasCleanDisk (state S.Store conn.old) → IsLand (state S.Store conn.old).now.schema }
-    ensures look { IsLook result (λ it. IsPart (λ r. only (λ n m. is_lodged_as lodger reference.now m) r.mutations) at (state S.Store conn.old).now.trees it) (state S.Store conn.old) (state S.Store conn.new) }
-    ensures unreadable { HasCleanDisk (state S.Store conn.new) → IfErr result (HoldsNone (state S.Store conn.old).now.trees) }
-    ensures mode { conn.old.in_transaction ≡ false → conn.new.in_transaction ≡ false }
+    requires land { HasRegisterTables S.Store conn.old }
+    ensures look { ReadsTables S.Store result
+        (IsPart (λ r. only (λ n m. is_lodged_as lodger reference.now m) r.mutations) at) conn.old conn.new }
+    ensures unreadable { FailsOnlyWithoutHistory S.Store result conn.old conn.new }
+    ensures mode { LeavesAutocommit conn.old conn.new }
 {
     let rows = rows_lodged_as(conn, lodger, reference, at)?;
     let found: Sequence<Version<(u64, MutationRecord)>> = read(alloc, rows.as_slice())?;

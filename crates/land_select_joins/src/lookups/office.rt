@@ -1,34 +1,31 @@
-//! Who is the office.
-ghost use Rattle.std.specs.Prelude.{◌≡◌, false, IfErr};
+//! The state administrators.
 ghost use Rattle.land_core.specs.Entries.{only};
 ghost use Rattle.land_core.specs.Role.{is_role};
 ghost use Rattle.land_core.specs.declared.role.Role.TheVariants.{StateAdministrator};
-ghost use Rattle.land_select_joins.specs.Joins.Running.{HoldsNone};
 ghost use Rattle.land_select_joins.specs.Lookups.Parts.{IsPart};
-ghost use Rattle.land_tables_schema.specs.Land.{IsLand};
-ghost use Rattle.land_tables_schema.specs.Rows.Looks.{IsLook};
-ghost use Rattle.sqlite.specs.Held.{state};
-ghost use Rattle.sqlite.specs.State.{HasCleanDisk};
+ghost use Rattle.land_select_joins.specs.TableReads.{FailsOnlyWithoutHistory, ReadsTables};
+ghost use Rattle.land_tables_schema.specs.Connections.{HasRegisterTables, LeavesAutocommit};
 
-use crate::lookups::finding::find;
-use crate::lookups::look_up::LookUp;
+use crate::lookups::record_lookup::LookUp;
+use crate::lookups::record_rows::find;
 use land_core::roles::Roles;
 use land_tables_history::roles::roles_at;
 use land_tables_rows::listing::fault::ReadFault;
 use sqlite::{Alter, Connection};
 use std::alloc::Global;
 
-/// The roles of all state administrators, none but that one, at a moment, in milliseconds since 1970 UTC. 520: the tables hold no history.
-/// 501: there was no memory.
+/// Reads the roles of all state administrators, only that one role of each, at a time, in Unix milliseconds.
+/// Returns error 520 only if the tables hold no history, and 501 if out of memory.
 pub fn administrators<S: Alter>(
     alloc: Global,
     conn: &mut Connection<S>,
     at: i64,
 ) -> Result<Roles, ReadFault>
-    requires land { HasCleanDisk (state S.Store conn.old) → IsLand (state S.Store conn.old).now.schema }
-    ensures look { IsLook result (λ it. IsPart (λ r. only (λ grant u. is_role grant.role StateAdministrator) r.roles) at (state S.Store conn.old).now.trees it) (state S.Store conn.old) (state S.Store conn.new) }
-    ensures unreadable { HasCleanDisk (state S.Store conn.new) → IfErr result (HoldsNone (state S.Store conn.old).now.trees) }
-    ensures mode { conn.old.in_transaction ≡ false → conn.new.in_transaction ≡ false }
+    requires land { HasRegisterTables S.Store conn.old }
+    ensures look { ReadsTables S.Store result
+        (IsPart (λ r. only (λ grant u. is_role grant.role StateAdministrator) r.roles) at) conn.old conn.new }
+    ensures unreadable { FailsOnlyWithoutHistory S.Store result conn.old conn.new }
+    ensures mode { LeavesAutocommit conn.old conn.new }
 {
     let found = find(alloc, conn, LookUp::Administrators, 0, at)?;
     Ok(roles_at(alloc, found.as_slice(), at)?)

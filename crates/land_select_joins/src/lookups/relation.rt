@@ -1,22 +1,22 @@
-//! By what somebody is told of a party.
+//! The relations by which a caller sees the parties of a unit's entries.
 ghost use Rattle.std.specs.Prelude.{◌≡◌};
 ghost use Rattle.land_select_joins.specs.Lookups.Texts.{seer_text_of};
 
 use crate::lookups::texts;
 
-/// How who is told of the parties of a unit's entries is related to that unit.
+/// The relation of a viewer to the unit of an entry.
 #[derive(Clone, Copy, Debug, PartialEq, Eq)]
 pub enum Relation {
-    /// It has a right in the unit; of mortgages it is told where that is ownership.
+    /// It has a right in the unit; it sees mortgages only if that right is ownership.
     Holding,
-    /// It has a mortgage on the unit; of mortgages it is told its own alone.
+    /// It has a mortgage on the unit; of mortgages it sees only its own.
     Crediting,
-    /// It lodged a mutation that is undecided and names the unit.
+    /// It lodged a pending mutation that refers to the unit.
     Awaiting,
 }
 
-/// The text that finds who is told of a party by such a relation. Parameter 1 is the number of the party, parameter 2 the moment in
-/// milliseconds since 1970 UTC.
+/// Returns the SQL statement that selects the viewers of a party by a relation. Parameter 1 is the number of
+/// the party, parameter 2 the time in Unix milliseconds.
 pub fn text_of(relation: Relation) -> &'static str
     ensures { result.now ≡ seer_text_of relation }
 {

@@ -1,11 +1,8 @@
-//! Who is told of a party.
-ghost use Rattle.std.specs.Prelude.{◌≡◌, length, nat_le, false, IfErr};
-ghost use Rattle.land_select_joins.specs.Joins.Running.{HoldsNone};
+//! The viewers of a party.
+ghost use Rattle.std.specs.Prelude.{◌≡◌, length, nat_le};
 ghost use Rattle.land_select_joins.specs.Lookups.Seers.{AreSeerRows, AreSeers};
-ghost use Rattle.land_tables_schema.specs.Land.{IsLand};
-ghost use Rattle.land_tables_schema.specs.Rows.Looks.{IsLook};
-ghost use Rattle.sqlite.specs.Held.{state};
-ghost use Rattle.sqlite.specs.State.{HasCleanDisk};
+ghost use Rattle.land_select_joins.specs.TableReads.{FailsOnlyWithoutHistory, ReadsTables};
+ghost use Rattle.land_tables_schema.specs.Connections.{HasRegisterTables, LeavesAutocommit};
 
 use crate::joins::running::{asked_for, read};
 use crate::lookups::relation::{Relation, text_of};
@@ -15,19 +12,21 @@ use land_tables_schema::rows::cells::{of_moment, of_number};
 use sqlite::{Alter, Connection, Error, Row};
 use std::alloc::Global;
 
-/// How many rows tell who is told of a party, at most. The texts read one more.
+/// The greatest number of rows to decode. The statements return at most one more.
 const MOST: usize = 16;
 
-/// The rows of who is told of a party by a relation at a moment, in whatever order. If they are more than `MOST`, there may be others.
+/// Returns the rows of a party's viewers by a relation at a time, in any order. If there are more than the
+/// greatest number, more viewers may exist.
 fn rows_of<S: Alter>(
     conn: &mut Connection<S>,
     relation: Relation,
     party: u64,
     at: i64,
 ) -> Result<Vec<Row>, Error>
-    requires land { HasCleanDisk (state S.Store conn.old) → IsLand (state S.Store conn.old).now.schema }
-    ensures look { IsLook result (λ rows. AreSeerRows relation party at (state S.Store conn.old).now.trees rows.items) (state S.Store conn.old) (state S.Store conn.new) }
-    ensures mode { conn.old.in_transaction ≡ false → conn.new.in_transaction ≡ false }
+    requires land { HasRegisterTables S.Store conn.old }
+    ensures look { ReadsTables S.Store result (λ db rows. AreSeerRows relation party at db rows.items)
+        conn.old conn.new }
+    ensures mode { LeavesAutocommit conn.old conn.new }
 {
     conn.query_all(
         text_of(relation),
@@ -35,16 +34,16 @@ fn rows_of<S: Alter>(
     )
 }
 
-/// Whether there are no more rows than are read.
+/// Checks that there are at most 16 rows.
 fn are_few(rows: &[Row]) -> bool
     ensures { result ≡ nat_le (length rows.now) 16 }
 {
     rows.len() <= MOST
 }
 
-/// Those who are told of a party by a relation at a moment, in milliseconds since 1970 UTC, in whatever order, one as often as it is told of
-/// one; or `None` where they are too many to be listed: what more than sixteen rows say is not read, so that no more is done for a party of
-/// many entries than for one of few. 520: the tables hold no history. 501: there was no memory.
+/// Reads the viewers of a party by a relation at a time, in Unix milliseconds, in any order and with
+/// repetitions; `None` if there are more than 16 rows. This limits the work for a party with many entries to
+/// that for one with few. Returns error 520 only if the tables hold no history, and 501 if out of memory.
 pub fn seers<S: Alter>(
     alloc: Global,
     conn: &mut Connection<S>,
@@ -52,10 +51,10 @@ pub fn seers<S: Alter>(
     party: u64,
     at: i64,
 ) -> Result<Option<NumberList>, ReadFault>
-    requires land { HasCleanDisk (state S.Store conn.old) → IsLand (state S.Store conn.old).now.schema }
-    ensures look { IsLook result (AreSeers relation party at (state S.Store conn.old).now.trees) (state S.Store conn.old) (state S.Store conn.new) }
-    ensures unreadable { HasCleanDisk (state S.Store conn.new) → IfErr result (HoldsNone (state S.Store conn.old).now.trees) }
-    ensures mode { conn.old.in_transaction ≡ false → conn.new.in_transaction ≡ false }
+    requires land { HasRegisterTables S.Store conn.old }
+    ensures look { ReadsTables S.Store result (AreSeers relation party at) conn.old conn.new }
+    ensures unreadable { FailsOnlyWithoutHistory S.Store result conn.old conn.new }
+    ensures mode { LeavesAutocommit conn.old conn.new }
 {
     let rows = rows_of(conn, relation, party, at)?;
     if !are_few(rows.as_slice()) {

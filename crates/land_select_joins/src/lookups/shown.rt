@@ -1,4 +1,4 @@
-//! Records as objects, as they are shown.
+//! Records as objects of replies.
 ghost use Rattle.std.specs.FinMap as map;
 ghost use Rattle.std.specs.Prelude.{◌≡◌, IfOk};
 ghost use Rattle.land_core.specs.Register.{nothing, object_at};
@@ -23,20 +23,20 @@ use land_tables_history::version::Version;
 use land_tables_rows::reading::from_row::FromRow;
 use std::alloc::{AllocError, Global};
 
-/// What is shown as it stands in its own table.
+/// A record type whose table has all fields of the object.
 pub trait Shown: Numbered
 where
     Version<(u64, Self)>: FromRow,
 {
-    /// Its kind.
+    /// The kind of the object.
     ghost kind: { Which };
 
-    /// What is found under a number, as an object with that number.
+    /// Builds the object of a number from its record, if it exists.
     fn shown(number: u64, found: Option<Self>) -> Option<Object>
         ensures { (r : Whole) → found ≡ map.get (Self.part r) number → result ≡ object_at r kind number };
 }
 
-/// A party with its roles and its members.
+/// Builds the object of a party from its record, roles and members.
 pub(crate) fn party_shown(
     alloc: Global,
     number: u64,
@@ -44,7 +44,9 @@ pub(crate) fn party_shown(
     roles: Roles,
     members: Records<Members>,
 ) -> Result<Option<Object>, AllocError>
-    ensures { IfOk result (λ it. it ≡ object_at (record nothing { parties = map.insert map.empty number shown; roles = roles; members = members }) kinds.Party number) }
+    ensures { IfOk result (λ it. it ≡ object_at
+        (record nothing { parties = map.insert map.empty number shown; roles = roles; members = members })
+        kinds.Party number) }
 {
     let mut parties = Records::new(alloc);
     parties.insert(number, shown)?;
@@ -145,7 +147,8 @@ impl Shown for MutationRecord {
     ghost kind = { kinds.Mutation };
 
     fn shown(number: u64, found: Option<MutationRecord>) -> Option<Object>
-        ensures { (r : Whole) → found ≡ map.get r.mutations number → result ≡ object_at r kinds.Mutation number }
+        ensures { (r : Whole) → found ≡ map.get r.mutations number
+            → result ≡ object_at r kinds.Mutation number }
     {
         match found {
             Some(

@@ -1,8 +1,9 @@
-//! The text of each look-up.
+//! The SQL statement of each lookup.
 //!
-//! In each of them parameter 1 is the number that is given, and parameter 2 the moment in milliseconds since 1970 UTC; parameter 3 is the
-//! reference, where one is given, and of a range of numbers the last one, where parameter 1 is the first. A row stands where the moment is
-//! not before its `since` and is before its `until`. A text that ends in `LIMIT` gives some of the rows that it would give without.
+//! Parameter 1 is the number and parameter 2 the time in Unix milliseconds. Parameter 3 is the reference, if
+//! there is one; for a range, parameter 1 is the first number and parameter 3 the last. A row is valid if the
+//! time is not before its `since` and is before its `until`. A statement with a `LIMIT` returns only some of
+//! the rows that it would return without.
 
 /// The party of a number.
 pub const PARTY: &str =
@@ -48,67 +49,67 @@ pub const MEMBERS_OF_GROUP: &str =
 pub const MANDATES_OF_AGENT: &str =
     "SELECT principal, agent, since, until FROM mandate WHERE agent = ?1 AND since <= ?2 AND ?2 < until";
 
-/// The mutation that a party lodged under a reference.
+/// The mutation that a party lodged with a reference.
 pub const MUTATION_LODGED_AS: &str =
     "SELECT number, lodger, reference, source, lodged, act, content, state, since, until FROM mutation WHERE lodger = ?1 AND reference = ?3 AND since <= ?2 AND ?2 < until";
 
-/// The state administrators. Parameter 1 is not looked at.
+/// The state administrators. Parameter 1 is not used.
 pub const ADMINISTRATORS: &str =
     "SELECT party, role, since, until FROM role WHERE role = 'stateAdministrator' AND since <= ?2 AND ?2 < until";
 
-/// The number of a unit, where it stands.
+/// The number of a unit, if it exists.
 pub const UNIT_NUMBER: &str =
     "SELECT number FROM unit WHERE number = ?1 AND since <= ?2 AND ?2 < until";
 
-/// Who lodged the mutation of a number.
+/// The lodger of the mutation of a number.
 pub const LODGER_OF_MUTATION: &str =
     "SELECT lodger FROM mutation WHERE number = ?1 AND since <= ?2 AND ?2 < until";
 
-/// Who lodged what is undecided and names a unit.
+/// The lodgers of pending mutations that refer to a unit.
 pub const LODGERS_ON_UNIT: &str =
     "SELECT mutation.lodger FROM names JOIN mutation ON mutation.number = names.mutation WHERE names.unit = ?1 AND mutation.state = 'lodged' AND names.since <= ?2 AND ?2 < names.until AND mutation.since <= ?2 AND ?2 < mutation.until";
 
-/// The parties of the entries of a unit, a party as often as it has one.
+/// The parties of a unit's entries, a party once for each entry.
 pub const PARTIES_OF_UNIT: &str =
     "SELECT party.number, party.name, party.kind, party.since, party.until FROM rrr JOIN party ON party.number = rrr.party WHERE rrr.unit = ?1 AND rrr.since <= ?2 AND ?2 < rrr.until AND party.since <= ?2 AND ?2 < party.until";
 
-/// The parties of a range of numbers.
+/// The parties in a range of numbers.
 pub const PARTIES_WITHIN: &str =
     "SELECT number, name, kind, since, until FROM party WHERE ?1 <= number AND number <= ?3 AND since <= ?2 AND ?2 < until";
 
-/// The units of a range of numbers.
+/// The units in a range of numbers.
 pub const UNITS_WITHIN: &str =
     "SELECT number, name, checked, since, until FROM unit WHERE ?1 <= number AND number <= ?3 AND since <= ?2 AND ?2 < until";
 
-/// The parcels of a range of numbers.
+/// The parcels in a range of numbers.
 pub const PARCELS_WITHIN: &str =
     "SELECT number, unit, label, outline, source, since, until FROM parcel WHERE ?1 <= number AND number <= ?3 AND since <= ?2 AND ?2 < until";
 
-/// The entries of a range of numbers.
+/// The entries in a range of numbers.
 pub const ENTRIES_WITHIN: &str =
     "SELECT number, unit, party, class, num, den, amount, currency, place, words, source, since, until FROM rrr WHERE ?1 <= number AND number <= ?3 AND since <= ?2 AND ?2 < until";
 
-/// The sources of a range of numbers.
+/// The sources in a range of numbers.
 pub const SOURCES_WITHIN: &str =
     "SELECT number, kind, title, since, until FROM source WHERE ?1 <= number AND number <= ?3 AND since <= ?2 AND ?2 < until";
 
-/// The mutations of a range of numbers.
+/// The mutations in a range of numbers.
 pub const MUTATIONS_WITHIN: &str =
     "SELECT number, lodger, reference, source, lodged, act, content, state, since, until FROM mutation WHERE ?1 <= number AND number <= ?3 AND since <= ?2 AND ?2 < until";
 
-/// The parties of the entries of a range of numbers, a party as often as it has one.
+/// The parties of the entries in a range of numbers, a party once for each entry.
 pub const PARTIES_OF_ENTRIES: &str =
     "SELECT party.number, party.name, party.kind, party.since, party.until FROM rrr JOIN party ON party.number = rrr.party WHERE ?1 <= rrr.number AND rrr.number <= ?3 AND rrr.since <= ?2 AND ?2 < rrr.until AND party.since <= ?2 AND ?2 < party.until";
 
-/// Who holds a right in the unit of an entry of a party that is told to its holder, one as often as it is told of one. More rows than
-/// seventeen are not read.
+/// The holders of a right in the unit of an entry of the party, if they see this entry. A holder is repeated
+/// for each such entry. At most 17 rows are returned.
 pub const SEERS_BY_HOLDING: &str =
     "SELECT held.party FROM rrr AS seen JOIN rrr AS held ON held.unit = seen.unit WHERE seen.party = ?1 AND held.class IN ('ownership', 'lease', 'usufruct') AND (seen.class <> 'mortgage' OR held.class = 'ownership') AND seen.since <= ?2 AND ?2 < seen.until AND held.since <= ?2 AND ?2 < held.until LIMIT 17";
 
-/// Who has a mortgage on the unit of an entry of a party that is told to its creditor, likewise.
+/// The creditors of a mortgage on the unit of an entry of the party, if they see this entry; likewise.
 pub const SEERS_BY_CREDITING: &str =
     "SELECT held.party FROM rrr AS seen JOIN rrr AS held ON held.unit = seen.unit WHERE seen.party = ?1 AND held.class = 'mortgage' AND (seen.class <> 'mortgage' OR seen.party = held.party) AND seen.since <= ?2 AND ?2 < seen.until AND held.since <= ?2 AND ?2 < held.until LIMIT 17";
 
-/// Who lodged what is undecided and names the unit of an entry of a party, likewise.
+/// The lodgers of a pending mutation that refers to the unit of an entry of the party; likewise.
 pub const SEERS_BY_AWAITING: &str =
     "SELECT mutation.lodger FROM rrr JOIN names ON names.unit = rrr.unit JOIN mutation ON mutation.number = names.mutation WHERE rrr.party = ?1 AND mutation.state = 'lodged' AND rrr.since <= ?2 AND ?2 < rrr.until AND names.since <= ?2 AND ?2 < names.until AND mutation.since <= ?2 AND ?2 < mutation.until LIMIT 17";

@@ -1,17 +1,16 @@
-//! Records of a range of numbers.
-ghost use Rattle.std.specs.Prelude.{◌≡◌, false, IfErr};
+//! Records in a range of numbers.
+ghost use Rattle.std.specs.Prelude.{◌≡◌, IfErr};
 ghost use Rattle.land_core.specs.Entries.{only};
-ghost use Rattle.land_select_joins.specs.Joins.Running.{HoldsNone};
-ghost use Rattle.land_select_joins.specs.Lookups.Finding.{AreSaid, CannotSay};
+ghost use Rattle.land_select_joins.specs.Lookups.RecordRows.{AreSaid, CannotBeRead};
 ghost use Rattle.land_select_joins.specs.Lookups.Parts.{IsPart};
 ghost use Rattle.land_select_joins.specs.Lookups.Ranges.{AreRowsWithin, is_within, text_within};
-ghost use Rattle.land_tables_schema.specs.Land.{IsLand};
-ghost use Rattle.land_tables_schema.specs.Rows.Looks.{IsLook};
+ghost use Rattle.land_select_joins.specs.TableReads.{FailsOnlyWithoutHistory, ReadsTables};
+ghost use Rattle.land_tables_schema.specs.Connections.{HasRegisterTables, LeavesAutocommit};
 ghost use Rattle.sqlite.specs.Held.{state};
 ghost use Rattle.sqlite.specs.State.{HasCleanDisk};
 
-use crate::lookups::finding::read;
 use crate::lookups::numbered::Numbered;
+use crate::lookups::record_rows::read;
 use crate::lookups::texts;
 use land_core::duplicate::Duplicate;
 use land_core::kind::Kind;
@@ -25,11 +24,11 @@ use land_tables_schema::rows::cells::{of_moment, of_number};
 use sqlite::{Alter, Connection, Error, Row};
 use std::alloc::Global;
 
-/// More than any object's number.
+/// A number above the number of each object.
 pub(crate) const BEYOND: u64 = 1_000_000_001;
 
-/// The text that selects a range of a kind. Parameter 1 is its first number, parameter 3 its last one, and parameter 2 the moment in
-/// milliseconds since 1970 UTC.
+/// Returns the SQL statement that selects a range of a kind. Parameter 1 is its first number, parameter 3 its
+/// last number, and parameter 2 the time in Unix milliseconds.
 pub fn text_within(kind: Kind) -> &'static str
     ensures { result.now ≡ text_within kind }
 {
@@ -43,7 +42,7 @@ pub fn text_within(kind: Kind) -> &'static str
     }
 }
 
-/// The rows of a kind that stand at a moment under the numbers of a range, in whatever order.
+/// Returns the rows of a kind in a range of numbers at a time, in any order.
 fn rows_of<S: Alter>(
     conn: &mut Connection<S>,
     kind: Kind,
@@ -51,9 +50,10 @@ fn rows_of<S: Alter>(
     last: u64,
     at: i64,
 ) -> Result<Vec<Row>, Error>
-    requires land { HasCleanDisk (state S.Store conn.old) → IsLand (state S.Store conn.old).now.schema }
-    ensures look { IsLook result (λ rows. AreRowsWithin kind first last at (state S.Store conn.old).now.trees rows.items) (state S.Store conn.old) (state S.Store conn.new) }
-    ensures mode { conn.old.in_transaction ≡ false → conn.new.in_transaction ≡ false }
+    requires land { HasRegisterTables S.Store conn.old }
+    ensures look { ReadsTables S.Store result (λ db rows. AreRowsWithin kind first last at db rows.items)
+        conn.old conn.new }
+    ensures mode { LeavesAutocommit conn.old conn.new }
 {
     conn.query_all(
         text_within(kind),
@@ -65,8 +65,8 @@ fn rows_of<S: Alter>(
     )
 }
 
-/// What the rows say of a kind that stand at a moment under the numbers of a range, in whatever order. 520: one of them cannot be read.
-/// 501: there was no memory.
+/// Reads the versions of a kind in a range of numbers at a time, in any order. Returns error 520 if a row is
+/// unreadable, and 501 if out of memory.
 fn find<V: Numbered, S: Alter>(
     alloc: Global,
     conn: &mut Connection<S>,
@@ -76,17 +76,21 @@ fn find<V: Numbered, S: Alter>(
 ) -> Result<Sequence<Version<(u64, V)>>, ReadFault>
 where
     Version<(u64, V)>: FromRow,
-    requires land { HasCleanDisk (state S.Store conn.old) → IsLand (state S.Store conn.old).now.schema }
-    ensures look { IsLook result (λ it. AreSaid ⟦<Version<(u64, V)> as FromRow>⟧.said (AreRowsWithin V.KIND first last at (state S.Store conn.old).now.trees) it) (state S.Store conn.old) (state S.Store conn.new) }
-    ensures unreadable { HasCleanDisk (state S.Store conn.new) → IfErr result (CannotSay ⟦<Version<(u64, V)> as FromRow>⟧.said (AreRowsWithin V.KIND first last at (state S.Store conn.old).now.trees)) }
-    ensures mode { conn.old.in_transaction ≡ false → conn.new.in_transaction ≡ false }
+    requires land { HasRegisterTables S.Store conn.old }
+    ensures look { ReadsTables S.Store result
+        (λ db it. AreSaid ⟦<Version<(u64, V)> as FromRow>⟧.said (AreRowsWithin V.KIND first last at db) it)
+        conn.old conn.new }
+    ensures unreadable { HasCleanDisk (state S.Store conn.new)
+        → IfErr result (CannotBeRead ⟦<Version<(u64, V)> as FromRow>⟧.said
+        (AreRowsWithin V.KIND first last at (state S.Store conn.old).now.trees)) }
+    ensures mode { LeavesAutocommit conn.old conn.new }
 {
     let rows = rows_of(conn, V::KIND, first, last, at)?;
     read(alloc, rows.as_slice())
 }
 
-/// The records of a kind that stand at a moment, in milliseconds since 1970 UTC, under the numbers of a range, whose ends belong to it.
-/// 520: the tables hold no history. 501: there was no memory.
+/// Reads the records of a kind in a range of numbers, both ends included, at a time, in Unix milliseconds.
+/// Returns error 520 only if the tables hold no history, and 501 if out of memory.
 pub fn records<V: Numbered + Duplicate, S: Alter>(
     alloc: Global,
     conn: &mut Connection<S>,
@@ -96,10 +100,11 @@ pub fn records<V: Numbered + Duplicate, S: Alter>(
 ) -> Result<Records<V>, ReadFault>
 where
     Version<(u64, V)>: FromRow,
-    requires land { HasCleanDisk (state S.Store conn.old) → IsLand (state S.Store conn.old).now.schema }
-    ensures look { IsLook result (λ it. IsPart (λ r. only (λ n v. is_within first last n) (V.part r)) at (state S.Store conn.old).now.trees it) (state S.Store conn.old) (state S.Store conn.new) }
-    ensures unreadable { HasCleanDisk (state S.Store conn.new) → IfErr result (HoldsNone (state S.Store conn.old).now.trees) }
-    ensures mode { conn.old.in_transaction ≡ false → conn.new.in_transaction ≡ false }
+    requires land { HasRegisterTables S.Store conn.old }
+    ensures look { ReadsTables S.Store result
+        (IsPart (λ r. only (λ n v. is_within first last n) (V.part r)) at) conn.old conn.new }
+    ensures unreadable { FailsOnlyWithoutHistory S.Store result conn.old conn.new }
+    ensures mode { LeavesAutocommit conn.old conn.new }
 {
     let found = find::<V, S>(alloc, conn, first, last, at)?;
     Ok(part_at(alloc, found.as_slice(), at)?)

@@ -1,10 +1,12 @@
-//! Laws, each stated over the definitions alone.
-ghost use Rattle.land_select_joins.specs.Sights.Laws.{AscendingListsAreOne, NobodiesSeeAlike, SelectedIsSeen, SelectionsAreTheRules, TheUnnamedSeeTheLeast};
+//! Laws, each stated on definitions only.
+ghost use Rattle.land_select_joins.specs.Sights.Laws.{AscendingListsAreOne, NobodiesSeeAlike, SelectedIsSeen};
+ghost use Rattle.land_select_joins.specs.Sights.Laws.{SelectionsAreTheRules, TheUnnamedSeeTheLeast};
 
 use land_core::laws::soundness_by_look_ups;
 use land_rules::laws::seen_is_exact;
 
-/// The selections of a role and a kind give exactly the numbers that the rules let the caller see without mandates, both ways.
+/// States that the selections of a role and a kind return exactly the numbers that the policy, without
+/// mandates, lets the caller see.
 pub fn selections_are_the_rules()
     ensures { SelectionsAreTheRules }
 {
@@ -12,12 +14,13 @@ pub fn selections_are_the_rules()
     soundness_by_look_ups();
 }
 
-/// Two ascending lists of the same numbers are one.
+/// States that increasing lists with the same numbers are equal.
 pub fn ascending_lists_are_one()
     ensures { AscendingListsAreOne }
 {}
 
-/// What the selections give, ascending and each number once, is the list of what is seen without mandates.
+/// States that the numbers of the selections, in increasing order and without repetition, are the list of
+/// visible numbers, without mandates.
 pub fn selected_is_seen()
     ensures { SelectedIsSeen }
 {
@@ -25,13 +28,14 @@ pub fn selected_is_seen()
     seen_is_exact();
 }
 
-/// Who is not named at a moment, neither as a party nor as a member, the party of an entry or a lodger, is given then what
-/// anybody else is given.
+/// States that a number that is not in use at a time, as a party, a member, the party of an entry or a
+/// lodger, sees only what each other number sees.
 pub fn the_unnamed_see_the_least()
     ensures { TheUnnamedSeeTheLeast }
 {}
 
-/// Who is nobody, as a caller past the last number of a party, is given what all others who are nobody are given.
+/// States that numbers that no party can have see the same. So 0 can replace a number that is too large for a
+/// parameter.
 pub fn nobodies_see_alike()
     ensures { NobodiesSeeAlike }
 {

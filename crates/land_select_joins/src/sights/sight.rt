@@ -1,4 +1,4 @@
-//! The sight of a role, kind by kind, as selections.
+//! The sight of a role, for each kind, as a list of selections.
 ghost use Rattle.std.specs.Prelude.{◌≡◌};
 ghost use Rattle.land_core.specs.declared.kind.Kind.TheVariants as kinds;
 ghost use Rattle.land_core.specs.declared.role.Role.TheVariants as roles;
@@ -8,7 +8,7 @@ use crate::sights::selection::Selection;
 use land_core::kind::Kind;
 use land_core::role::Role;
 
-/// All objects of a kind, for notaries and state administrators.
+/// Returns the selection of all objects of a kind, for notaries and state administrators.
 fn all(kind: Kind) -> &'static [Selection]
     ensures { result.now ≡ selections_of roles.Notary kind }
 {
@@ -22,7 +22,8 @@ fn all(kind: Kind) -> &'static [Selection]
     }
 }
 
-/// The parties that a citizen sees: itself, its groups, and those of the entries in its sight.
+/// Returns the selections of the parties that a citizen sees: itself, its groups, and the parties of visible
+/// entries.
 fn parties_of_citizen() -> &'static [Selection]
     ensures { result.now ≡ selections_of roles.Citizen kinds.Party }
 {
@@ -34,7 +35,7 @@ fn parties_of_citizen() -> &'static [Selection]
     ]
 }
 
-/// What a citizen sees by what it holds, itself or through its groups.
+/// Returns the selections of a citizen, by the rights that it holds itself or through its groups.
 fn by_holding(kind: Kind) -> &'static [Selection]
     ensures { result.now ≡ selections_of roles.Citizen kind }
 {
@@ -48,7 +49,7 @@ fn by_holding(kind: Kind) -> &'static [Selection]
     }
 }
 
-/// What a conveyancer sees by its undecided mutations.
+/// Returns the selections of a conveyancer, by its pending mutations.
 fn by_lodging(kind: Kind) -> &'static [Selection]
     ensures { result.now ≡ selections_of roles.Conveyancer kind }
 {
@@ -62,7 +63,7 @@ fn by_lodging(kind: Kind) -> &'static [Selection]
     }
 }
 
-/// What a bank sees by its mortgages.
+/// Returns the selections of a bank, by its mortgages.
 fn by_credit(kind: Kind) -> &'static [Selection]
     ensures { result.now ≡ selections_of roles.Bank kind }
 {
@@ -76,7 +77,7 @@ fn by_credit(kind: Kind) -> &'static [Selection]
     }
 }
 
-/// What a certified surveyor sees: itself, the parcels, and the mutations that it lodged.
+/// Returns the selections of a certified surveyor: itself, the parcels, and the mutations that it lodged.
 fn by_surveying(kind: Kind) -> &'static [Selection]
     ensures { result.now ≡ selections_of roles.CertifiedSurveyor kind }
 {
@@ -88,7 +89,7 @@ fn by_surveying(kind: Kind) -> &'static [Selection]
     }
 }
 
-/// The selections whose union is what a role sees of a kind, at most four.
+/// Returns the selections whose union is the sight of a role, at most four.
 pub fn selections(role: Role, kind: Kind) -> &'static [Selection]
     ensures { result.now ≡ selections_of role kind }
 {

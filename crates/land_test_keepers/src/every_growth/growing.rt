@@ -1,4 +1,4 @@
-//! A request of which a growth may be refused.
+//! A request in which an allocation may fail.
 use crate::growths::marks::{mark, mark_end};
 use crate::serving::serve_stream;
 use land_desk::serve::{DeskFault, Served};
@@ -10,11 +10,11 @@ use land_test_scenario::stop::{Stop, expect};
 use land_test_scenario::talk::{Row, Talk};
 use std::alloc::{AllocError, Global};
 
-/// The reply that tells of want of memory. The connection goes on.
+/// The reply of error 501. The connection stays open.
 const NO_ROOM: &[u8] =
     b"HTTP/1.1 503 Service Unavailable\r\nContent-Type: application/json\r\nContent-Length: 13\r\n\r\n{\"store\":501}";
 
-/// A step of the scenario, or of what comes after it.
+/// Returns a step of the scenario, or a later one.
 fn step(place: usize) -> Option<&'static Row> {
     match place.checked_sub(STEPS.len()) {
         None => STEPS.get(place),
@@ -22,7 +22,7 @@ fn step(place: usize) -> Option<&'static Row> {
     }
 }
 
-/// Some steps, as requests.
+/// Returns a range of steps, as requests.
 fn some_steps(alloc: Global, first: usize, end: usize) -> Result<Talk, AllocError> {
     let mut talk = Talk::new(alloc)?;
     for place in first..end {
@@ -33,7 +33,7 @@ fn some_steps(alloc: Global, first: usize, end: usize) -> Result<Talk, AllocErro
     Ok(talk)
 }
 
-/// Plays some steps.
+/// Plays a range of steps.
 fn play_steps<K: Keeper>(
     alloc: Global,
     keeper: &mut K,
@@ -44,12 +44,12 @@ fn play_steps<K: Keeper>(
     play(alloc, keeper, &[], &talk)
 }
 
-/// Whether a reply was the only one, after which memory may have been wanted for more input.
+/// Checks if the service answered only one request, after which it may be out of memory for more input.
 fn ended(served: &Result<Served, DeskFault>) -> bool {
     *served == Ok(Served { replies: 1 }) || *served == Err(DeskFault::NoMemory)
 }
 
-/// Whether the request got its own reply; an error where anything but want of memory was told.
+/// Checks if the request got its own reply. Returns an error for any reply but that and 501.
 fn got_its_own(
     talk: &Talk,
     served: &Result<Served, DeskFault>,
@@ -68,7 +68,7 @@ fn got_its_own(
     Ok(false)
 }
 
-/// Asks a step, between two lines: whether it got its own reply.
+/// Sends a step between two printed lines, and checks if it got its own reply.
 fn asked<K: Keeper>(
     rt: &impl Print,
     alloc: Global,
@@ -83,8 +83,8 @@ fn asked<K: Keeper>(
     got_its_own(&talk, &served, &told.taken)
 }
 
-/// A step after those before it. Where it has not got its own reply, the last stamp is what it was, and it is asked again. The step after it
-/// then gets its own reply, whose numbers and stamp follow.
+/// Sends a step after those before it. If it did not get its own reply, the latest stamp is unchanged, and
+/// the step is sent again. Then the next step gets its own reply, with the numbers and the stamp that follow.
 pub fn is_asked<K: Keeper>(
     rt: &impl Print,
     alloc: Global,

@@ -1,4 +1,5 @@
-//! The requests: the first step, a registration, and the approvals of a transfer and of a subdivision, over each keeper.
+//! The requests: the first step, a registration, and the approvals of a transfer and of a subdivision, for
+//! each keeper.
 use crate::each::new_tables;
 use crate::every_growth::growing::is_asked;
 use land_keep::plain_keeper::PlainKeeper;
@@ -7,7 +8,7 @@ use land_tables::table_keeper::TableKeeper;
 use land_test_scenario::stop::Stop;
 use std::alloc::Global;
 
-/// How many steps come before each request.
+/// The number of steps before each request.
 const FIRST: usize = 0;
 
 const REGISTRATION: usize = 9;
@@ -36,12 +37,12 @@ pub fn an_enrolment_in_memory(rt: &impl Print, alloc: Global) -> Result<(), Stop
     in_memory(rt, alloc, FIRST)
 }
 
-/// The first step, over whole tables.
+/// The first step, on whole tables.
 pub fn an_enrolment_over_tables(rt: &impl Print, alloc: Global) -> Result<(), Stop> {
     over_tables(rt, alloc, FIRST)
 }
 
-/// The first step, over joins.
+/// The first step, with indexed queries.
 pub fn an_enrolment_over_joins(rt: &impl Print, alloc: Global) -> Result<(), Stop> {
     over_joins(rt, alloc, FIRST)
 }
@@ -51,12 +52,12 @@ pub fn a_registration_in_memory(rt: &impl Print, alloc: Global) -> Result<(), St
     in_memory(rt, alloc, REGISTRATION)
 }
 
-/// A registration, over whole tables.
+/// A registration, on whole tables.
 pub fn a_registration_over_tables(rt: &impl Print, alloc: Global) -> Result<(), Stop> {
     over_tables(rt, alloc, REGISTRATION)
 }
 
-/// A registration, over joins.
+/// A registration, with indexed queries.
 pub fn a_registration_over_joins(rt: &impl Print, alloc: Global) -> Result<(), Stop> {
     over_joins(rt, alloc, REGISTRATION)
 }
@@ -66,12 +67,12 @@ pub fn a_transfer_in_memory(rt: &impl Print, alloc: Global) -> Result<(), Stop> 
     in_memory(rt, alloc, TRANSFER)
 }
 
-/// The approval of a transfer, over whole tables.
+/// The approval of a transfer, on whole tables.
 pub fn a_transfer_over_tables(rt: &impl Print, alloc: Global) -> Result<(), Stop> {
     over_tables(rt, alloc, TRANSFER)
 }
 
-/// The approval of a transfer, over joins.
+/// The approval of a transfer, with indexed queries.
 pub fn a_transfer_over_joins(rt: &impl Print, alloc: Global) -> Result<(), Stop> {
     over_joins(rt, alloc, TRANSFER)
 }
@@ -81,12 +82,12 @@ pub fn a_subdivision_in_memory(rt: &impl Print, alloc: Global) -> Result<(), Sto
     in_memory(rt, alloc, SUBDIVISION)
 }
 
-/// The approval of a subdivision, over whole tables.
+/// The approval of a subdivision, on whole tables.
 pub fn a_subdivision_over_tables(rt: &impl Print, alloc: Global) -> Result<(), Stop> {
     over_tables(rt, alloc, SUBDIVISION)
 }
 
-/// The approval of a subdivision, over joins.
+/// The approval of a subdivision, with indexed queries.
 pub fn a_subdivision_over_joins(rt: &impl Print, alloc: Global) -> Result<(), Stop> {
     over_joins(rt, alloc, SUBDIVISION)
 }

@@ -14,7 +14,7 @@ use land_test_scenario::playing::{plain, play_steps};
 use land_test_scenario::stop::{Stop, expect};
 use std::alloc::Global;
 
-/// An extract: who asks in which role, the kind, the moment, what is told, and the bytes that are then written.
+/// An extract: the caller, its role, the kind, the time, the result, and the bytes written.
 #[derive(Drop)]
 struct Extract(
     u64,
@@ -25,7 +25,7 @@ struct Extract(
     &'static str,
 );
 
-/// Extracts to a writer that takes all. The first ones are known to the byte, the others by their texts.
+/// Extracts to a writer that accepts all bytes. The first ones are given in full.
 const EXTRACTS: &[Extract] = &[
     Extract(3, Role::Citizen, Kind::Rrr, None, Ok(296), texts::ENTRIES),
     Extract(
@@ -112,13 +112,13 @@ const EXTRACTS: &[Extract] = &[
     ),
 ];
 
-/// Whether a page has a text or, where there was no memory, so many first bytes of it as were told.
+/// Checks if a page has a text or, if out of memory, its prefix of the reported length.
 fn has_front(page: &Page, text: &str, written: u64) -> bool {
     let taken = page.taken.as_slice();
     taken.len() as u64 == written && text.as_bytes().starts_with(taken)
 }
 
-/// Stops a test where there was no memory: a front of the text is written then, as long as is told.
+/// Ends a test without a failure if out of memory: then a prefix of the text is written, as long as reported.
 fn pass_memory(
     told: Result<u64, ExtractFault>,
     page: &Page,
@@ -139,7 +139,7 @@ fn pass_memory(
     }
 }
 
-/// Writes an extract over a keeper, where the clock reads 1000, and compares what is told and what is written.
+/// Writes an extract with the clock at 1000, and compares the result and the bytes written.
 fn compare<K: Keeper>(
     alloc: Global,
     keeper: &mut K,
@@ -166,7 +166,8 @@ fn compare_all<K: Keeper>(alloc: Global, keeper: &mut K) -> Result<(), Stop> {
     Ok(())
 }
 
-/// A writer with room for so many bytes has so many of Ben's entries, and that is told.
+/// A writer with space for the given number of bytes gets that many bytes of Ben's entries, and the error has
+/// this number.
 fn compare_cut<K: Keeper>(
     alloc: Global,
     keeper: &mut K,
@@ -189,7 +190,7 @@ fn compare_cut<K: Keeper>(
     )
 }
 
-/// Writers that take a part: in the header, at its end, in rows, at the end of a row, one byte too few.
+/// Writers that stop in the header, at its end, in rows, at the end of a row, and one byte too early.
 fn compare_cuts<K: Keeper>(alloc: Global, keeper: &mut K) -> Result<(), Stop> {
     for room in [0usize, 1, 68, 69, 70, 96, 100, 101, 295] {
         compare_cut(alloc, keeper, room, true)?;
@@ -198,14 +199,14 @@ fn compare_cuts<K: Keeper>(alloc: Global, keeper: &mut K) -> Result<(), Stop> {
     Ok(())
 }
 
-/// Over the keeper in memory.
+/// Tests the extracts of the keeper in memory.
 pub fn extract_rows(alloc: Global) -> Result<(), Stop> {
     let mut keeper = plain(alloc)?;
     compare_all(alloc, &mut keeper)?;
     compare_cuts(alloc, &mut keeper)
 }
 
-/// Over the keeper of joins.
+/// Tests the extracts of the indexed keeper.
 pub fn extract_rows_of_joins(alloc: Global) -> Result<(), Stop> {
     let mut keeper = SqlKeeper::new(new_tables(alloc)?);
     play_steps(alloc, &mut keeper)?;

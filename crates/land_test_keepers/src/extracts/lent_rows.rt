@@ -1,4 +1,4 @@
-//! Rows that are lent one at a time.
+//! Rows that a keeper lends one at a time.
 use crate::each::new_tables;
 use land_core::caller::Caller;
 use land_core::kind::Kind;
@@ -18,7 +18,7 @@ const BEN: Caller = Caller {
     role: Role::Citizen,
 };
 
-/// The entries that Ben sees after the scenario: their numbers, and what their parties are called.
+/// The entries that Ben sees after the scenario: their numbers and the names of their parties.
 const ENTRIES: &[(u64, &str)] = &[
     (13, "Sam"),
     (16, "Bank, \"North\""),
@@ -28,7 +28,7 @@ const ENTRIES: &[(u64, &str)] = &[
     (29, "Ben"),
 ];
 
-/// Whether a row is of the entry of this number, and its party is called so.
+/// Checks if a row is the entry of a number with a name of its party.
 fn is_row(row: &NamedObject, wanted: (u64, &str)) -> bool {
     match &row.object {
         Object::Rrr(entry) => entry.number == wanted.0 && row.name.as_str() == wanted.1,
@@ -36,7 +36,7 @@ fn is_row(row: &NamedObject, wanted: (u64, &str)) -> bool {
     }
 }
 
-/// Whether the next row is as it should be.
+/// Checks if the next row is the expected one.
 fn is_next<K: Keeper>(seen: &mut Seen<'_, K>, wanted: (u64, &str)) -> Result<bool, Stop> {
     match seen.next()? {
         Some(row) => Ok(is_row(&row, wanted)),
@@ -44,12 +44,12 @@ fn is_next<K: Keeper>(seen: &mut Seen<'_, K>, wanted: (u64, &str)) -> Result<boo
     }
 }
 
-/// Whether no row is left.
+/// Checks if there are no more rows.
 fn is_end<K: Keeper>(seen: &mut Seen<'_, K>) -> Result<bool, Stop> {
     Ok(seen.next()?.is_none())
 }
 
-/// The entries that Ben sees are lent in their order, and then none, however often one is asked for.
+/// Checks that the entries that Ben sees are lent in order, and then none, for each later call.
 fn are_lent<K: Keeper>(seen: &mut Seen<'_, K>) -> Result<(), Stop> {
     for (place, wanted) in ENTRIES.iter().enumerate() {
         expect(is_next(seen, *wanted)?, "a row", place)?;
@@ -58,7 +58,7 @@ fn are_lent<K: Keeper>(seen: &mut Seen<'_, K>) -> Result<(), Stop> {
     expect(is_end(seen)?, "the end", 1)
 }
 
-/// They are lent by a keeper.
+/// Checks the rows that a keeper lends.
 fn are_lent_by<K: Keeper>(alloc: Global, keeper: &mut K) -> Result<(), Stop> {
     let last = keeper.last();
     let numbers = numbers_seen(alloc, keeper, BEN, Kind::Rrr, last)?;
@@ -66,13 +66,13 @@ fn are_lent_by<K: Keeper>(alloc: Global, keeper: &mut K) -> Result<(), Stop> {
     are_lent(&mut seen)
 }
 
-/// Rows are lent by the keeper in memory.
+/// Tests the rows of the keeper in memory.
 pub fn rows_are_lent_by_the_keeper_in_memory(alloc: Global) -> Result<(), Stop> {
     let mut keeper = plain(alloc)?;
     are_lent_by(alloc, &mut keeper)
 }
 
-/// Rows are lent by joins.
+/// Tests the rows of the indexed keeper.
 pub fn rows_are_lent_by_joins(alloc: Global) -> Result<(), Stop> {
     let mut keeper = SqlKeeper::new(new_tables(alloc)?);
     play_steps(alloc, &mut keeper)?;

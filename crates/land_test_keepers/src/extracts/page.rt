@@ -1,9 +1,9 @@
-//! A writer that keeps what it takes.
+//! A writer that stores the bytes.
 use std::alloc::{AllocError, Global};
 use std::io;
 use std::io::Write;
 
-/// A writer that takes at most 7 bytes at a time, so many in all, and then fails or takes none.
+/// A writer that accepts at most 7 bytes at a time up to a total, and then fails or accepts none.
 #[derive(Drop)]
 pub struct Page {
     pub taken: Vec<u8>,
@@ -12,7 +12,7 @@ pub struct Page {
 }
 
 impl Page {
-    /// An empty page.
+    /// Returns an empty page.
     pub fn new(alloc: Global, room: usize, fails: bool) -> Result<Page, AllocError> {
         Ok(Page {
             taken: Vec::with_capacity(alloc, 2048)?,

@@ -1,4 +1,4 @@
-//! The extracts that are wanted: of the register after the scenario, and of a moment before its end.
+//! The expected extracts: of the register after the scenario, and of a time before its end.
 
 /// The entries that Ben sees at the end.
 pub const ENTRIES: &str = r#"number,unit,party,name,class,share,amount,currency,rank,words,source
@@ -10,11 +10,11 @@ pub const ENTRIES: &str = r#"number,unit,party,name,class,share,amount,currency,
 29,25,3,Ben,ownership,1/1,,,,,19
 "#;
 
-/// The entries of somebody who sees none.
+/// The entries of a party that sees none.
 pub const NO_ENTRIES: &str =
     "number,unit,party,name,class,share,amount,currency,rank,words,source\n";
 
-/// The entries that Ben saw, as a member of a group, before anything was transferred.
+/// The entries that Ben saw as a member of a group, before the first transfer.
 pub const OLD_ENTRIES: &str =
     r#"number,unit,party,name,class,share,amount,currency,rank,words,source
 11,9,2,Anna,ownership,1/4,,,,,8
@@ -43,7 +43,7 @@ pub const PARCELS: &str = r#"number,unit,label,square_metres,outline,source
 26,25,12b,50.0000000,"POLYGON ((5000 0, 10000 0, 10000 10000, 5000 10000, 5000 0))",22
 "#;
 
-/// The one parcel before it was divided.
+/// The only parcel before the subdivision.
 pub const OLD_PARCEL: &str = r#"number,unit,label,square_metres,outline,source
 10,9,12,100.0000000,"POLYGON ((0 0, 10000 0, 10000 10000, 0 10000, 0 0))",8
 "#;

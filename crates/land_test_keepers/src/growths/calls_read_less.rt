@@ -1,5 +1,5 @@
-//! Calls read less than whole tables: verdicts, objects, title sheets and what acts need, over tables and over joins. The register has some
-//! hundreds of parties, so that what is read for a call is a small part of it.
+//! Calls that read less than whole tables: verdicts, objects, title sheets and slices. The register has 300
+//! more parties, so that each call concerns a small part of it.
 use crate::growths::marks::mark_end;
 use crate::growths::registers::large_tables;
 use crate::growths::shown::{are_shown, have_entries};
@@ -11,7 +11,7 @@ use land_tables::table_keeper::TableKeeper;
 use land_test_scenario::stop::Stop;
 use std::alloc::Global;
 
-/// Makes each call. A line comes before each, and one after the last.
+/// Makes each call. Prints a line before each, and one after the last.
 fn are_told<K: Keeper>(rt: &impl Print, alloc: Global, keeper: &mut K) -> Result<(), Stop> {
     are_judged(rt, alloc, keeper)?;
     are_shown(rt, alloc, keeper)?;
@@ -20,13 +20,13 @@ fn are_told<K: Keeper>(rt: &impl Print, alloc: Global, keeper: &mut K) -> Result
     mark_end(rt)
 }
 
-/// Calls by tables.
+/// Tests the calls on whole tables.
 pub fn calls_by_tables(rt: &impl Print, alloc: Global) -> Result<(), Stop> {
     let mut keeper = TableKeeper::new(large_tables(alloc)?);
     are_told(rt, alloc, &mut keeper)
 }
 
-/// Calls by joins.
+/// Tests the calls with indexed queries.
 pub fn calls_by_joins(rt: &impl Print, alloc: Global) -> Result<(), Stop> {
     let mut keeper = SqlKeeper::new(large_tables(alloc)?);
     are_told(rt, alloc, &mut keeper)

@@ -1,7 +1,7 @@
-//! Marks: lines before which and after which allocations are counted.
+//! Lines between which allocations are counted.
 use land_test_scenario::stop::Stop;
 
-/// Writes a line.
+/// Prints a line.
 pub fn mark(rt: &impl Print, line: &str) -> Result<(), Stop> {
     match println!(rt; "{line}") {
         Ok(()) => Ok(()),
@@ -9,7 +9,7 @@ pub fn mark(rt: &impl Print, line: &str) -> Result<(), Stop> {
     }
 }
 
-/// Writes the line after the last call.
+/// Prints the line after the last call.
 pub fn mark_end(rt: &impl Print) -> Result<(), Stop> {
     mark(rt, "the end")
 }

@@ -1,5 +1,5 @@
-//! What was found as a request was judged is not looked up again for its reply. Each object and each title sheet is shown alone, and then
-//! once it was judged.
+//! A value that a verdict has read is not read again for the reply. Each object and each title sheet is
+//! returned first without a verdict, and then after its verdict.
 use crate::growths::marks::{mark, mark_end};
 use crate::growths::registers::large_tables;
 use land_core::ask::Ask;
@@ -12,7 +12,7 @@ use land_select::sql_keeper::SqlKeeper;
 use land_test_scenario::stop::{Stop, expect};
 use std::alloc::Global;
 
-/// What is shown.
+/// The requested view.
 #[derive(Clone, Copy)]
 enum Shown {
     /// An object of a kind, by its number.
@@ -21,7 +21,7 @@ enum Shown {
     Sheet(u64),
 }
 
-/// What is shown, and to whom: its name, who asks, in which role.
+/// A view: its name, the caller, its role, and the requested view.
 struct Reply(&'static str, u64, Role, Shown);
 
 /// Ben owns the garden, Sam has a lease in it and lodged its subdivision, the bank has a mortgage on it.
@@ -68,7 +68,7 @@ const REPLIES: &[Reply] = &[
 ];
 
 impl Reply {
-    /// Who asks.
+    /// Returns the caller.
     fn caller(&self) -> Caller {
         Caller {
             party: self.1,
@@ -76,7 +76,7 @@ impl Reply {
         }
     }
 
-    /// Whether it is shown now.
+    /// Checks if the view is returned now.
     fn is_shown<K: Keeper>(&self, alloc: Global, keeper: &mut K) -> Result<bool, Stop> {
         let last = keeper.last();
         match self.3 {
@@ -85,7 +85,7 @@ impl Reply {
         }
     }
 
-    /// Whether it is allowed now.
+    /// Checks if the view is allowed now.
     fn is_allowed<K: Keeper>(&self, alloc: Global, keeper: &mut K) -> Result<bool, Stop> {
         let last = keeper.last();
         let ask = match self.3 {
@@ -100,7 +100,8 @@ impl Reply {
     }
 }
 
-/// It is shown alone, once all of its texts are planned, and then once it was judged. A line comes before each.
+/// Checks that the view is returned without a verdict, once all its SQL statements are planned, and then
+/// after its verdict. Prints a line before each.
 fn is_shown_once<K: Keeper>(
     rt: &impl Print,
     alloc: Global,
@@ -120,7 +121,7 @@ fn is_shown_once<K: Keeper>(
     mark(rt, "what comes between")
 }
 
-/// Each of them, by joins. A line comes after the last.
+/// Tests each view with indexed queries. Prints a line after the last.
 pub fn replies_by_joins(rt: &impl Print, alloc: Global) -> Result<(), Stop> {
     let mut keeper = SqlKeeper::new(large_tables(alloc)?);
     for (place, reply) in REPLIES.iter().enumerate() {

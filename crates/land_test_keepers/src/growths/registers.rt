@@ -1,4 +1,4 @@
-//! The registers over which calls are counted.
+//! The registers for which allocations are counted.
 use crate::each::new_tables;
 use land_core::ask::Request;
 use land_keep::keeper::Keeper;
@@ -12,10 +12,10 @@ use land_test_scenario::stop::Stop;
 use sqlite::MemStore;
 use std::alloc::Global;
 
-/// How many parties are enrolled after the scenario.
+/// The number of parties that are enrolled after the scenario.
 const NEIGHBOURS: usize = 300;
 
-/// The store fault that the caller of an enrolment is told, 0 where somebody is enrolled, 1 where anything else is told.
+/// Returns the store error of an enrolment: 0 if it succeeded, 1 for any other reply.
 fn fault_of<K: Keeper>(alloc: Global, keeper: &mut K, request: &Request) -> u16 {
     if !request.is_well_formed() {
         return 1;
@@ -27,7 +27,7 @@ fn fault_of<K: Keeper>(alloc: Global, keeper: &mut K, request: &Request) -> u16 
     }
 }
 
-/// Goes on where somebody is enrolled.
+/// Continues if the enrolment succeeded.
 fn pass(fault: u16) -> Result<(), Stop> {
     match fault {
         0 => Ok(()),
@@ -36,7 +36,7 @@ fn pass(fault: u16) -> Result<(), Stop> {
     }
 }
 
-/// Somebody is enrolled, so many times.
+/// Enrols the given number of parties.
 fn enrol_neighbours<K: Keeper>(
     alloc: Global,
     keeper: &mut K,
@@ -48,14 +48,14 @@ fn enrol_neighbours<K: Keeper>(
     Ok(())
 }
 
-/// Plays the scenario, after which some hundreds of parties are enrolled that hold nothing.
+/// Plays the scenario, and then enrols 300 parties without rights.
 fn grow<K: Keeper>(alloc: Global, keeper: &mut K) -> Result<(), Stop> {
     play_steps(alloc, keeper)?;
     let request = first_request(alloc)?;
     enrol_neighbours(alloc, keeper, &request)
 }
 
-/// The tables of such a register.
+/// Creates the tables of such a register.
 pub fn large_tables(alloc: Global) -> Result<Tables<MemStore>, Stop> {
     let mut keeper = SqlKeeper::new(new_tables(alloc)?);
     grow(alloc, &mut keeper)?;

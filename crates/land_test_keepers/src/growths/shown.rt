@@ -20,7 +20,7 @@ const SHOWN: &[Shown] = &[
     Shown("a mutation", Kind::Mutation, 15),
 ];
 
-/// The number of an object.
+/// Returns the number of an object.
 fn number_of(object: &Object) -> u64 {
     match object {
         Object::Party(it) => it.number,
@@ -32,7 +32,7 @@ fn number_of(object: &Object) -> u64 {
     }
 }
 
-/// Whether an object stands now.
+/// Checks if an object exists now.
 fn is_shown<K: Keeper>(alloc: Global, keeper: &mut K, shown: &Shown) -> Result<bool, Stop> {
     let last = keeper.last();
     match keeper.object(alloc, shown.1, shown.2, last)? {
@@ -41,7 +41,7 @@ fn is_shown<K: Keeper>(alloc: Global, keeper: &mut K, shown: &Shown) -> Result<b
     }
 }
 
-/// Each of them stands now.
+/// Checks that each object exists now.
 pub fn are_shown<K: Keeper>(rt: &impl Print, alloc: Global, keeper: &mut K) -> Result<(), Stop> {
     for (place, shown) in SHOWN.iter().enumerate() {
         mark(rt, shown.0)?;
@@ -50,7 +50,7 @@ pub fn are_shown<K: Keeper>(rt: &impl Print, alloc: Global, keeper: &mut K) -> R
     Ok(())
 }
 
-/// A title sheet of the garden: its name, who asks, in which role, and how many entries it has.
+/// A title sheet of the garden: its name, the caller, its role, and the number of its entries.
 struct Sheet(&'static str, u64, Role, usize);
 
 const SHEETS: &[Sheet] = &[
@@ -59,7 +59,7 @@ const SHEETS: &[Sheet] = &[
     Sheet("the sheet of a notary", 5, Role::Notary, 3),
 ];
 
-/// Whether the garden's title sheet has so many entries now.
+/// Checks if the garden's title sheet has the given number of entries now.
 fn has_entries<K: Keeper>(alloc: Global, keeper: &mut K, sheet: &Sheet) -> Result<bool, Stop> {
     let last = keeper.last();
     let caller = Caller {
@@ -72,7 +72,7 @@ fn has_entries<K: Keeper>(alloc: Global, keeper: &mut K, sheet: &Sheet) -> Resul
     }
 }
 
-/// Each title sheet has its entries.
+/// Checks that each title sheet has its entries.
 pub fn have_entries<K: Keeper>(rt: &impl Print, alloc: Global, keeper: &mut K) -> Result<(), Stop> {
     for (place, sheet) in SHEETS.iter().enumerate() {
         mark(rt, sheet.0)?;

@@ -1,4 +1,4 @@
-//! What acts need of the register.
+//! The slices of acts.
 use crate::growths::marks::mark;
 use land_acts::slice::Slice;
 use land_core::act::{Act, Decision, Enrol, Lift, Lodging};
@@ -12,29 +12,30 @@ use land_keep::keeper::Keeper;
 use land_test_scenario::stop::{Stop, expect};
 use std::alloc::{AllocError, Global};
 
-/// What is asked for.
+/// The act of a test case.
 #[derive(Clone, Copy)]
 enum Asked {
-    /// That somebody is enrolled.
+    /// Enrol a party.
     Enrol,
-    /// That Anna becomes a bank.
+    /// Make Anna a bank.
     Grant,
-    /// That the mortgage on the garden is approved, once more.
+    /// Approve the mortgage on the garden once more.
     Approve,
-    /// That the mortgage on the garden ends.
+    /// Discharge the mortgage on the garden.
     Discharge,
-    /// That the lease is lifted.
+    /// Lift the lease.
     Lift,
 }
 
-/// What a slice has: how many parties, units and entries.
+/// The size of a slice: the numbers of its parties, units and entries.
 #[derive(Clone, Copy)]
 struct Sizes(usize, usize, usize);
 
-/// An act: its name, who asks for it, in which role, what is asked for, and what is needed for it.
+/// An act: its name, the caller, its role, the act, and the size of its slice.
 struct Sliced(&'static str, u64, Role, Asked, Sizes);
 
-/// The office is needed for each. What names the garden needs its three entries, what names a party or has a creditor needs that party.
+/// Each slice has the office. An act on the garden has its three entries; an act on a party or with a
+/// creditor has that party.
 const SLICED: &[Sliced] = &[
     Sliced(
         "for an enrolment",
@@ -93,7 +94,7 @@ fn discharge(alloc: Global) -> Result<Act, AllocError> {
     }))
 }
 
-/// The act that is asked for.
+/// Returns the act.
 fn act_of(alloc: Global, asked: &Asked) -> Result<Act, AllocError> {
     match asked {
         Asked::Enrol => enrol(alloc),
@@ -107,14 +108,14 @@ fn act_of(alloc: Global, asked: &Asked) -> Result<Act, AllocError> {
     }
 }
 
-/// Whether a slice has so many of each.
+/// Checks if a slice has a size.
 fn has_sizes(slice: &Slice, sizes: Sizes) -> bool {
     slice.parties.iter().count() == sizes.0
         && slice.units.iter().count() == sizes.1
         && slice.rrrs.iter().count() == sizes.2
 }
 
-/// Whether a keeper gives so much for an act.
+/// Checks if a keeper returns a slice of this size for an act.
 fn gives<K: Keeper>(
     alloc: Global,
     keeper: &mut K,
@@ -126,7 +127,7 @@ fn gives<K: Keeper>(
     Ok(has_sizes(&slice, sizes))
 }
 
-/// Whether what is needed for an act is given.
+/// Checks if the slice of an act has its expected size.
 fn is_given<K: Keeper>(alloc: Global, keeper: &mut K, sliced: &Sliced) -> Result<bool, Stop> {
     let caller = Caller {
         party: sliced.1,
@@ -136,7 +137,7 @@ fn is_given<K: Keeper>(alloc: Global, keeper: &mut K, sliced: &Sliced) -> Result
     gives(alloc, keeper, caller, &act, sliced.4)
 }
 
-/// What is needed for each act is given.
+/// Checks that the slice of each act has its expected size.
 pub fn are_given<K: Keeper>(rt: &impl Print, alloc: Global, keeper: &mut K) -> Result<(), Stop> {
     for (place, sliced) in SLICED.iter().enumerate() {
         mark(rt, sliced.0)?;

@@ -1,4 +1,5 @@
-//! The texts of lists read less than whole tables: lists after the scenario, over tables and over joins.
+//! Lists that read less than whole tables: lists after the scenario, on whole tables and with indexed
+//! queries.
 use crate::each::new_tables;
 use crate::growths::marks::{mark, mark_end};
 use land_core::caller::Caller;
@@ -11,10 +12,10 @@ use land_test_scenario::playing::play_steps;
 use land_test_scenario::stop::{Stop, expect};
 use std::alloc::Global;
 
-/// A list that is asked for: its name, who asks, in which role, for which kind, and what is told.
+/// A list: its name, the caller, its role, the kind, and the expected numbers.
 struct List(&'static str, u64, Role, Kind, &'static [u64]);
 
-/// The parcels in each role, each kind as notary, and kinds more as bank and conveyancer.
+/// The parcels in each role, each kind as notary, and other kinds as bank and conveyancer.
 const LISTS: &[List] = &[
     List(
         "parcels, citizen",
@@ -98,10 +99,10 @@ const LISTS: &[List] = &[
     ),
 ];
 
-/// The moment of the last step.
+/// The time of the last step.
 const LAST: i64 = 1017;
 
-/// Whether a keeper tells a list as it is.
+/// Checks if a keeper returns the expected list.
 fn is_told<K: Keeper>(alloc: Global, keeper: &mut K, list: &List) -> Result<bool, Stop> {
     let caller = Caller {
         party: list.1,
@@ -111,8 +112,8 @@ fn is_told<K: Keeper>(alloc: Global, keeper: &mut K, list: &List) -> Result<bool
     Ok(numbers.as_slice() == list.4)
 }
 
-/// Plays the scenario, and asks for each list twice: once, by which its texts are planned, and then with a line before it. One line
-/// comes after the last.
+/// Plays the scenario, and requests each list twice: first so that its SQL statements are planned, and then
+/// with a line printed before it. Prints a line after the last.
 fn are_told<K: Keeper>(rt: &impl Print, alloc: Global, keeper: &mut K) -> Result<(), Stop> {
     play_steps(alloc, keeper)?;
     for (place, list) in LISTS.iter().enumerate() {
@@ -125,13 +126,13 @@ fn are_told<K: Keeper>(rt: &impl Print, alloc: Global, keeper: &mut K) -> Result
     mark_end(rt)
 }
 
-/// Lists by tables.
+/// Tests the lists on whole tables.
 pub fn lists_by_tables(rt: &impl Print, alloc: Global) -> Result<(), Stop> {
     let mut keeper = TableKeeper::new(new_tables(alloc)?);
     are_told(rt, alloc, &mut keeper)
 }
 
-/// Lists by joins.
+/// Tests the lists with indexed queries.
 pub fn lists_by_joins(rt: &impl Print, alloc: Global) -> Result<(), Stop> {
     let mut keeper = SqlKeeper::new(new_tables(alloc)?);
     are_told(rt, alloc, &mut keeper)

@@ -1,4 +1,4 @@
-//! Verdicts, of whom holds nothing and of whom holds a part.
+//! Verdicts on callers without and with rights.
 use crate::growths::marks::mark;
 use land_core::act::{Act, Decision, Lift};
 use land_core::ask::Ask;
@@ -12,23 +12,23 @@ use land_rules::verdict::Verdict;
 use land_test_scenario::stop::{Stop, expect};
 use std::alloc::Global;
 
-/// What is asked for now.
+/// The request of a test case.
 #[derive(Clone, Copy)]
 enum Asked {
     /// An object of a kind, by its number.
     View(Kind, u64),
     /// The title sheet of a unit.
     Sheet(u64),
-    /// That a party is given a role.
+    /// Grant a role to a party.
     Grant(u64, Role),
-    /// That a mutation is approved.
+    /// Approve a mutation.
     Approve(u64),
-    /// That a burden is lifted.
+    /// Lift a burden.
     Lift(u64),
 }
 
-/// What is judged: its name, who asks, in which role, for what, and the rule that denies it, 0 where none does.
-struct Judged(&'static str, u64, Role, Asked, u8);
+/// A verdict: its name, the caller, its role, the request, and the number of the rule that denies it, or 0.
+struct VerdictCase(&'static str, u64, Role, Asked, u8);
 
 /// The garden, the ownership in it, its subdivision, which Sam lodged, and its owner.
 const GARDEN: Asked = Asked::View(Kind::Unit, 9);
@@ -39,51 +39,51 @@ const SUBDIVISION: Asked = Asked::View(Kind::Mutation, 23);
 
 const BEN: Asked = Asked::View(Kind::Party, 3);
 
-/// Nora holds nothing, Ben owns the garden, Sam has a lease in it and the bank a mortgage on it.
-const JUDGED: &[Judged] = &[
-    Judged("a unit, denied", 5, Role::Citizen, GARDEN, 11),
-    Judged("a unit, allowed", 3, Role::Citizen, GARDEN, 0),
-    Judged("an entry, denied", 5, Role::Citizen, OWNERSHIP, 12),
-    Judged("an entry, allowed", 3, Role::Citizen, OWNERSHIP, 0),
-    Judged("a sheet, denied", 5, Role::Citizen, Asked::Sheet(9), 11),
-    Judged("a sheet, allowed", 6, Role::Citizen, Asked::Sheet(9), 0),
-    Judged("a unit, to a bank", 4, Role::Bank, GARDEN, 0),
-    Judged("a party, denied", 5, Role::Citizen, BEN, 13),
-    Judged("a party, allowed", 6, Role::Citizen, BEN, 0),
-    Judged("a party, to a bank", 4, Role::Bank, BEN, 0),
-    Judged(
+/// Nora has no rights, Ben owns the garden, Sam has a lease in it and the bank a mortgage on it.
+const JUDGED: &[VerdictCase] = &[
+    VerdictCase("a unit, denied", 5, Role::Citizen, GARDEN, 11),
+    VerdictCase("a unit, allowed", 3, Role::Citizen, GARDEN, 0),
+    VerdictCase("an entry, denied", 5, Role::Citizen, OWNERSHIP, 12),
+    VerdictCase("an entry, allowed", 3, Role::Citizen, OWNERSHIP, 0),
+    VerdictCase("a sheet, denied", 5, Role::Citizen, Asked::Sheet(9), 11),
+    VerdictCase("a sheet, allowed", 6, Role::Citizen, Asked::Sheet(9), 0),
+    VerdictCase("a unit, to a bank", 4, Role::Bank, GARDEN, 0),
+    VerdictCase("a party, denied", 5, Role::Citizen, BEN, 13),
+    VerdictCase("a party, allowed", 6, Role::Citizen, BEN, 0),
+    VerdictCase("a party, to a bank", 4, Role::Bank, BEN, 0),
+    VerdictCase(
         "a party, to a surveyor",
         6,
         Role::CertifiedSurveyor,
         BEN,
         24,
     ),
-    Judged("a unit, to a notary", 5, Role::Notary, GARDEN, 0),
-    Judged("a mutation, denied", 5, Role::Citizen, SUBDIVISION, 14),
-    Judged("a mutation, allowed", 3, Role::Citizen, SUBDIVISION, 0),
-    Judged(
+    VerdictCase("a unit, to a notary", 5, Role::Notary, GARDEN, 0),
+    VerdictCase("a mutation, denied", 5, Role::Citizen, SUBDIVISION, 14),
+    VerdictCase("a mutation, allowed", 3, Role::Citizen, SUBDIVISION, 0),
+    VerdictCase(
         "a mutation, to its lodger",
         6,
         Role::CertifiedSurveyor,
         SUBDIVISION,
         0,
     ),
-    Judged("a mutation, to another", 4, Role::Bank, SUBDIVISION, 18),
-    Judged(
+    VerdictCase("a mutation, to another", 4, Role::Bank, SUBDIVISION, 18),
+    VerdictCase(
         "a grant, allowed",
         1,
         Role::StateAdministrator,
         Asked::Grant(2, Role::Bank),
         0,
     ),
-    Judged(
+    VerdictCase(
         "an approval, denied",
         5,
         Role::Notary,
         Asked::Approve(18),
         4,
     ),
-    Judged(
+    VerdictCase(
         "a lift, allowed",
         1,
         Role::StateAdministrator,
@@ -92,7 +92,7 @@ const JUDGED: &[Judged] = &[
     ),
 ];
 
-/// What is asked for, as a keeper is asked.
+/// Returns the request.
 fn ask_of(asked: &Asked) -> Ask {
     match asked {
         Asked::View(kind, number) => Ask::View {
@@ -115,7 +115,7 @@ fn ask_of(asked: &Asked) -> Ask {
     }
 }
 
-/// The number of a verdict.
+/// Returns the number of a verdict, 0 if it allows.
 fn rule_of(verdict: Verdict) -> u8 {
     match verdict {
         Verdict::Allowed => 0,
@@ -123,7 +123,7 @@ fn rule_of(verdict: Verdict) -> u8 {
     }
 }
 
-/// Whether a keeper denies an ask now by this rule, or allows it for 0.
+/// Checks if a keeper denies a request now by this rule, or allows it for 0.
 fn is_denied_by<K: Keeper>(
     alloc: Global,
     keeper: &mut K,
@@ -140,21 +140,29 @@ fn is_denied_by<K: Keeper>(
     Ok(rule_of(verdict) == rule)
 }
 
-/// Whether a keeper judges as it is to be.
-fn is_judged<K: Keeper>(alloc: Global, keeper: &mut K, judged: &Judged) -> Result<bool, Stop> {
+/// Checks if a keeper returns the expected verdict.
+fn is_judged<K: Keeper>(
+    alloc: Global,
+    keeper: &mut K,
+    verdict_case: &VerdictCase,
+) -> Result<bool, Stop> {
     let caller = Caller {
-        party: judged.1,
-        role: judged.2,
+        party: verdict_case.1,
+        role: verdict_case.2,
     };
-    let ask = ask_of(&judged.3);
-    is_denied_by(alloc, keeper, caller, &ask, judged.4)
+    let ask = ask_of(&verdict_case.3);
+    is_denied_by(alloc, keeper, caller, &ask, verdict_case.4)
 }
 
-/// Each of them is judged as it is to be.
+/// Checks that each verdict is the expected one.
 pub fn are_judged<K: Keeper>(rt: &impl Print, alloc: Global, keeper: &mut K) -> Result<(), Stop> {
-    for (place, judged) in JUDGED.iter().enumerate() {
-        mark(rt, judged.0)?;
-        expect(is_judged(alloc, keeper, judged)?, judged.0, place)?;
+    for (place, verdict_case) in JUDGED.iter().enumerate() {
+        mark(rt, verdict_case.0)?;
+        expect(
+            is_judged(alloc, keeper, verdict_case)?,
+            verdict_case.0,
+            place,
+        )?;
     }
     Ok(())
 }

@@ -1,4 +1,4 @@
-//! The first enrolment, cut off after each of its bytes: its input ends there, or its reader fails.
+//! The first enrolment, truncated after each of its bytes: the input ends there, or its reader fails.
 use crate::each::{Trial, over_each};
 use crate::hostile::stream::Stream;
 use land_desk::serve::{DeskFault, Served};
@@ -8,7 +8,7 @@ use land_test_scenario::first::{ANNA_IS_ENROLLED, ENROL_ANNA};
 use land_test_scenario::stop::{Stop, expect};
 use std::alloc::Global;
 
-/// No byte, of which nothing is told.
+/// No byte, and no reply.
 const NOTHING: Stream<'static> = Stream {
     input: b"",
     piece: 1,
@@ -19,7 +19,8 @@ const NOTHING: Stream<'static> = Stream {
     last: 0,
 };
 
-/// The input ends after so many bytes: one whole reply tells that it is cut, and nothing is done.
+/// Input that ends after the given number of bytes: one whole reply reports the truncation, and nothing
+/// changes.
 fn cut_after(bytes: usize) -> Stream<'static> {
     Stream {
         input: &ENROL_ANNA[..bytes.min(ENROL_ANNA.len())],
@@ -32,7 +33,8 @@ fn cut_after(bytes: usize) -> Stream<'static> {
     }
 }
 
-/// The reader fails after so many bytes, which come one by one: nothing is told, and nothing is done.
+/// A reader that fails after the given number of bytes, which arrive one by one: there is no reply, and
+/// nothing changes.
 fn unread_after(bytes: usize) -> Stream<'static> {
     Stream {
         input: ENROL_ANNA,
@@ -45,7 +47,7 @@ fn unread_after(bytes: usize) -> Stream<'static> {
     }
 }
 
-/// All bytes, which come one by one.
+/// All bytes, which arrive one by one.
 const WHOLE: Stream<'static> = Stream {
     input: ENROL_ANNA,
     piece: 1,
@@ -56,8 +58,8 @@ const WHOLE: Stream<'static> = Stream {
     last: 1000,
 };
 
-/// The enrolment, cut off in each way over the same register, and then whole. That Anna is party 2 from 1000 on shows that nothing was
-/// done before.
+/// The enrolment, truncated in each way on the same register, and then complete. Anna becomes party 2 at
+/// 1000, which shows that nothing changed before.
 #[derive(Clone, Copy)]
 struct EveryCut;
 
@@ -75,7 +77,7 @@ impl Trial for EveryCut {
     }
 }
 
-/// An enrolment that is cut off is not done, wherever it is.
+/// Tests that a truncated enrolment is not executed, for each length.
 pub fn every_cut(alloc: Global) -> Result<(), Stop> {
     over_each(alloc, &EveryCut)
 }

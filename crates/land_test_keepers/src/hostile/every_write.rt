@@ -1,4 +1,4 @@
-//! The first enrolment, whose writer fails after each byte of its reply.
+//! The first enrolment, with a writer that fails after each byte of its reply.
 use crate::each::{Trial, over_each};
 use crate::hostile::stream::Stream;
 use land_core::kind::Kind;
@@ -9,7 +9,7 @@ use land_test_scenario::first::{ANNA_IS_ENROLLED, ENROL_ANNA};
 use land_test_scenario::stop::{Stop, expect};
 use std::alloc::Global;
 
-/// The writer fails after so many bytes: these were told, and the enrolment stands.
+/// A writer that fails after the given number of bytes: the enrolment exists.
 fn unwritten_after(bytes: usize) -> Stream<'static> {
     Stream {
         input: ENROL_ANNA,
@@ -22,7 +22,7 @@ fn unwritten_after(bytes: usize) -> Stream<'static> {
     }
 }
 
-/// Whether Anna is party 2.
+/// Checks if Anna is party 2.
 fn is_enrolled<K: Keeper>(alloc: Global, keeper: &mut K) -> Result<bool, Stop> {
     match keeper.object(alloc, Kind::Party, 2, 1000)? {
         Some(Object::Party(party)) => Ok(party.number == 2 && party.name.as_str() == "Anna"),
@@ -30,14 +30,14 @@ fn is_enrolled<K: Keeper>(alloc: Global, keeper: &mut K) -> Result<bool, Stop> {
     }
 }
 
-/// The enrolment, whose writer takes so many bytes.
+/// The enrolment, with a writer that accepts the given number of bytes.
 #[derive(Clone, Copy)]
 struct Unwritten(usize);
 
 impl Trial for Unwritten {
     fn run<K: Keeper>(&self, alloc: Global, keeper: &mut K) -> Result<(), Stop> {
         let is_served = unwritten_after(self.0).is_served(alloc, keeper)?;
-        // A reply of 501 that does not go out looks the same to the writer.
+        // For the writer, a reply of 501 that fails looks the same.
         if keeper.last() == 0 {
             return Err(Stop::Memory);
         }
@@ -46,7 +46,7 @@ impl Trial for Unwritten {
     }
 }
 
-/// An enrolment whose reply breaks off stands, wherever it does.
+/// Tests that an enrolment exists if its reply is truncated, for each length.
 pub fn every_write(alloc: Global) -> Result<(), Stop> {
     for bytes in 0..ANNA_IS_ENROLLED.len() {
         over_each(alloc, &Unwritten(bytes))?;

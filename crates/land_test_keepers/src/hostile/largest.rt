@@ -5,15 +5,16 @@ use land_test_scenario::talk::{OFFICE, Talk, Told};
 use std::alloc::{AllocError, Global};
 use std::fmt::Write;
 
-/// Points of an outline, and parcels of a unit.
+/// The number of points of an outline, and of parcels of a unit.
 const POINTS: usize = 200;
 
 const PARCELS: usize = 64;
 
-/// The number of the last parcel, after those of the source and the unit, which come first.
+/// The number of the last parcel, after the source and the unit.
 const LAST_PARCEL: usize = 3 + PARCELS;
 
-/// The points of a parabola, which make a convex ring; of one that is crossed the second and the third are exchanged.
+/// Writes the points of a parabola, which make a convex ring. For a self-intersecting ring the second and the
+/// third are exchanged.
 fn write_points(text: &mut String, crossed: bool) -> Result<(), AllocError> {
     for step in 0..POINTS {
         let x = match step {
@@ -45,7 +46,7 @@ fn write_parcels(text: &mut String, crossed: Option<usize>) -> Result<(), AllocE
     Ok(())
 }
 
-/// The body that registers a unit of so many parcels, one of them crossed or none.
+/// Writes the body that registers the unit, with at most one self-intersecting parcel.
 fn write_unit(text: &mut String, crossed: Option<usize>) -> Result<(), AllocError> {
     text.clear();
     text.push_str(r#"{"name":"G","checked":true,"document":"D","parcels":["#)?;
@@ -53,7 +54,7 @@ fn write_unit(text: &mut String, crossed: Option<usize>) -> Result<(), AllocErro
     text.push_str(r#"],"rights":[{"party":1,"type":"ownership","share":"1/1"}]}"#)
 }
 
-/// The office registers the unit, one of its parcels crossed or none.
+/// The office registers the unit, with at most one self-intersecting parcel.
 fn ask_registration(
     talk: &mut Talk,
     text: &mut String,
@@ -63,14 +64,14 @@ fn ask_registration(
     talk.push_request("POST /acts/register", OFFICE, text.as_bytes())
 }
 
-/// A crossed outline, in whichever parcel, is told.
+/// Expects the fault of a self-intersecting outline, in any parcel.
 fn ask_crossed(talk: &mut Talk, text: &mut String, parcel: usize) -> Result<(), AllocError> {
     ask_registration(talk, text, Some(parcel))?;
     talk.tell(Told::Fault(119), false)?;
     talk.mark("a crossed outline", parcel)
 }
 
-/// Without one it is done: the source 2, the unit 3, the parcels, and the right.
+/// Expects success without one: source 2, unit 3, the parcels, and the right.
 fn ask_whole(talk: &mut Talk, text: &mut String) -> Result<(), AllocError> {
     ask_registration(talk, text, None)?;
     text.clear();
@@ -83,7 +84,7 @@ fn ask_whole(talk: &mut Talk, text: &mut String) -> Result<(), AllocError> {
     talk.mark("the registration", 0)
 }
 
-/// The last parcel is shown with its outline. With n for the last x, its doubled area is n(n + 1)(n - 1) / 3.
+/// Expects the last parcel with its outline. If n is the last x, its doubled area is n(n + 1)(n - 1) / 3.
 fn ask_parcel(talk: &mut Talk, text: &mut String) -> Result<(), AllocError> {
     text.clear();
     write!(text, "GET /parcels/{LAST_PARCEL}")?;
@@ -99,7 +100,8 @@ fn ask_parcel(talk: &mut Talk, text: &mut String) -> Result<(), AllocError> {
     talk.mark("the last parcel", 0)
 }
 
-/// Registrations with a crossed outline in the first parcel or the last one, the one without, and what stands then.
+/// Registers with a self-intersecting outline in the first and the last parcel, and then without one; then
+/// reads the parcel.
 fn registrations(alloc: Global) -> Result<Talk, AllocError> {
     let mut talk = Talk::new(alloc)?;
     let mut text = String::with_capacity(alloc, 65536)?;
@@ -110,7 +112,7 @@ fn registrations(alloc: Global) -> Result<Talk, AllocError> {
     Ok(talk)
 }
 
-/// The largest registration is accepted, unless an outline is crossed.
+/// Tests that the largest registration is accepted, unless an outline intersects itself.
 pub fn the_largest_registration_is_accepted(alloc: Global) -> Result<(), Stop> {
     play_over_each(alloc, &[], &registrations(alloc)?)
 }

@@ -1,4 +1,4 @@
-//! A stream that is served over a keeper, and how that has to end.
+//! A stream that a keeper serves, with its expected end.
 use land_desk::serve::{DeskFault, Served, serve};
 use land_keep::keeper::Keeper;
 use land_test_scenario::doubles::{Pieces, Readings, Sink};
@@ -6,8 +6,8 @@ use land_test_scenario::playing::{is_want_of_memory, open_sink};
 use land_test_scenario::stop::Stop;
 use std::alloc::Global;
 
-/// A stream, which comes in pieces until the reader has been asked so often and takes so many bytes of what is told, one at a time; and how
-/// serving it ends, what is told, and the stamp of the last change then.
+/// A stream that arrives in chunks until the given number of reads, with a writer that accepts the given
+/// number of bytes, one at a time; and the expected result, replies, and stamp of the latest change.
 #[derive(Clone, Copy)]
 pub struct Stream<'a> {
     pub input: &'a [u8],
@@ -20,7 +20,7 @@ pub struct Stream<'a> {
 }
 
 impl Stream<'_> {
-    /// A writer that takes so many bytes, one at a time, and then fails.
+    /// Returns a writer that accepts the given number of bytes, one at a time, and then fails.
     fn sink(&self, alloc: Global) -> Result<Sink, Stop> {
         let mut sink = open_sink(alloc, self.told.len())?;
         sink.piece = 1;
@@ -29,7 +29,8 @@ impl Stream<'_> {
         Ok(sink)
     }
 
-    /// Whether it is served so over a keeper, where the clock reads 1000. Want of memory ends the test.
+    /// Checks if a keeper serves the stream as expected, with the clock at 1000. The test ends without a
+    /// failure if out of memory.
     pub fn is_served<K: Keeper>(&self, alloc: Global, keeper: &mut K) -> Result<bool, Stop> {
         let mut reader = Pieces {
             left: self.input,

@@ -1,4 +1,4 @@
-//! A talk over each keeper.
+//! A conversation with each keeper.
 use crate::each::{Trial, over_each};
 use land_keep::keeper::Keeper;
 use land_test_scenario::playing::play;
@@ -6,7 +6,7 @@ use land_test_scenario::stop::Stop;
 use land_test_scenario::talk::Talk;
 use std::alloc::Global;
 
-/// A talk, and the moments that the clock reads in turn for it before it reads 1000 each time.
+/// A conversation, and the moments that the clock returns before it stays at 1000.
 #[derive(Clone, Copy)]
 struct Played<'a> {
     clock: &'static [i64],
@@ -19,7 +19,7 @@ impl Trial for Played<'_> {
     }
 }
 
-/// Plays a talk over each keeper: all reply as it says, byte for byte.
+/// Plays a conversation with each keeper, and checks the replies byte for byte.
 pub fn play_over_each(alloc: Global, clock: &'static [i64], talk: &Talk) -> Result<(), Stop> {
     over_each(alloc, &Played { clock, talk })
 }

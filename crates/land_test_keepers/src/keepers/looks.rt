@@ -1,4 +1,4 @@
-//! What is told beside the scenario, after so many of its steps. Nothing of it changes the register.
+//! Requests in addition to the scenario, after some of its steps. They do not change the register.
 use crate::keepers::story::Story;
 use land_test_scenario::scenario::MORTGAGE;
 use land_test_scenario::talk::Told::{self, Denied, Fault, Refused, Sheet, Shown, Unsaid};
@@ -43,7 +43,7 @@ const FIRST_CITIZEN: &[Row] = &[
     ),
 ];
 
-/// Shares of a group that is to be made.
+/// The shares of a new group.
 const THIRDS: &[Row] = &[
     Row(
         "POST /acts/group",
@@ -126,7 +126,7 @@ const REGISTERED: &[Row] = &[
     Row("POST /acts/lift", OFFICE, br#"{"rrr":13}"#, Refused(204)),
 ];
 
-/// The mortgage is asked for again, and with another amount.
+/// The mortgage is requested again, once with another amount.
 const REPEATED: &[Row] = &[
     Row(
         "POST /acts/mortgage",
@@ -151,7 +151,7 @@ const LODGED_MORTGAGE: &[Row] = &[Row(
     ),
 )];
 
-/// Who sees what of the garden with its mortgage.
+/// The visibility of the garden with its mortgage.
 const SIGHT: &[Row] = &[
     Row("GET /units/77", NORA, b"", Denied(11)),
     Row("GET /units/9", NORA, b"", Denied(11)),
@@ -180,7 +180,7 @@ const SIGHT: &[Row] = &[
     ),
 ];
 
-/// What Nora sees as a citizen: herself, and parcels as everybody does.
+/// The visibility for Nora as a citizen: herself, and all parcels.
 const NORAS_SIGHT: &[Row] = &[
     Row("GET /parties", NORA, b"", Shown(r#"{"numbers":[5]}"#)),
     Row("GET /parcels", NORA, b"", Shown(r#"{"numbers":[10]}"#)),
@@ -195,7 +195,7 @@ const NORAS_SIGHT: &[Row] = &[
     Row("GET /sources/8", NORA, b"", Denied(26)),
 ];
 
-/// The past: what did not stand then is not shown.
+/// The past: an object that did not exist at that time is not shown.
 const PAST: &[Row] = &[
     Row("GET /parties/2?at=999", ANNA, b"", Denied(27)),
     Row("GET /parties/3?at=999", ANNA, b"", Denied(13)),
@@ -319,7 +319,7 @@ const SUBDIVIDED: &[Row] = &[
     ),
 ];
 
-/// Title sheets: Ben sees every entry, Sam no mortgage; at 1009 Ben was a holder by the group alone.
+/// Title sheets: Ben sees all entries, Sam no mortgage; at 1009 Ben was a holder only by the group.
 const SHEETS: &[Row] = &[
     Row(
         "GET /units/9/sheet",
@@ -352,7 +352,7 @@ const SHEETS: &[Row] = &[
     Row("HEAD /units/9/sheet", BEN, b"", Unsaid(13)),
 ];
 
-/// What is told beside the first twelve steps, by the number of steps before it.
+/// Requests in addition to the first twelve steps, by the number of steps before them.
 pub const FIRST_LOOKS: &[Story] = &[
     Story("somebody unknown", 0, &[], NOBODY),
     Story("the first citizen", 1, &[], FIRST_CITIZEN),
@@ -368,7 +368,7 @@ pub const FIRST_LOOKS: &[Story] = &[
     Story("the past", 12, &[], PAST),
 ];
 
-/// The same from the thirteenth step on.
+/// Requests from the thirteenth step on.
 pub const LAST_LOOKS: &[Story] = &[
     Story("a lodged transfer", 13, &[], LODGED_TRANSFER),
     Story("a transfer", 14, &[], TRANSFERRED),

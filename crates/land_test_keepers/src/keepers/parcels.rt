@@ -1,9 +1,9 @@
-//! Turns of the register where parcels are cut and merged.
+//! Alternatives of the scenario in which parcels are subdivided and merged.
 use crate::keepers::story::Story;
 use land_test_scenario::talk::Told::{self, Denied, Refused, Sheet, Shown};
 use land_test_scenario::talk::{ANNA, BANK, BEN, NORA, NOTARY, OFFICE, Row, SURVEYOR};
 
-/// The second part has the area of the right half, and lies a metre beside it.
+/// The second part has the area of the right half, but lies a metre away from it.
 const OTHER_GROUND: &[Row] = &[
     Row(
         "POST /acts/subdivision",
@@ -128,12 +128,12 @@ const MERGED: &[Row] = &[
     ),
 ];
 
-/// The merger as it is shown before it is decided.
+/// The merger before it is decided.
 const MERGER_SHOWN: Told = Shown(
     r#"{"object":{"act":"merger","content":{"label":"12","others":[25],"outline":"POLYGON ((0 0, 10000 0, 10000 10000, 0 10000, 0 0))","parcels":[24,26],"unit":9},"lodged":1020,"lodger":6,"number":34,"reference":"G1","source":33,"state":"lodged"}}"#,
 );
 
-/// Anna gets the orchard, so that she holds in the other unit of the merger alone.
+/// Anna gets the orchard, so she holds a right only in the other unit of the merger.
 const SEEN_FROM_ANOTHER_UNIT: &[Row] = &[
     Row(
         "POST /acts/transfer",
@@ -184,7 +184,7 @@ const UNLIKE_UNITS: &[Row] = &[
     ),
 ];
 
-/// Turns where parcels are cut and merged.
+/// Alternatives in which parcels are subdivided and merged.
 pub const PARCELS: &[Story] = &[
     Story("other ground", 16, &[], OTHER_GROUND),
     Story("three parts", 16, &[], THREE_PARTS),

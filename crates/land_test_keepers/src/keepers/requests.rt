@@ -1,5 +1,5 @@
-//! Requests over a new register, and what is told of them: each fault of their form, and what is well formed beside it.
-//! The connection goes on after them.
+//! Requests to a new register, with their replies: each fault of their form, and well-formed requests. The
+//! connection stays open after them.
 use land_test_scenario::talk::Told::{Denied, Fault, Shown, Unsaid};
 use land_test_scenario::talk::{ANNA, ENROL, OFFICE, Row};
 
@@ -45,7 +45,7 @@ pub const ROUTES: &[Row] = &[
     Row("GET /acts/enrol", OFFICE, ENROL, Fault(137)),
     Row("PUT /acts/enrol", OFFICE, ENROL, Fault(137)),
     Row("DELETE /acts/lift", OFFICE, b"", Fault(137)),
-    // The method comes before the caller.
+    // The method is checked before the caller.
     Row("GET /acts/enrol", "", b"", Fault(137)),
     Row(
         "POST /acts/enrol",
@@ -66,7 +66,7 @@ pub const TARGETS: &[Row] = &[
     Row("GET /units/x/sheet", OFFICE, b"", Fault(132)),
     Row("GET /units/0/sheet", OFFICE, b"", Fault(132)),
     Row("GET /units/1000000000/sheet", OFFICE, b"", Denied(27)),
-    // The caller comes before the number, the number before the query, the query before the body.
+    // The caller is checked before the number, the number before the query, and the query before the body.
     Row("GET /parties/x", "", b"", Fault(131)),
     Row("GET /parties/x?y", OFFICE, ENROL, Fault(132)),
     Row("GET /parties/x?at=", OFFICE, ENROL, Fault(132)),
@@ -90,7 +90,7 @@ pub const TARGETS: &[Row] = &[
     Row("GET /parties?at=5?", OFFICE, b"", Fault(132)),
     Row("GET /parties?at=00000000000005", OFFICE, b"", Fault(132)),
     Row("GET /parties?at=4102444800000", OFFICE, b"", Fault(132)),
-    // A moment to come is a fault whoever asks, also of one that is no party.
+    // A time in the future is a fault for all callers, even if the caller is not a party.
     Row("GET /parties?at=4102444799999", OFFICE, b"", Fault(135)),
     Row("GET /parties?at=1001", OFFICE, b"", Fault(135)),
     Row("GET /parties/2?at=1001", ANNA, b"", Fault(135)),
@@ -129,7 +129,7 @@ pub const TARGETS: &[Row] = &[
     ),
 ];
 
-/// Callers, of whom a new register knows the office alone.
+/// Callers. A new register has only the office.
 pub const CALLERS: &[Row] = &[
     Row("GET /parties", "", b"", Fault(131)),
     Row("GET /parties", "Register-Party: 1\r\n", b"", Fault(131)),
@@ -345,7 +345,8 @@ pub const BODIES: &[Row] = &[
     ),
 ];
 
-/// Shares and outlines, each fault once. The fields before them are well formed, those after them are not looked at.
+/// Shares and outlines, each fault once. The fields before them are well formed, those after them are not
+/// checked.
 pub const SHARES_AND_OUTLINES: &[Row] = &[
     Row(
         "POST /acts/group",

@@ -1,8 +1,8 @@
-//! Stories: rows that follow upon steps of the scenario.
+//! Stories: rows that follow some steps of the scenario.
 use land_test_scenario::talk::Row;
 
-/// Rows that follow upon so many steps of the scenario: their name, the steps, and what the clock reads for them where that
-/// is not 1000.
+/// Rows after the given number of steps: their name, the number of steps, the rows, and the clock readings if
+/// they are not 1000.
 pub struct Story(
     pub &'static str,
     pub usize,

@@ -1,11 +1,11 @@
-//! Streams that end before a request does, and heads at their limit.
+//! Streams that end within a request, and heads at the size limit.
 use land_test_scenario::talk::Told::{self, Fault, Shown};
 use land_test_scenario::talk::{ENROL, OFFICE, Row, Talk};
 use std::alloc::{AllocError, Global};
 
 const NAME: &str = "streams";
 
-/// A head may have so many bytes.
+/// The size limit of a head, in bytes.
 const LONGEST_HEAD: usize = 8192;
 
 const ENROLLED: Row = Row(
@@ -19,20 +19,20 @@ const ENROLLED: Row = Row(
 const CUT: &[u8] =
     b"POST /acts/enrol HTTP/1.1\r\nRegister-Party: 1\r\nRegister-Role: stateAdministrator\r\nContent-Length: 38\r\n\r\n{\"kind\":\"naturalPerson\",\"name\":\"Anna\"";
 
-/// What a head begins with that lists the parties, up to the padding that fills it.
+/// The start of a head that lists the parties, up to its padding.
 const LISTING: &[u8] =
     b"GET /parties HTTP/1.1\r\nRegister-Party: 1\r\nRegister-Role: stateAdministrator\r\nPadding: ";
 
 const END_OF_HEAD: &[u8] = b"\r\n\r\n";
 
-/// This is told of what the input has had since the row before.
+/// Adds the reply to the input since the row before.
 fn tell_next(talk: &mut Talk, told: Told, ends: bool) -> Result<(), AllocError> {
     talk.tell(told, ends)?;
     let place = talk.marks.len();
     talk.mark(NAME, place)
 }
 
-/// A head of so many bytes comes next, which lists the parties.
+/// Adds a head of the given length, which lists the parties.
 fn push_head(talk: &mut Talk, length: usize) -> Result<(), AllocError> {
     talk.input.extend_from_slice(LISTING)?;
     for _ in LISTING.len() + END_OF_HEAD.len()..length {
@@ -41,7 +41,7 @@ fn push_head(talk: &mut Talk, length: usize) -> Result<(), AllocError> {
     talk.input.extend_from_slice(END_OF_HEAD)
 }
 
-/// An enrolment, and the same once more, which ends a byte too early.
+/// An enrolment, and the same again, which ends a byte too early.
 pub(crate) fn cut_in_a_body(alloc: Global) -> Result<Talk, AllocError> {
     let mut talk = Talk::new(alloc)?;
     talk.ask(NAME, 0, &ENROLLED)?;
@@ -50,7 +50,7 @@ pub(crate) fn cut_in_a_body(alloc: Global) -> Result<Talk, AllocError> {
     Ok(talk)
 }
 
-/// An enrolment, then the longest head that is read, and one that is longer by a byte.
+/// An enrolment, then a head at the size limit, and one that is a byte longer.
 pub(crate) fn heads_at_their_limit(alloc: Global) -> Result<Talk, AllocError> {
     let mut talk = Talk::new(alloc)?;
     talk.ask(NAME, 0, &ENROLLED)?;

@@ -1,12 +1,16 @@
-//! Other turns that the register may take after so many steps of the scenario.
+//! Alternatives of the scenario after some of its steps.
 use crate::keepers::story::Story;
+use land_core::limits::LAST_MOMENT;
 use land_test_scenario::scenario::QUARTER;
 use land_test_scenario::talk::Told::{self, Denied, Fault, Refused, Sheet, Shown};
 use land_test_scenario::talk::{ANNA, BANK, BEN, ENROL, NORA, NOTARY, OFFICE, Row, SAM, SURVEYOR};
 
+/// A clock reading after the last moment.
+const AFTER_LAST_MOMENT: i64 = LAST_MOMENT + 1;
+
 const GARDEN: Told = Shown(r#"{"object":{"checked":true,"name":"Garden","number":9}}"#);
 
-/// The clock goes back, is past the last moment, and at it.
+/// The clock goes backwards, is after the last moment, and is at it.
 const STAMPS: &[Row] = &[
     Row(
         "POST /acts/enrol",
@@ -48,7 +52,7 @@ const BEFORE_1970: &[Row] = &[
     ),
 ];
 
-/// Three parcels of other spellings, one of a single square millimetre's half, and a share that is reduced.
+/// Three parcels with other spellings, one of half a square millimetre, and a share that is reduced.
 const OUTLINES: &[Row] = &[
     Row(
         "POST /acts/register",
@@ -176,7 +180,7 @@ const ENTRIES: &[Row] = &[
     ),
 ];
 
-/// Mutations that name what does not stand are lodged all the same, and shown with their outlines as they are printed.
+/// Mutations that refer to missing objects are lodged anyway, and shown with their outlines as printed.
 const LODGINGS: &[Row] = &[
     Row(
         "POST /acts/subdivision",
@@ -274,7 +278,7 @@ const GROUPS_AND_ROLES: &[Row] = &[
     ),
 ];
 
-/// Sam takes the place of Ben in the group, and with it sees what the group holds, from then on.
+/// Sam replaces Ben in the group, and sees from then on what the group holds.
 const REGROUPED: &[Row] = &[
     Row(
         "POST /acts/regroup",
@@ -608,12 +612,12 @@ const OWN_MUTATION: &[Row] = &[
     ),
 ];
 
-/// Turns up to the first unit.
+/// Alternatives up to the first unit.
 pub const EARLY: &[Story] = &[
     Story(
         "stamps",
         0,
-        &[5000, 4000, 4000, 4_102_444_800_000, 4_102_444_799_999, 1000],
+        &[5000, 4000, 4000, AFTER_LAST_MOMENT, LAST_MOMENT, 1000],
         STAMPS,
     ),
     Story("before 1970", 0, &[-1, -5000, i64::MIN], BEFORE_1970),
@@ -623,13 +627,13 @@ pub const EARLY: &[Story] = &[
     Story("a burden", 10, &[], BURDEN),
 ];
 
-/// The same: what holders and members are shown.
+/// Alternatives on the visibility for holders and members.
 pub const SHOWN: &[Story] = &[
     Story("a group of three", 3, &[], THREE),
     Story("entries", 4, &[], ENTRIES),
 ];
 
-/// Turns once the garden has a mortgage: transfers.
+/// Alternatives with a mortgage on the garden: transfers.
 pub const TRANSFERS: &[Story] = &[
     Story("a part of a right", 12, &[], PART_OF_A_RIGHT),
     Story("a conveyance", 12, &[], CONVEYANCE),
@@ -637,7 +641,7 @@ pub const TRANSFERS: &[Story] = &[
     Story("a share that is too large", 12, &[], SHARE_TOO_LARGE),
 ];
 
-/// The same: roles and banks.
+/// Alternatives with a mortgage on the garden: roles and banks.
 pub const ROLES: &[Story] = &[
     Story("a role that ended", 12, &[], ROLE_ENDED),
     Story("another member", 12, &[], REGROUPED),

@@ -1,5 +1,5 @@
-//! Worked rows as bytes, over the two keepers of tables beside the one in memory: the scenario with what is told beside it, and other turns
-//! that the register may take.
+//! Worked rows as bytes, for the two keepers of tables and the one in memory: the scenario with additional
+//! requests, and its alternatives.
 use crate::keepers::keepers::play_over_each;
 use crate::keepers::looks::{FIRST_LOOKS, LAST_LOOKS};
 use crate::keepers::parcels::PARCELS;
@@ -13,23 +13,23 @@ use land_test_scenario::stop::Stop;
 use land_test_scenario::talk::Talk;
 use std::alloc::{AllocError, Global};
 
-/// Requests over a new register.
+/// Requests to a new register.
 const REQUESTS: &[Story] = &[
     Story("routes", 0, &[], ROUTES),
     Story("targets", 0, &[], TARGETS),
     Story("callers", 0, &[], CALLERS),
 ];
 
-/// Bodies of acts over a new register.
+/// Bodies of acts on a new register.
 const ACTS: &[Story] = &[
     Story("bodies", 0, &[], BODIES),
     Story("shares and outlines", 0, &[], SHARES_AND_OUTLINES),
 ];
 
-/// Mandates, once the garden has a mortgage.
+/// Mandates, with a mortgage on the garden.
 const AGENTS: &[Story] = &[Story("mandates", 12, &[], MANDATES)];
 
-/// The talk of a story, the steps before it among its rows.
+/// Returns the conversation of a story, after its steps of the scenario.
 fn talk_of(alloc: Global, story: &Story) -> Result<Talk, AllocError> {
     let mut talk = Talk::new(alloc)?;
     for (place, step) in STEPS.iter().enumerate() {
@@ -46,7 +46,7 @@ fn is_told(alloc: Global, story: &Story) -> Result<(), Stop> {
     play_over_each(alloc, story.2, &talk)
 }
 
-/// Stories are told by each keeper, each over a new register.
+/// Plays stories with each keeper, each on a new register.
 fn are_told(alloc: Global, stories: &[Story]) -> Result<(), Stop> {
     for story in stories {
         is_told(alloc, story)?;
@@ -54,42 +54,42 @@ fn are_told(alloc: Global, stories: &[Story]) -> Result<(), Stop> {
     Ok(())
 }
 
-/// Requests are told their first fault.
+/// Tests that a request gets its first fault.
 pub fn requests_are_told_their_first_fault(alloc: Global) -> Result<(), Stop> {
     are_told(alloc, REQUESTS)
 }
 
-/// Bodies are told their first fault.
+/// Tests that a body gets its first fault.
 pub fn bodies_are_told_their_first_fault(alloc: Global) -> Result<(), Stop> {
     are_told(alloc, ACTS)
 }
 
-/// The register takes early turns.
+/// Tests the early alternatives.
 pub fn the_register_takes_early_turns(alloc: Global) -> Result<(), Stop> {
     are_told(alloc, EARLY)
 }
 
-/// Holders and members are shown what they hold.
+/// Tests that holders and members see what they hold.
 pub fn holders_and_members_are_shown_what_they_hold(alloc: Global) -> Result<(), Stop> {
     are_told(alloc, SHOWN)
 }
 
-/// Rights are transferred.
+/// Tests transfers of rights.
 pub fn rights_are_transferred(alloc: Global) -> Result<(), Stop> {
     are_told(alloc, TRANSFERS)
 }
 
-/// Roles and banks come and go.
+/// Tests roles and banks that start and end.
 pub fn roles_and_banks_come_and_go(alloc: Global) -> Result<(), Stop> {
     are_told(alloc, ROLES)
 }
 
-/// Mandates are given and withdrawn.
+/// Tests mandates that are given and withdrawn.
 pub fn mandates_are_given_and_withdrawn(alloc: Global) -> Result<(), Stop> {
     are_told(alloc, AGENTS)
 }
 
-/// Parcels are cut and merged.
+/// Tests parcels that are subdivided and merged.
 pub fn parcels_are_cut_and_merged(alloc: Global) -> Result<(), Stop> {
     are_told(alloc, PARCELS)
 }
@@ -103,7 +103,7 @@ fn ask_beside(talk: &mut Talk, looks: &[Story], steps: usize) -> Result<(), Allo
     Ok(())
 }
 
-/// The talk of the whole scenario, where after each step comes what is told beside it.
+/// Returns the conversation of the whole scenario, with the additional requests after each step.
 fn talk_beside(alloc: Global, looks: &[Story]) -> Result<Talk, AllocError> {
     let mut talk = Talk::new(alloc)?;
     for (place, step) in STEPS.iter().enumerate() {
@@ -119,17 +119,17 @@ fn are_told_beside(alloc: Global, looks: &[Story]) -> Result<(), Stop> {
     play_over_each(alloc, &[], &talk)
 }
 
-/// The scenario with what is told beside its first steps.
+/// Tests the scenario with additional requests after its first steps.
 pub fn the_scenario_with_what_is_told_beside_its_first_steps(alloc: Global) -> Result<(), Stop> {
     are_told_beside(alloc, FIRST_LOOKS)
 }
 
-/// The scenario with what is told beside its last steps.
+/// Tests the scenario with additional requests after its last steps.
 pub fn the_scenario_with_what_is_told_beside_its_last_steps(alloc: Global) -> Result<(), Stop> {
     are_told_beside(alloc, LAST_LOOKS)
 }
 
-/// A stream that ends within its second request, and heads at their limit.
+/// Tests a stream that ends within its second request, and heads at the size limit.
 pub fn streams_end_where_they_are_cut(alloc: Global) -> Result<(), Stop> {
     play_over_each(alloc, &[], &cut_in_a_body(alloc)?)?;
     play_over_each(alloc, &[], &heads_at_their_limit(alloc)?)

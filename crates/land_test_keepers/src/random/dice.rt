@@ -1,13 +1,13 @@
-//! Numbers that look like chance, and are the same each time.
+//! Pseudo-random numbers, the same in each run.
 
-/// A die, whose throws follow from its state alone.
+/// A generator whose numbers follow only from its state.
 #[derive(Clone, Copy)]
 pub struct Dice {
     pub state: u64,
 }
 
 impl Dice {
-    /// A number below the count of sides; 0 where there are none.
+    /// Returns a number below the number of sides, or 0 if there are none.
     pub fn throw(&mut self, sides: u32) -> u32 {
         self.state = self
             .state
@@ -17,7 +17,7 @@ impl Dice {
         high.checked_rem(sides).unwrap_or(0)
     }
 
-    /// The place of one of so many numbers, the last of them as often as all together.
+    /// Returns one of `count` places: the last one as often as all together.
     pub fn place(&mut self, count: usize) -> usize {
         if self.throw(2) == 0 {
             return count.saturating_sub(1);

@@ -1,4 +1,4 @@
-//! Drafts of requests. A mark in a draft stands for what is drawn before it is sent (`drawn.rt`):
+//! Drafts of requests. A mark in a draft is replaced before it is sent (`drawn.rt`):
 //!
 //! - `@`, `&`: a party, and another
 //! - `#`: a unit
@@ -8,20 +8,21 @@
 //! - `+`, `'`: the parcel after it, and its unit
 //! - `«`, `<`, `»`: the left edge, the middle and the right edge of the parcel
 //! - `>`: the right edge of the parcel after it
-//! - `*`: 2, or now and then 3
-//! - `;`: a number, mostly a new one
-//! - `|`: a moment that has been
+//! - `*`: 2, or rarely 3
+//! - `;`: a number, usually a new one
+//! - `|`: a time in the past
 //! - `_`: the word of a role
 use land_test_scenario::talk::{BANK, NOTARY, OFFICE, SAM, SURVEYOR};
 
-/// Anybody in any role, anybody as a citizen, and Ben as a conveyancer.
+/// A party in any role, a party as a citizen, and Ben as a conveyancer.
 pub const ANYBODY: &str = "Register-Party: @\r\nRegister-Role: _\r\n";
 
 const CITIZEN: &str = "Register-Party: @\r\nRegister-Role: citizen\r\n";
 
 const CONVEYANCER: &str = "Register-Party: 3\r\nRegister-Role: conveyancer\r\n";
 
-/// A draft: the throw below which it is taken, where none before it is; its line without the version, the fields of its caller, its body.
+/// A draft: the throw below which it is chosen, if none before it is; its request line without the version,
+/// the fields of its caller, and its body.
 pub struct Draft(
     pub u32,
     pub &'static str,
@@ -29,7 +30,7 @@ pub struct Draft(
     pub &'static str,
 );
 
-/// How many throws there are.
+/// The number of throws.
 pub const THROWS: u32 = 53;
 
 /// The drafts.

@@ -1,4 +1,4 @@
-//! What is drawn for the marks of a draft, out of what stands now.
+//! Random values for the marks of a draft, from the current objects.
 use crate::random::dice::Dice;
 use land_core::caller::Caller;
 use land_core::kind::Kind;
@@ -9,7 +9,7 @@ use land_keep::keeper::Keeper;
 use land_test_scenario::stop::Stop;
 use std::alloc::Global;
 
-/// The office, which sees all.
+/// The office, which sees everything.
 pub const OFFICE: Caller = Caller {
     party: 1,
     role: Role::StateAdministrator,
@@ -25,7 +25,7 @@ const WORDS: &[&str] = &[
     "stateAdministrator",
 ];
 
-/// What is drawn. A number is 1 where nothing stands that it could be of.
+/// The random values. A number is 1 if no object exists that it could refer to.
 #[derive(Clone, Copy)]
 pub struct Drawn {
     party: u64,
@@ -41,7 +41,7 @@ pub struct Drawn {
     pub role: &'static str,
 }
 
-/// An entry or a parcel: its number, its unit, and of a parcel the left edge and half the width.
+/// An entry or a parcel: its number, its unit, and for a parcel the left edge and half the width.
 #[derive(Clone, Copy)]
 struct Holding {
     number: u64,
@@ -51,19 +51,19 @@ struct Holding {
 }
 
 impl Holding {
-    /// Where a parcel has its middle.
+    /// Returns the middle of a parcel.
     fn middle(&self) -> u64 {
         self.left.saturating_add(self.half)
     }
 
-    /// Where it ends.
+    /// Returns the right edge of a parcel.
     fn right(&self) -> u64 {
         self.middle().saturating_add(self.half)
     }
 }
 
 impl Drawn {
-    /// The number for a mark, if it is one.
+    /// Returns the number for a mark, if it has one.
     pub fn number(&self, mark: char) -> Option<u64> {
         match mark {
             '@' => Some(self.party),
@@ -79,7 +79,7 @@ impl Drawn {
         }
     }
 
-    /// The number for a mark that speaks of parcels, if it is one.
+    /// Returns the number for a mark of parcels, if it is one.
     fn of_parcels(&self, mark: char) -> Option<u64> {
         match mark {
             '!' => Some(self.parcel.number),
@@ -95,7 +95,8 @@ impl Drawn {
     }
 }
 
-/// The numbers of an object of a kind that stands now, late ones more often, and of the one after it; 1 where there is none.
+/// Returns the numbers of a current object of a kind, later ones more often, and of the one after it; 1 if
+/// there is none.
 fn two_of<K: Keeper>(
     alloc: Global,
     keeper: &mut K,
@@ -111,7 +112,7 @@ fn two_of<K: Keeper>(
     Ok((number, next))
 }
 
-/// The number of an object of a kind that stands now, late ones more often; 1 where none does.
+/// Returns the number of a current object of a kind, later ones more often; 1 if there is none.
 fn one_of<K: Keeper>(
     alloc: Global,
     keeper: &mut K,
@@ -122,7 +123,8 @@ fn one_of<K: Keeper>(
     Ok(number)
 }
 
-/// The left edge of a parcel: all are rectangles of one height that stand side by side, each begun at its left.
+/// Returns the left edge of a parcel. All parcels are rectangles of one height next to each other, whose
+/// outline starts at the left.
 fn left_of(parcel: &Parcel) -> u64 {
     match parcel.outline.points().first() {
         Some(point) => u64::try_from(point.x).unwrap_or(0),
@@ -130,7 +132,7 @@ fn left_of(parcel: &Parcel) -> u64 {
     }
 }
 
-/// What an object is as an entry or a parcel.
+/// Returns an object as an entry or a parcel.
 fn holding_of(object: &Option<Object>, number: u64) -> Holding {
     let (unit, left, half) = match object {
         Some(Object::Parcel(parcel)) => (
@@ -149,7 +151,7 @@ fn holding_of(object: &Option<Object>, number: u64) -> Holding {
     }
 }
 
-/// The entry or the parcel of a number, as it stands now.
+/// Reads the entry or the parcel of a number now.
 fn look_up<K: Keeper>(
     alloc: Global,
     keeper: &mut K,
@@ -161,7 +163,7 @@ fn look_up<K: Keeper>(
     Ok(holding_of(&object, number))
 }
 
-/// Draws for the request of a place.
+/// Chooses the values for a request.
 pub fn draw<K: Keeper>(
     alloc: Global,
     keeper: &mut K,
@@ -194,7 +196,7 @@ pub fn draw<K: Keeper>(
     })
 }
 
-/// The word of a role.
+/// Returns the word of a random role.
 fn word(dice: &mut Dice) -> &'static str {
     WORDS
         .get(dice.throw(6) as usize)

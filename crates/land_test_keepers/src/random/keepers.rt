@@ -5,25 +5,25 @@ use land_test_scenario::playing::play_steps;
 use land_test_scenario::stop::{Stop, expect};
 use std::alloc::Global;
 
-/// A register in memory, in the tables of sqlite read whole, and in others read by joins.
+/// A register in memory, one on whole tables, and one with indexed queries.
 #[derive(Drop)]
 pub struct Keepers<'a, P, T, J> {
     pub plain: &'a mut P,
     pub tables: &'a mut T,
     pub joins: &'a mut J,
-    /// How many lists were compared.
+    /// The number of lists that were compared.
     pub lists: usize,
 }
 
 impl<P: Keeper, T: Keeper, J: Keeper> Keepers<'_, P, T, J> {
-    /// Plays the scenario over each of them.
+    /// Plays the scenario with each of them.
     pub fn play_scenario(&mut self, alloc: Global) -> Result<(), Stop> {
         play_steps(alloc, self.plain)?;
         play_steps(alloc, self.tables)?;
         play_steps(alloc, self.joins)
     }
 
-    /// All of them tell the same of the request on a page.
+    /// Checks that all of them return the same reply to the request on a page.
     pub fn tell_alike(&mut self, alloc: Global, page: &mut Page, place: usize) -> Result<(), Stop> {
         tell(alloc, self.plain, page.request.as_str(), &mut page.told)?;
         tell(alloc, self.tables, page.request.as_str(), &mut page.other)?;

@@ -1,9 +1,10 @@
-//! What callers see, over each keeper.
+//! The lists that callers see, with each keeper.
 use crate::random::dice::Dice;
 use crate::random::drawn::OFFICE;
 use crate::random::keepers::Keepers;
 use land_core::caller::Caller;
 use land_core::kind::Kind;
+use land_core::limits::LAST_MOMENT;
 use land_core::role::Role;
 use land_keep::keeper::Keeper;
 use land_test_scenario::stop::{Stop, expect};
@@ -27,21 +28,21 @@ pub const KINDS: &[Kind] = &[
     Kind::Mutation,
 ];
 
-/// Numbers that no party has: none can be below 1 or above 1_000_000_000, and 9 is a unit.
+/// Numbers that are not parties: below 1, a unit (9), and above 1,000,000,000.
 const STRANGERS: &[u64] = &[0, 9, 1_000_000_001, 9_223_372_036_854_775_808];
 
-/// A moment that is drawn: before the first stamp, the last one that there is, or that of a change, with the one before the first change
-/// among them.
+/// Returns a random time: before the first stamp, the last moment, or the stamp of a change or the moment
+/// before the first one.
 fn draw_moment(dice: &mut Dice, last: i64) -> i64 {
     let count = u32::try_from(last.saturating_sub(998)).unwrap_or(1);
     match dice.throw(10) {
         0 => -1,
-        1 => 4_102_444_799_999,
+        1 => LAST_MOMENT,
         _ => i64::from(dice.throw(count)).saturating_add(999),
     }
 }
 
-/// A keeper shows a caller these numbers of a kind at a moment.
+/// Checks that a keeper returns these numbers of a kind for a caller at a time.
 fn expect_sight<K: Keeper>(
     alloc: Global,
     keeper: &mut K,
@@ -54,14 +55,14 @@ fn expect_sight<K: Keeper>(
     expect(numbers.as_slice() == wanted, "sight", wanted.len())
 }
 
-/// How often a list is asked for over the tables read whole, too: once in so many, since they are read anew for each.
+/// A list is requested from whole tables only once in this number, since each request reads all of them.
 const ONE_IN: u32 = 16;
 
-/// At how many moments that are drawn a list is asked for.
+/// The number of random times for each list.
 const MOMENTS: u32 = 3;
 
-/// How many numbers of a kind a caller is shown at a moment, the same in memory and by joins, and where that is drawn by the tables read
-/// whole.
+/// Returns the length of a caller's list at a time. The list is the same in memory and with indexed queries,
+/// and at random also on whole tables.
 fn shown_at<P: Keeper, T: Keeper, J: Keeper>(
     alloc: Global,
     keepers: &mut Keepers<'_, P, T, J>,
@@ -80,7 +81,7 @@ fn shown_at<P: Keeper, T: Keeper, J: Keeper>(
     Ok(wanted.len())
 }
 
-/// How many numbers of a kind a caller is shown now and at moments that are drawn.
+/// Returns the lengths of a caller's lists now and at random times.
 fn shown<P: Keeper, T: Keeper, J: Keeper>(
     alloc: Global,
     keepers: &mut Keepers<'_, P, T, J>,
@@ -97,7 +98,7 @@ fn shown<P: Keeper, T: Keeper, J: Keeper>(
     Ok(count)
 }
 
-/// How many numbers of a kind some callers are shown in a role.
+/// Returns the lengths of the lists of several callers in a role.
 fn shown_to<P: Keeper, T: Keeper, J: Keeper>(
     alloc: Global,
     keepers: &mut Keepers<'_, P, T, J>,
@@ -117,7 +118,7 @@ fn shown_to<P: Keeper, T: Keeper, J: Keeper>(
     Ok(count)
 }
 
-/// Of how many pairs of a role and a kind some of these callers are shown anything.
+/// Returns the number of pairs of a role and a kind in which one of these callers sees an object.
 fn pairs_shown<P: Keeper, T: Keeper, J: Keeper>(
     alloc: Global,
     keepers: &mut Keepers<'_, P, T, J>,
@@ -135,7 +136,7 @@ fn pairs_shown<P: Keeper, T: Keeper, J: Keeper>(
     Ok(pairs)
 }
 
-/// The same of all parties that stand now.
+/// Returns the same for all current parties.
 fn pairs_shown_to_parties<P: Keeper, T: Keeper, J: Keeper>(
     alloc: Global,
     keepers: &mut Keepers<'_, P, T, J>,
@@ -146,9 +147,10 @@ fn pairs_shown_to_parties<P: Keeper, T: Keeper, J: Keeper>(
     pairs_shown(alloc, keepers, dice, parties.as_slice())
 }
 
-/// Each keeper shows the same to all parties and to strangers. Parties are shown something in 30 of the 36 pairs of a role and a kind: not
-/// sources as citizen, conveyancer or bank, and not units, entries or sources as certified surveyor. Strangers are shown something where
-/// nothing is asked of who they are: parcels in four roles, and all six kinds in two.
+/// Checks that each keeper returns the same lists for all parties and for callers that are not parties.
+/// Parties see an object in 30 of the 36 pairs of a role and a kind: no sources as citizen, conveyancer or
+/// bank, and no units, entries or sources as certified surveyor. Other callers see only what does not depend
+/// on the party: parcels in four roles, and all six kinds in two.
 pub fn look_around<P: Keeper, T: Keeper, J: Keeper>(
     alloc: Global,
     keepers: &mut Keepers<'_, P, T, J>,

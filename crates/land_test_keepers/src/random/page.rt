@@ -1,4 +1,4 @@
-//! A request that is made of a draft, and what is told of it.
+//! A request from a draft, and its replies.
 use crate::random::dice::Dice;
 use crate::random::drafts::{ANYBODY, DRAFTS, Draft, THROWS};
 use crate::random::drawn::Drawn;
@@ -11,10 +11,10 @@ use land_test_scenario::playing::open_sink;
 use land_test_scenario::stop::{Stop, expect};
 use std::alloc::{AllocError, Global};
 
-/// What a reply ends with that tells of want of memory.
+/// The end of a reply of error 501.
 const NO_ROOM: &[u8] = b"{\"store\":501}";
 
-/// A request, what the register in memory tells of it, and what another keeper does.
+/// A request, the reply of the register in memory, and the reply of another keeper.
 #[derive(Drop)]
 pub struct Page {
     body: String,
@@ -24,7 +24,7 @@ pub struct Page {
     pub tally: Tally,
 }
 
-/// Writes a text, in place of each mark what is drawn for it.
+/// Writes a text, with a random value for each mark.
 fn fill(output: &mut String, text: &str, drawn: &Drawn) -> Result<(), AllocError> {
     for mark in text.chars() {
         match drawn.number(mark) {
@@ -36,13 +36,13 @@ fn fill(output: &mut String, text: &str, drawn: &Drawn) -> Result<(), AllocError
     Ok(())
 }
 
-/// The draft of a throw.
+/// Returns the draft of a throw.
 fn draft_of(throw: u32) -> Option<&'static Draft> {
     DRAFTS.iter().find(|draft| throw < draft.0)
 }
 
 impl Page {
-    /// An empty page.
+    /// Returns an empty page.
     pub fn new(alloc: Global) -> Result<Page, AllocError> {
         Ok(Page {
             body: String::with_capacity(alloc, 2048)?,
@@ -53,7 +53,7 @@ impl Page {
         })
     }
 
-    /// Makes a request of some draft, which now and then anybody asks for.
+    /// Writes the request of a draft, sometimes with a random caller.
     pub fn write(&mut self, dice: &mut Dice, drawn: &Drawn) -> Result<(), AllocError> {
         let Some(draft) = draft_of(dice.throw(THROWS)) else {
             return Ok(());
@@ -74,13 +74,13 @@ impl Page {
         self.request.push_str(self.body.as_str())
     }
 
-    /// Whether the other keeper told the same.
+    /// Checks if the other keeper returned the same reply.
     pub fn is_alike(&self) -> bool {
         self.told.taken.as_slice() == self.other.taken.as_slice()
     }
 }
 
-/// Stops where a reply tells of a fault of the store.
+/// Fails if a reply is a store error.
 fn expect_store(told: &[u8]) -> Result<(), Stop> {
     if told.ends_with(NO_ROOM) {
         return Err(Stop::Memory);
@@ -88,7 +88,7 @@ fn expect_store(told: &[u8]) -> Result<(), Stop> {
     expect(!told.starts_with(b"HTTP/1.1 5"), "a fault of the store", 0)
 }
 
-/// A keeper's reply to one request, where the clock reads 1000.
+/// Returns a keeper's reply to one request, with the clock at 1000.
 pub fn tell<K: Keeper>(
     alloc: Global,
     keeper: &mut K,

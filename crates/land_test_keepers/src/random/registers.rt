@@ -1,4 +1,4 @@
-//! Registers that chance makes.
+//! Random registers.
 use crate::each::new_tables;
 use crate::random::dice::Dice;
 use crate::random::drawn::{OFFICE, draw};
@@ -12,17 +12,17 @@ use land_tables::table_keeper::TableKeeper;
 use land_test_scenario::stop::{Stop, expect};
 use std::alloc::Global;
 
-/// How many requests are made.
+/// The number of requests.
 const REQUESTS: u32 = 640;
 
-/// How many changes, and objects that stand, there are at least in the end, and how many lists are compared.
+/// The least number of changes, of current objects and of compared lists at the end.
 const CHANGES: i64 = 190;
 
 const OBJECTS: usize = 390;
 
 const LISTS: usize = 3800;
 
-/// One request more, which now and then is the one before it again, is told alike.
+/// Sends one more request, sometimes the one before again, and checks that all replies are the same.
 fn tell_one<P: Keeper, T: Keeper, J: Keeper>(
     alloc: Global,
     keepers: &mut Keepers<'_, P, T, J>,
@@ -37,7 +37,7 @@ fn tell_one<P: Keeper, T: Keeper, J: Keeper>(
     keepers.tell_alike(alloc, page, place as usize)
 }
 
-/// How many objects stand now.
+/// Returns the number of current objects.
 fn objects<P: Keeper, T: Keeper, J: Keeper>(
     alloc: Global,
     keepers: &mut Keepers<'_, P, T, J>,
@@ -51,7 +51,7 @@ fn objects<P: Keeper, T: Keeper, J: Keeper>(
     Ok(count)
 }
 
-/// Makes so many requests one after another; each is told alike.
+/// Sends the given number of requests in order, and checks that the replies are the same.
 fn tell_all<P: Keeper, T: Keeper, J: Keeper>(
     alloc: Global,
     keepers: &mut Keepers<'_, P, T, J>,
@@ -64,7 +64,7 @@ fn tell_all<P: Keeper, T: Keeper, J: Keeper>(
     Ok(())
 }
 
-/// The same, of which a good part was done, denied and refused.
+/// The same, and checks that enough of them were accepted, denied and refused.
 fn tell_enough<P: Keeper, T: Keeper, J: Keeper>(
     alloc: Global,
     keepers: &mut Keepers<'_, P, T, J>,
@@ -75,7 +75,8 @@ fn tell_enough<P: Keeper, T: Keeper, J: Keeper>(
     page.tally.expect_enough()
 }
 
-/// Makes a register of a seed: it has changed often enough, has enough objects, and is shown alike.
+/// Makes the register of a seed, and checks that it has enough changes and objects, and that its lists are
+/// the same.
 fn play<P: Keeper, T: Keeper, J: Keeper>(
     alloc: Global,
     keepers: &mut Keepers<'_, P, T, J>,
@@ -105,17 +106,17 @@ fn are_alike(alloc: Global, seed: u64) -> Result<(), Stop> {
     play(alloc, &mut keepers, seed)
 }
 
-/// The register of seed 1.
+/// Tests the register of seed 1.
 pub fn the_register_of_seed_1(alloc: Global) -> Result<(), Stop> {
     are_alike(alloc, 1)
 }
 
-/// The register of seed 2.
+/// Tests the register of seed 2.
 pub fn the_register_of_seed_2(alloc: Global) -> Result<(), Stop> {
     are_alike(alloc, 2)
 }
 
-/// The register of seed 3.
+/// Tests the register of seed 3.
 pub fn the_register_of_seed_3(alloc: Global) -> Result<(), Stop> {
     are_alike(alloc, 3)
 }

@@ -1,7 +1,7 @@
-//! How often requests had which reply.
+//! Counts of replies, by their kind.
 use land_test_scenario::stop::{Stop, expect};
 
-/// How often something was done or shown, denied, and refused.
+/// The numbers of requests that were accepted, denied and refused.
 #[derive(Clone, Copy)]
 pub struct Tally {
     done: usize,
@@ -10,7 +10,7 @@ pub struct Tally {
 }
 
 impl Tally {
-    /// No reply yet.
+    /// Returns zero counts.
     pub fn new() -> Tally {
         Tally {
             done: 0,
@@ -30,7 +30,7 @@ impl Tally {
         }
     }
 
-    /// Goes on where a good part of each was told.
+    /// Checks that there are enough replies of each kind.
     pub fn expect_enough(&self) -> Result<(), Stop> {
         expect(200 <= self.done, "done", self.done)?;
         expect(150 <= self.denied, "denied", self.denied)?;

@@ -1,5 +1,5 @@
-//! Views of parties after the scenario, over a store that keeps a mark of what is read of it: once as the keeper over joins judges them, and
-//! once by running the texts that are said to be theirs.
+//! Views of parties after the scenario, on a store that records its reads: once authorized by the indexed
+//! keeper, and once as the SQL statements that are documented for them.
 use crate::sights::recorder::Reads;
 use crate::sights::texts_are_run::{LAST, MANDATES, Recorded, played};
 use land_core::ask::Ask;
@@ -14,25 +14,27 @@ use land_test_scenario::stop::{Stop, expect};
 use sqlite::types::ValueRef;
 use std::alloc::Global;
 
-/// The text that gives the roles of who asks.
+/// The SQL statement that returns the roles of the caller.
 const ROLES: &str =
     "SELECT party, role, since, until FROM role WHERE party = ?1 AND since <= ?2 AND ?2 < until";
 
-/// The text that gives the groups of a citizen.
+/// The SQL statement that returns the groups of a citizen.
 const GROUPS: &str = "SELECT grp FROM member WHERE party = ?1 AND since <= ?2 AND ?2 < until";
 
-/// Who is told of a party by a right.
+/// The viewers of a party by a right.
 const BY_HOLDING: &str =
     "SELECT held.party FROM rrr AS seen JOIN rrr AS held ON held.unit = seen.unit WHERE seen.party = ?1 AND held.class IN ('ownership', 'lease', 'usufruct') AND (seen.class <> 'mortgage' OR held.class = 'ownership') AND seen.since <= ?2 AND ?2 < seen.until AND held.since <= ?2 AND ?2 < held.until LIMIT 17";
 
-/// Who is told of a party by a mortgage.
+/// The viewers of a party by a mortgage.
 const BY_CREDITING: &str =
     "SELECT held.party FROM rrr AS seen JOIN rrr AS held ON held.unit = seen.unit WHERE seen.party = ?1 AND held.class = 'mortgage' AND (seen.class <> 'mortgage' OR seen.party = held.party) AND seen.since <= ?2 AND ?2 < seen.until AND held.since <= ?2 AND ?2 < held.until LIMIT 17";
 
-/// A view of a party that is none of the caller's names: who asks, in which role, for whom, and the rule that denies it, 0 where none does.
+/// A view of a party that is not one of the caller's names: the caller, its role, the party, and the number
+/// of the rule that denies it, or 0.
 struct Seen(u64, Role, u64, u8);
 
-/// Ben owns the garden and the orchard, on which the bank has mortgages and in which Sam has leases; Nora has nothing.
+/// Ben owns the garden and the orchard, on which the bank has mortgages and in which Sam has leases; Nora has
+/// no rights.
 const VIEWS: &[Seen] = &[
     Seen(3, Role::Citizen, 4, 0),
     Seen(3, Role::Citizen, 6, 0),
@@ -44,7 +46,7 @@ const VIEWS: &[Seen] = &[
 ];
 
 impl Seen {
-    /// Who asks.
+    /// Returns the caller.
     fn caller(&self) -> Caller {
         Caller {
             party: self.0,
@@ -53,7 +55,7 @@ impl Seen {
     }
 }
 
-/// Whether a keeper judges a view by the rule that is said, and what is read of the store then.
+/// Returns if a keeper's verdict on a view is the expected rule, and the reads of the store.
 fn read_by_keeper(alloc: Global, view: &Seen) -> Result<(bool, Reads), Stop> {
     let mut keeper = played(alloc)?;
     let ask = Ask::View {
@@ -74,7 +76,8 @@ fn read_by_keeper(alloc: Global, view: &Seen) -> Result<(bool, Reads), Stop> {
     Ok((rule == view.3, conn.into_store().reads()))
 }
 
-/// Runs the texts of a view: of the roles of who asks at the end of time, of a citizen's mandates and groups, and of who is told of the party.
+/// Runs the SQL statements of a view: the roles of the caller at the last moment, a citizen's mandates and
+/// groups, and the viewers of the party.
 fn run_texts(conn: &mut Recorded, view: &Seen) -> Result<(), Stop> {
     let (caller, party) = (
         i64::try_from(view.0).unwrap_or(0),
@@ -95,14 +98,15 @@ fn run_texts(conn: &mut Recorded, view: &Seen) -> Result<(), Stop> {
     Ok(())
 }
 
-/// What is read of the store where the texts of a view are run.
+/// Returns the reads of the store for the SQL statements of a view.
 fn read_by_texts(alloc: Global, view: &Seen) -> Result<Reads, Stop> {
     let mut conn = played(alloc)?.into_tables().into_connection();
     run_texts(&mut conn, view)?;
     Ok(conn.into_store().reads())
 }
 
-/// Over joins the view of a party that few are told of is judged by who is told of it, and no list of the caller's is made.
+/// Tests that the indexed keeper authorizes the view of a party with few viewers by these, without the
+/// caller's list.
 pub fn parties_are_seen_by_who_is_told_of_them(alloc: Global) -> Result<(), Stop> {
     for (place, view) in VIEWS.iter().enumerate() {
         let (is_so, by_keeper) = read_by_keeper(alloc, view)?;

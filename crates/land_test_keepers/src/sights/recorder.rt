@@ -1,4 +1,4 @@
-//! A store that keeps a mark of what is read of it.
+//! A store that records its reads.
 ghost use Rattle.std.specs.Prelude.{◌≡◌};
 
 use sqlite::Alter;
@@ -8,8 +8,7 @@ use sqlite_trees::store::{Direction, Shape, Store};
 use sqlite_value::row::Row;
 use std::alloc::{AllocError, Global};
 
-/// What was read, one call after another: how many calls there were, and a mark that is another one for another call, another tree or
-/// another order.
+/// The reads of a store: their number, and a hash of the operations, the trees and the order.
 #[derive(Clone, Copy, Debug, PartialEq, Eq)]
 pub struct Reads {
     pub count: u64,
@@ -17,7 +16,7 @@ pub struct Reads {
 }
 
 impl Reads {
-    /// One call more: which, and of what.
+    /// Adds an operation on a place.
     fn add(&mut self, call: u64, place: u64) {
         self.count = self.count.saturating_add(1);
         self.mark = self
@@ -29,7 +28,7 @@ impl Reads {
     }
 }
 
-/// A store, and what was read of it.
+/// A store, and its reads.
 #[derive(Drop)]
 pub struct Recorder<S: Alter> {
     store: S,
@@ -37,7 +36,7 @@ pub struct Recorder<S: Alter> {
 }
 
 impl<S: Alter> Recorder<S> {
-    /// A store of which nothing was read yet.
+    /// Returns a store without reads.
     pub fn over(store: S) -> Recorder<S>
         ensures { result.store ≡ store }
     {
@@ -47,7 +46,7 @@ impl<S: Alter> Recorder<S> {
         }
     }
 
-    /// What was read of it.
+    /// Returns the reads of the store.
     pub fn reads(&self) -> Reads {
         self.reads
     }

@@ -1,5 +1,5 @@
-//! Lists of each kind in each role after the scenario, over a store that keeps a mark of what is read of it: once as the keeper over joins
-//! tells them, and once by running the texts that are said to be theirs.
+//! Lists of each kind in each role after the scenario, on a store that records its reads: once returned by
+//! the indexed keeper, and once as the SQL statements that are documented for them.
 use crate::random::looks::KINDS;
 use crate::sights::recorder::{Reads, Recorder};
 use land_core::caller::Caller;
@@ -17,7 +17,8 @@ use sqlite::types::ValueRef;
 use sqlite::{Connection, MemStore};
 use std::alloc::Global;
 
-/// A caller in each role: the owner, the lodger of two transfers, the notary, the bank, the surveyor and the office.
+/// A caller in each role: the owner, the lodger of two transfers, the notary, the bank, the surveyor and the
+/// office.
 const CALLERS: &[Caller] = &[
     Caller {
         party: 3,
@@ -45,14 +46,14 @@ const CALLERS: &[Caller] = &[
     },
 ];
 
-/// The moment of the last step.
+/// The time of the last step.
 pub(crate) const LAST: i64 = 1017;
 
-/// A connection over such a store.
+/// A connection to such a store.
 pub(crate) type Recorded = Connection<Recorder<MemStore>>;
 
-/// A connection over a store of which is marked what is read.
-fn connected(alloc: Global) -> Result<Recorded, Stop> {
+/// Opens a connection to a store that records its reads.
+fn connect_recorder(alloc: Global) -> Result<Recorded, Stop> {
     let store = Recorder::over(MemStore::new(alloc, &[])?);
     match Connection::over(alloc, store) {
         Ok(conn) => Ok(conn),
@@ -60,9 +61,9 @@ fn connected(alloc: Global) -> Result<Recorded, Stop> {
     }
 }
 
-/// The register after the scenario, in such a store.
+/// Returns the register after the scenario, in such a store.
 pub(crate) fn played(alloc: Global) -> Result<SqlKeeper<Recorder<MemStore>>, Stop> {
-    let tables = match Tables::create(connected(alloc)?) {
+    let tables = match Tables::create(connect_recorder(alloc)?) {
         Ok(tables) => tables,
         Err((_, fault)) => return Err(Stop::from(fault)),
     };
@@ -87,7 +88,7 @@ struct Viewer<'a> {
     at: i64,
 }
 
-/// Sam as citizen, who has Ben's mandate.
+/// Sam as citizen, with Ben's mandate.
 const SAM: Viewer<'static> = Viewer {
     caller: Caller {
         party: 6,
@@ -97,7 +98,7 @@ const SAM: Viewer<'static> = Viewer {
     at: LAST + 1,
 };
 
-/// The register after the scenario, with the mandate if the viewer has one.
+/// Returns the register after the scenario, with the mandate if the viewer has one.
 fn played_for(alloc: Global, viewer: &Viewer<'_>) -> Result<SqlKeeper<Recorder<MemStore>>, Stop> {
     let mut keeper = played(alloc)?;
     if viewer.principals.is_empty() {
@@ -109,7 +110,7 @@ fn played_for(alloc: Global, viewer: &Viewer<'_>) -> Result<SqlKeeper<Recorder<M
     Ok(keeper)
 }
 
-/// Returns what the keeper reads of the store for the lists of a viewer.
+/// Returns the keeper's reads of the store for the lists of a viewer.
 fn read_by_keeper(alloc: Global, viewer: &Viewer<'_>) -> Result<Reads, Stop> {
     let mut keeper = played_for(alloc, viewer)?;
     for kind in KINDS {
@@ -119,11 +120,13 @@ fn read_by_keeper(alloc: Global, viewer: &Viewer<'_>) -> Result<Reads, Stop> {
     Ok(conn.into_store().reads())
 }
 
-/// The SQL statement that returns the mandates that a citizen holds. Its parameters are those of the statements of a list.
+/// The SQL statement that returns the mandates that a citizen holds. Its parameters are those of the
+/// statements of a list.
 pub(crate) const MANDATES: &str =
     "SELECT principal, agent, since, until FROM mandate WHERE agent = ?1 AND since <= ?2 AND ?2 < until";
 
-/// Runs the SQL statements of a list for one party. Their first parameter is the party, their second the time.
+/// Runs the SQL statements of a list for one party. Their first parameter is the party, their second the
+/// time.
 fn run_texts_for(
     conn: &mut Recorded,
     role: Role,
@@ -139,8 +142,8 @@ fn run_texts_for(
     Ok(())
 }
 
-/// Runs the SQL statements of a list: for a citizen's list, unless it is of parcels, which everyone sees, first the one of its mandates, and
-/// then those of the list for each principal and for the caller.
+/// Runs the SQL statements of a list. For a citizen's list, unless it is of parcels, which all roles see, it
+/// first runs the one of its mandates, and then those of the list for each principal and for the caller.
 fn run_texts(conn: &mut Recorded, viewer: &Viewer<'_>, kind: Kind) -> Result<(), Stop> {
     let Caller { party, role } = viewer.caller;
     if role == Role::Citizen && kind != Kind::Parcel {
@@ -153,7 +156,7 @@ fn run_texts(conn: &mut Recorded, viewer: &Viewer<'_>, kind: Kind) -> Result<(),
     run_texts_for(conn, role, kind, party, viewer.at)
 }
 
-/// Returns what is read of the store if the SQL statements of these lists are run.
+/// Returns the reads of the store if the SQL statements of these lists are run.
 fn read_by_texts(alloc: Global, viewer: &Viewer<'_>) -> Result<Reads, Stop> {
     let mut conn = played_for(alloc, viewer)?.into_tables().into_connection();
     for kind in KINDS {
@@ -162,14 +165,14 @@ fn read_by_texts(alloc: Global, viewer: &Viewer<'_>) -> Result<Reads, Stop> {
     Ok(conn.into_store().reads())
 }
 
-/// The lists of a viewer read what their SQL statements read, in the same order.
+/// Checks that the lists of a viewer read the same as their SQL statements, in the same order.
 fn expect_same_reads(alloc: Global, viewer: &Viewer<'_>, place: usize) -> Result<(), Stop> {
     let by_keeper = read_by_keeper(alloc, viewer)?;
     let by_texts = read_by_texts(alloc, viewer)?;
     expect(by_keeper == by_texts, "the lists of a caller", place)
 }
 
-/// A list runs its SQL statements, a citizen's first that of its mandates, and nothing else.
+/// Tests that a list runs only its SQL statements, a citizen's first that of its mandates.
 pub fn lists_are_told_by_their_texts(alloc: Global) -> Result<(), Stop> {
     for (place, caller) in CALLERS.iter().enumerate() {
         let viewer = Viewer {

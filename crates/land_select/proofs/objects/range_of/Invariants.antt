@@ -3,6 +3,6 @@ use Rattle.std.specs.List.{AllByRecursion}
 use Rattle.land_select_joins.specs.Lookups.Ranges.{is_within}
 use Rattle.land_select.proofs.objects.range_of.Given as goal
 
--- the numbers so far lie in the range
+-- the numbers before the current one are in the range
 abbrev pub invariant-loop-number : goal.invariant-loop-number
 invariant-loop-number l = AllByRecursion (λ n. is_within l.first l.last n ≡ true) (take l.number-index l.numbers)

@@ -4,6 +4,6 @@ use Rattle.std.specs.Prelude.{map as map_list}
 use Rattle.land_keep.specs.Sheets.{shown_parcel}
 use Rattle.land_select.proofs.view.shown_parcels.Given as goal
 
--- the parcels so far, and those to come
+-- the parcels at this point, followed by the remaining ones
 abbrev pub invariant-loop-number : goal.invariant-loop-number
 invariant-loop-number l = l.parcels ++ map_list (λ e. shown_parcel e.0 e.1) l.number-iterator ≡ map_list (λ e. shown_parcel e.0 e.1) (map.entries l.found)

@@ -1,8 +1,8 @@
 use Rattle.std.proofs.Common.{rules, ◌≡◌, subst, sym, to_z, of_z, w64, None, Some, ◌∙◌}
 use Rattle.land_core.specs.declared.kind.Kind.TheVariants as kind
-use Rattle.land_select.proofs.Found.{object_among}
+use Rattle.land_select.proofs.CachedValue.{object_among}
 use Rattle.land_select.proofs.Viewed.{view_is}
-use Rattle.land_select.specs.Kept.{IsFound}
+use Rattle.land_select.specs.Cache.{IsFound}
 use Rattle.land_select.specs.Views.{IsShownGiven, view_from}
 use Rattle.land_select_joins.proofs.Chains.{look_after}
 use Rattle.land_tables_schema.proofs.Looking.{look_told}

@@ -2,7 +2,7 @@ use Rattle.std.proofs.Common.{rules, ◌≡◌, ap₂, subst, to_z, of_z, w64, O
 use Rattle.land_core.specs.declared.kind.Kind.TheVariants as kind
 use Rattle.land_keep.specs.Sheets.{entries_seen, parcels_at}
 use Rattle.land_select.proofs.Viewed.{have_members}
-use Rattle.land_select.specs.Kept.{IsFound}
+use Rattle.land_select.specs.Cache.{IsFound}
 use Rattle.land_select.specs.Views.{IsShownGiven}
 use Rattle.land_select_joins.specs.Lookups.Parts.{IsPart}
 use Rattle.land_tables_rows.specs.declared.listing.fault.ReadFault.{ReadFault}

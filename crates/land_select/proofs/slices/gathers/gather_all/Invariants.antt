@@ -5,7 +5,7 @@ use Rattle.land_tables_schema.specs.Rows.Looks.{IsLook}
 use Rattle.sqlite.specs.Held.{state}
 use Rattle.land_select.proofs.slices.gathers.gather_all.Given as goal
 
--- what is gathered so far
+-- the part that is read at this point
 abbrev pub invariant-loop-number : goal.invariant-loop-number
 invariant-loop-number g l =
     IsLook {X = Unit {0}} {E = ReadFault} (Ok tt) (λ _. Grows g.G.Gathers.knows (with_numbers (take l.number-index l.numbers)) l.fn.from l.gathered l.fn.at (state g.S.Store l.fn.conn).now.trees)

@@ -9,7 +9,7 @@ returns-in-Lodge-clause-look g c =
     let look = rw (when, c.as_str.ensures) at c.lodged_as.ensures.look in
     rw c.in-Lodge.is look
 
--- the one that is approved or refused
+-- the mutation that is approved or refused
 pub returns-in-Approve-clause-look : goal.returns-in-Approve-clause-look
 returns-in-Approve-clause-look g c =
     let when : to_z w64 (of_z w64 c.args.at) ≡ c.args.at = search rules in

@@ -17,20 +17,20 @@ returns-clause-look g c =
     let t = c.args.at in
     let act = c.args.act.now in
     let mutations = c.args.mutations in
-    let people = c.in_ok-people.people in
-    let holdings = c.in_ok-holdings.holdings in
+    let parties_and_roles = c.in_ok-parties_and_roles.parties_and_roles in
+    let units_and_entries = c.in_ok-units_and_entries.units_and_entries in
     let when : to_z w64 (of_z w64 t) ≡ t = search rules in
-    let both : IsLook {X = Unit {0}} {E = ReadFault} (Ok tt) (λ _. IsSo (λ r. (caller : Caller) → mutations ≡ mutations_looked_at r caller act → KnowsPeople r (λ n. looks_at_party r act n) people) t a.now.trees
-    × IsSo (λ r. (caller : Caller) → mutations ≡ mutations_looked_at r caller act → KnowsHoldings r (λ n. names_unit r act n) holdings) t a.now.trees) a d =
-    look_then a (state g.S.Store c.people_of.new.conn) d (rw when at c.in_ok-people.ensures.look) (rw when at c.in_ok-holdings.ensures.look)
-    (λ clean same first second. (first, subst (λ (now : Database). IsSo (λ r. (caller : Caller) → mutations ≡ mutations_looked_at r caller act → KnowsHoldings r (λ n. names_unit r act n) holdings) t now.trees) same second)) in
+    let both : IsLook {X = Unit {0}} {E = ReadFault} (Ok tt) (λ _. IsSo (λ r. (caller : Caller) → mutations ≡ mutations_looked_at r caller act → KnowsPeople r (λ n. looks_at_party r act n) parties_and_roles) t a.now.trees
+    × IsSo (λ r. (caller : Caller) → mutations ≡ mutations_looked_at r caller act → KnowsHoldings r (λ n. names_unit r act n) units_and_entries) t a.now.trees) a d =
+    look_then a (state g.S.Store c.people_of.new.conn) d (rw when at c.in_ok-parties_and_roles.ensures.look) (rw when at c.in_ok-units_and_entries.ensures.look)
+    (λ clean same first second. (first, subst (λ (now : Database). IsSo (λ r. (caller : Caller) → mutations ≡ mutations_looked_at r caller act → KnowsHoldings r (λ n. names_unit r act n) units_and_entries) t now.trees) same second)) in
     look_after a d (state g.S.Store c.slice_with.new.conn) c.slice_with.result both (rw when at c.slice_with.ensures.look)
     (λ it clean same both sliced moments h held r have stands next caller are pair.
-    subst (λ (now : Database). IsSo (λ r. (caller : Caller) → IsKnown r caller act (record { mutations = mutations; people = people; holdings = holdings; mandates = c.args.mandates; next = c.args.next }) → it ≡ slice_of r caller act) t now.trees)
+    subst (λ (now : Database). IsSo (λ r. (caller : Caller) → IsKnown r caller act (record { mutations = mutations; parties_and_roles = parties_and_roles; units_and_entries = units_and_entries; mandates = c.args.mandates; next = c.args.next }) → it ≡ slice_of r caller act) t now.trees)
     same sliced moments h held r have stands caller (record {
       mutations = are;
-      people = both.0 moments h held r have stands caller are;
-      holdings = both.1 moments h held r have stands caller are;
+      parties_and_roles = both.0 moments h held r have stands caller are;
+      units_and_entries = both.1 moments h held r have stands caller are;
       mandates = pair;
       next = next;
     }))

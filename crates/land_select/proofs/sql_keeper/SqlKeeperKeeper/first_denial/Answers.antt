@@ -5,7 +5,7 @@ use Rattle.land_keep.specs.Machine.{moment_of}
 use Rattle.land_keep.specs.Moments.{last_moment}
 use Rattle.land_keep.specs.Timeline.{Timeline, register_at}
 use Rattle.land_select.proofs.Seen.{verdict_told}
-use Rattle.land_select.specs.Kept.{IsFoundFor}
+use Rattle.land_select.specs.Cache.{IsFoundFor}
 use Rattle.land_tables.proofs.Keeping.{closes_ok}
 use Rattle.land_tables.proofs.LookedAt.{look_moment}
 use Rattle.land_tables.specs.Office.{held}
@@ -25,7 +25,7 @@ returns-clause-value g c clean =
     (verdict_told c.soundness_by_look_ups.ensures s c.args.caller c.args.ask.now c.args.now at c.min-asked_for.result is_moment (look_moment at c.min-asked_for.result least) c.in_ok-told.told answer).0
 
 pub returns-clause-closes : goal.returns-clause-closes
-returns-clause-closes g c = rw c.self.view_is at (closes_ok c.self.inside.tables.is_closed c.answer.new.tables.is_closed c.in_ok-told.told c.in_ok-told.told.0 c.in_ok-told.ensures.closes)
+returns-clause-closes g c = rw c.self.view_is at (closes_ok c.self.inside.tables.is_closed c.execute.new.tables.is_closed c.in_ok-told.told c.in_ok-told.told.0 c.in_ok-told.ensures.closes)
 
 pub invariant_of-self-2 : goal.invariant_of-self-2
 invariant_of-self-2 g c live =
@@ -41,6 +41,6 @@ invariant_of-self-2 g c live =
     let answer = rw (c.self.view_is, now, t, u) at (c.in_ok-told.ensures.value live.0) in
     let found = (verdict_told c.soundness_by_look_ups.ensures s c.args.caller ask c.args.now at c.min-asked_for.result is_moment (look_moment at c.min-asked_for.result least) it answer).1 in
     let same = rw c.self.view_is at (c.in_ok-told.ensures.same live) in
-    let kept = c.kept_for-kept.ensures (held g.S.Store c.answer.new.tables)
-    (subst (λ (x : ℤ). IsFoundFor (register_at (held g.S.Store c.answer.new.tables) x) c.args.caller ask it.1) (sym t) (subst (λ (tl : Timeline). IsFoundFor (register_at tl at) c.args.caller ask it.1) (sym same) found)) in
+    let kept = c.cache_for-cache.ensures (held g.S.Store c.execute.new.tables)
+    (subst (λ (x : ℤ). IsFoundFor (register_at (held g.S.Store c.execute.new.tables) x) c.args.caller ask it.1) (sym t) (subst (λ (tl : Timeline). IsFoundFor (register_at tl at) c.args.caller ask it.1) (sym same) found)) in
     rw c.keep.ensures kept

@@ -11,5 +11,5 @@ returns-clause-value g c clean =
     let s = state g.S.Store c.args.self.now.conn in
     let u : to_z w64 (of_z w64 c.min.result) ≡ c.min.result = search rules in
     let least : c.min.result ≡ int_min c.args.at last_moment = search rules in
-    let answer = rw (c.self.view_is, u) at (c.answer.ensures.value clean) in
-    sight_seen s c.args.caller c.args.kind c.args.at c.min.result (look_moment c.args.at c.min.result least) c.answer.result answer
+    let answer = rw (c.self.view_is, u) at (c.execute.ensures.value clean) in
+    sight_seen s c.args.caller c.args.kind c.args.at c.min.result (look_moment c.args.at c.min.result least) c.execute.result answer

@@ -13,7 +13,7 @@ pub loop-caller-preserved : goal.loop-caller-preserved
 loop-caller-preserved g c =
     let a = state g.S.Store c.args.conn.now in
     let b = state g.S.Store c.loop-caller.conn in
-    let d = state g.S.Store c.gather.new.conn in
+    let d = state g.S.Store c.collect_numbers.new.conn in
     let k = c.loop-caller.caller-index in
     let s = slice_index_or c.args.callers.now k 0 in
     let found = c.in_ok-given.given.items in
@@ -44,13 +44,13 @@ returns-in_err-given-clause-look g c =
     let b = state g.S.Store c.loop-caller.conn in
     let when : to_z w64 (of_z w64 c.args.at) ≡ c.args.at = search rules in
     let before = rw when at c.loop-caller.invariant.0 in
-    look_fails a b (state g.S.Store c.gather.new.conn) c.from_residual.result c.from_residual.ensures.0 before c.in_err-given.ensures.look
+    look_fails a b (state g.S.Store c.collect_numbers.new.conn) c.from_residual.result c.from_residual.ensures.0 before c.in_err-given.ensures.look
 
 pub returns-in_err-extend_from_slice-clause-look : goal.returns-in_err-extend_from_slice-clause-look
 returns-in_err-extend_from_slice-clause-look g c =
     let a = state g.S.Store c.args.conn.now in
     let b = state g.S.Store c.loop-caller.conn in
-    let d = state g.S.Store c.gather.new.conn in
+    let d = state g.S.Store c.collect_numbers.new.conn in
     let when : to_z w64 (of_z w64 c.args.at) ≡ c.args.at = search rules in
     let before = rw when at c.loop-caller.invariant.0 in
     let both : IsLook {X = Unit {0}} {E = ReadFault} (Ok tt) (λ _. Unit {0}) a d = look_then a b d before c.in_ok-given.ensures.look (λ _ _ _ _. tt) in

@@ -8,7 +8,7 @@ use Rattle.land_select_joins.proofs.lookups.numbers.numbers.Goals as goal
 pub returns-clause-look : goal.returns-clause-look
 returns-clause-look g c =
     let old = state g.S.Store c.args.conn.now in
-    let l = c.args.look_up in
+    let l = c.args.record_lookup in
     let n = c.args.number in
     let t = c.args.at in
     let when : to_z w64 (of_z w64 t) ≡ t = search rules in
@@ -19,7 +19,7 @@ returns-clause-look g c =
 pub returns-clause-unreadable : goal.returns-clause-unreadable
 returns-clause-unreadable g c clean =
     let old = state g.S.Store c.args.conn.now in
-    let l = c.args.look_up in
+    let l = c.args.record_lookup in
     let n = c.args.number in
     let t = c.args.at in
     let when : to_z w64 (of_z w64 t) ≡ t = search rules in

@@ -12,7 +12,7 @@ pub returns-clause-look : goal.returns-clause-look
 returns-clause-look g c =
     let old = state g.S.Store c.args.conn.now in
     let new = state g.S.Store c.query_all.new.self in
-    let l = c.args.look_up in
+    let l = c.args.record_lookup in
     let when : to_z w64 (of_z w64 c.args.at) ≡ c.args.at = search rules in
     let e = rw (c.text_of.ensures, c.of_number.ensures, c.asked_for.ensures, c.of_moment.ensures, when) at c.query_all.ensures in
     looks (number_text_of l) (query_of l) (join_of l).asks (given (asked_for c.args.number) c.args.at) old new (λ rows. rows.items) c.query_all.result

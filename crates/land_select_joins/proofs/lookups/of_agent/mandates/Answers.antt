@@ -2,7 +2,7 @@ use Rattle.std.proofs.Common.{rules, ◌≡◌, nat_eq, to_z, of_z, w64}
 use Rattle.land_core.specs.Entries.{only}
 use Rattle.land_select_joins.proofs.Parts.{mandates_found}
 use Rattle.land_select_joins.proofs.Records.{are_wanted, none_said}
-use Rattle.land_select_joins.specs.declared.lookups.look_up.LookUp.TheVariants.{MandatesOfAgent}
+use Rattle.land_select_joins.specs.declared.lookups.record_lookup.LookUp.TheVariants.{MandatesOfAgent}
 use Rattle.land_tables_schema.proofs.Looking.{look_told}
 use Rattle.sqlite.specs.Held.{state}
 use Rattle.land_select_joins.proofs.lookups.of_agent.mandates.Goals as goal

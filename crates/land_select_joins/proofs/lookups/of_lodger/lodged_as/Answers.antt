@@ -3,7 +3,7 @@ use Rattle.land_core.specs.Entries.{only}
 use Rattle.land_core.specs.Mutations.{is_lodged_as}
 use Rattle.land_select_joins.proofs.Parts.{part_found}
 use Rattle.land_select_joins.proofs.Records.{all_wanted, can_be_read, none_held}
-use Rattle.land_select_joins.specs.Lookups.Finding.{AreRowsLodgedAs, wanted}
+use Rattle.land_select_joins.specs.Lookups.RecordRows.{AreRowsLodgedAs, wanted}
 use Rattle.land_tables_history.specs.Standing.{IsPartAt}
 use Rattle.land_tables_rows.specs.Listing.Reading.{mutations}
 use Rattle.land_tables_schema.proofs.Looking.{look_told}

@@ -4,7 +4,7 @@ use Rattle.land_core.specs.Role.{is_role}
 use Rattle.land_core.specs.declared.role.Role.TheVariants.{StateAdministrator}
 use Rattle.land_select_joins.proofs.Parts.{roles_found}
 use Rattle.land_select_joins.proofs.Records.{are_wanted, none_said}
-use Rattle.land_select_joins.specs.declared.lookups.look_up.LookUp.TheVariants.{Administrators}
+use Rattle.land_select_joins.specs.declared.lookups.record_lookup.LookUp.TheVariants.{Administrators}
 use Rattle.land_tables_schema.proofs.Looking.{look_told}
 use Rattle.sqlite.specs.Held.{state}
 use Rattle.land_select_joins.proofs.lookups.office.administrators.Goals as goal

@@ -1,9 +1,0 @@
--- What is answered of tables.
-use Rattle.land_tables.specs.Office.{HoldsRegister}
-use Rattle.sqlite.specs.State.{State}
-use Rattle.sqlite_trees.specs.Tree.{Trees}
-
--- this is an answer of the rows of tables that hold a register
-pub record IsAnswer {T : Type 0} (answers : Trees → T → Type 0) (s : State) (it : T) : Type 0 where
-  pub register : HoldsRegister s
-  pub answer : answers s.now.trees it

@@ -1,0 +1,65 @@
+-- The values that a verdict reads and the cache keeps for the reply.
+use Rattle.std.specs.Prelude.{◌≡◌, ℕ, ℤ, Option, None, Some}
+use Rattle.land_core.specs.Register.{object_at}
+use Rattle.land_core.specs.declared.ask.Ask.{Ask}
+use Rattle.land_core.specs.declared.ask.Ask.TheVariants as ask
+use Rattle.land_core.specs.declared.caller.Caller.{Caller}
+use Rattle.land_core.specs.declared.kind.Kind.{Kind}
+use Rattle.land_core.specs.declared.kind.Kind.TheVariants as kind
+use Rattle.land_core.specs.declared.object.Object.{Object}
+use Rattle.land_core.specs.declared.register.Register.{Register}
+use Rattle.land_keep.specs.Timeline.{Timeline, register_at}
+use Rattle.land_rules.specs.Laws.{IsSoundOrNothing}
+use Rattle.land_rules.specs.Rules.{first_denial, sight_rules}
+use Rattle.land_rules.specs.declared.verdict.Verdict.{Verdict}
+use Rattle.land_select.specs.Views.{visible_rrrs}
+use Rattle.land_select.specs.declared.cache.CachedValue.{CachedValue}
+use Rattle.land_select.specs.declared.cache.CachedValue.TheVariants as found
+use Rattle.land_select.specs.declared.cache.Cache.{Cache}
+use Rattle.land_select_joins.specs.Joins.Running.{OfHeld}
+use Rattle.land_tables_history.specs.History.{StandsAt}
+use Rattle.sqlite_trees.specs.Tree.{Trees}
+
+-- an object, if there is one, as a cached value
+abbrev pub cached_object : Option Object → CachedValue
+cached_object None = found.Nothing
+cached_object (Some it) = found.Object it
+
+-- A cached value is correct for a caller and an object of a register: it is that object, or the entries of
+-- that unit that the caller sees.
+abbrev pub IsFound : Register → Caller → Kind → (number : ℕ) → CachedValue → Type 0
+IsFound r caller k n found.Nothing = Unit {0}
+IsFound r caller k n (found.Object it) = object_at r k n ≡ Some it
+IsFound r caller k n (found.VisibleEntries entries) = entries ≡ visible_rrrs r caller n
+
+-- a cached object is the object of this kind and number
+abbrev pub IsObjectFound : Register → Kind → (number : ℕ) → CachedValue → Type 0
+IsObjectFound r k n found.Nothing = Unit {0}
+IsObjectFound r k n (found.Object it) = object_at r k n ≡ Some it
+IsObjectFound r k n (found.VisibleEntries entries) = Unit {0}
+
+-- If the tables hold a history that at time t represents a register, sound or empty, the result is this fact
+-- of it, and the cached value is correct.
+abbrev pub IsToldWith : {T : Type 0} → (Register → T) → Caller → Kind → (number : ℕ) → (t : ℤ) → Trees → T
+    × CachedValue → Type 0
+IsToldWith told caller k n t db it =
+    OfHeld db (λ h. (r : Register) → IsSoundOrNothing r → StandsAt t h r → (it.0 ≡ told r)
+    × IsFound r caller k n it.1)
+
+-- the cached value is correct for a request; for lists and acts it is not used
+abbrev pub IsFoundFor : Register → Caller → Ask → CachedValue → Type 0
+IsFoundFor r caller (ask.View k n at) it = IsFound r caller k n it
+IsFoundFor r caller (ask.List k at) it = Unit {0}
+IsFoundFor r caller (ask.Sheet unit at) it = IsFound r caller kind.Unit unit it
+IsFoundFor r caller (ask.Do act) it = Unit {0}
+
+-- the verdict of the sight rules on a request, with the cached value
+abbrev pub IsSightedWith : Caller → Ask → (t : ℤ) → Trees → Verdict × CachedValue → Type 0
+IsSightedWith caller a t db it = OfHeld db
+    (λ h. (r : Register) → IsSoundOrNothing r → StandsAt t h r
+    → (it.0 ≡ first_denial (sight_rules r caller a)) × IsFoundFor r caller a it.1)
+
+-- the cache is correct for a timeline
+abbrev pub IsKeptOf : Timeline → Option Cache → Type 0
+IsKeptOf tl None = Unit {0}
+IsKeptOf tl (Some it) = IsFound (register_at tl it.moment) it.caller it.kind it.number it.found

@@ -1,0 +1,136 @@
+//! Caches what was read while a request was authorized, so that building its reply does not read it again.
+ghost use Rattle.std.specs.Prelude.{◌≡◌, IfSome, None, Some, true};
+ghost use Rattle.land_core.specs.Register.{object_at};
+ghost use Rattle.land_core.specs.declared.kind.Kind.TheVariants as kinds;
+ghost use Rattle.land_keep.specs.Timeline.{Timeline, register_at};
+ghost use Rattle.land_select.specs.Cache.{IsFound, IsFoundFor, IsKeptOf, cached_object};
+
+use land_core::ask::Ask;
+use land_core::caller::Caller;
+use land_core::kind::Kind;
+use land_core::object::Object;
+use land_core::records::Records;
+use land_core::rrr::RrrRecord;
+
+/// A cached read.
+#[derive(Debug, Drop)]
+pub(crate) enum CachedValue {
+    /// Nothing was cached.
+    Nothing,
+    /// The requested object.
+    Object(Object),
+    /// The entries of the requested unit that the caller sees.
+    VisibleEntries(Records<RrrRecord>),
+}
+
+/// A cached read with its key. It is valid for one request: each other call of the keeper clears it.
+#[derive(Debug, Drop)]
+pub(crate) struct Cache {
+    /// The caller.
+    pub(crate) caller: Caller,
+    /// The kind of the requested object.
+    pub(crate) kind: Kind,
+    /// The number of the requested object.
+    pub(crate) number: u64,
+    /// The requested time, in Unix milliseconds.
+    pub(crate) moment: i64,
+    /// The cached value.
+    pub(crate) found: CachedValue,
+}
+
+impl Cache {
+    /// Checks if this was read for an object at a time.
+    fn is_for(&self, kind: Kind, number: u64, at: i64) -> bool
+        ensures { result ≡ true → (self.now.kind ≡ kind) × (self.now.number ≡ number)
+            × (self.now.moment ≡ at) }
+    {
+        self.kind == kind && self.number == number && self.moment == at
+    }
+
+    /// Checks if this was read for a caller.
+    fn is_for_caller(&self, caller: Caller) -> bool
+        ensures { result ≡ true → self.now.caller ≡ caller }
+    {
+        self.caller == caller
+    }
+}
+
+/// Returns an object as a cached value.
+pub(crate) fn cached_object(object: Option<Object>) -> CachedValue
+    ensures { result ≡ cached_object object }
+{
+    match object {
+        Some(it) => CachedValue::Object(it),
+        None => CachedValue::Nothing,
+    }
+}
+
+/// Returns a new cache for the view of an object or the sheet of a unit; `None` for lists and acts, whose
+/// replies reuse nothing.
+pub(crate) fn cache_for(caller: Caller, ask: &Ask, at: i64, found: CachedValue) -> Option<Cache>
+    ensures { (tl : Timeline) → IsFoundFor (register_at tl at) caller ask.now found → IsKeptOf tl result }
+{
+    let (kind, number) = match ask {
+        Ask::View { kind, number, .. } => (*kind, *number),
+        Ask::Sheet { unit, .. } => (Kind::Unit, *unit),
+        Ask::List { .. } | Ask::Do(_) => return None,
+    };
+    Some(Cache {
+        caller,
+        kind,
+        number,
+        moment: at,
+        found,
+    })
+}
+
+/// Replaces the cache.
+pub(crate) fn keep(cache: &mut Option<Cache>, found: Option<Cache>)
+    ensures { cache.new ≡ found }
+{
+    *cache = found;
+}
+
+/// Clears the cache.
+pub(crate) fn forget(cache: &mut Option<Cache>)
+    ensures { cache.new ≡ None }
+{
+    *cache = None;
+}
+
+/// Returns the object of a kind and a number at a time, if it is cached.
+pub(crate) fn take_object(cache: Option<Cache>, kind: Kind, number: u64, at: i64) -> Option<Object>
+    ensures { (tl : Timeline) → IsKeptOf tl cache
+        → IfSome result (λ it. object_at (register_at tl at) kind number ≡ Some it) }
+{
+    match cache {
+        Some(it) => {
+            if !it.is_for(kind, number, at) {
+                return None;
+            }
+            let Cache { found, .. } = it;
+            match found {
+                CachedValue::Object(object) => Some(object),
+                CachedValue::Nothing | CachedValue::VisibleEntries(_) => None,
+            }
+        }
+        None => None,
+    }
+}
+
+/// Returns the value that is cached for a caller, a unit and a time.
+pub(crate) fn take_unit(cache: Option<Cache>, caller: Caller, unit: u64, at: i64) -> CachedValue
+    ensures { (tl : Timeline) → IsKeptOf tl cache
+        → IsFound (register_at tl at) caller kinds.Unit unit result }
+{
+    match cache {
+        Some(it) => {
+            if !it.is_for_caller(caller) || !it.is_for(Kind::Unit, unit, at) {
+                return CachedValue::Nothing;
+            }
+            let Cache { found, .. } = it;
+            found
+        }
+        None => CachedValue::Nothing,
+    }
+}

@@ -1,0 +1,36 @@
+//! Reads the slice of the latest register for an act, by lookups.
+ghost use Rattle.std.specs.Prelude.{◌≡◌};
+
+use crate::query::Query;
+use crate::slices::slice::slice_at;
+use land_acts::slice::Slice;
+use land_core::act::Act;
+use land_core::caller::Caller;
+use land_tables_rows::listing::fault::ReadFault;
+use sqlite::{Alter, Connection};
+use std::alloc::Global;
+
+/// The query for the slice that planning an act may read, at a time.
+#[derive(Clone, Copy, Debug)]
+pub(crate) struct SliceQuery<'a> {
+    /// The caller.
+    pub(crate) caller: Caller,
+    /// The act.
+    pub(crate) act: &'a Act,
+    /// The next number of the register.
+    pub(crate) next: u64,
+    /// The time, in Unix milliseconds.
+    pub(crate) moment: i64,
+}
+
+impl Query<Slice> for SliceQuery<'_> {
+    ghost use Rattle.land_acts.specs.Slices.{slice_of};
+    ghost use Rattle.land_select.specs.Slices.Gathered.{IsSo};
+
+    ghost results = { λ it db slice. IsSo (λ r. r.next ≡ it.next → slice ≡ slice_of r it.caller it.act.now)
+        it.moment db };
+
+    fn run<S: Alter>(&self, alloc: Global, conn: &mut Connection<S>) -> Result<Slice, ReadFault> {
+        slice_at(alloc, conn, self.caller, self.act, self.next, self.moment)
+    }
+}

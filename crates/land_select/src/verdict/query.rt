@@ -1,0 +1,87 @@
+//! Authorizes a request: the verdict, and the object or the entries that it read.
+ghost use Rattle.land_select.specs.Cache.{IsSightedWith};
+ghost use Rattle.land_select.specs.Verdicts.{IsVerdictWith};
+ghost use Rattle.land_select_joins.specs.TableReads.{ReadsTables};
+ghost use Rattle.land_tables_schema.specs.Connections.{HasRegisterTables, IsUsable, LeavesAutocommit};
+
+use crate::cache::CachedValue;
+use crate::query::Query;
+use crate::verdict::caller::read_standing_verdict;
+use crate::verdict::sheet::read_sheet_verdict;
+use crate::verdict::view::viewing;
+use land_core::ask::Ask;
+use land_core::caller::Caller;
+use land_core::limits::LAST_MOMENT;
+use land_rules::verdict::Verdict;
+use land_tables_rows::listing::fault::ReadFault;
+use sqlite::{Alter, Connection};
+use std::alloc::Global;
+
+/// Returns the verdict of the sight rules on a request by the register at a time, and the value that it read.
+fn sighted<S: Alter>(
+    alloc: Global,
+    conn: &mut Connection<S>,
+    caller: Caller,
+    ask: &Ask,
+    at: i64,
+) -> Result<(Verdict, CachedValue), ReadFault>
+    requires open { IsUsable S.Store conn.old }
+    requires land { HasRegisterTables S.Store conn.old }
+    ensures look { ReadsTables S.Store result (IsSightedWith caller ask.now at) conn.old conn.new }
+    ensures mode { LeavesAutocommit conn.old conn.new }
+{
+    match ask {
+        Ask::View { kind, number, .. } => viewing(alloc, conn, caller, *kind, *number, at),
+        Ask::Sheet { unit, .. } => read_sheet_verdict(alloc, conn, caller, *unit, at),
+        Ask::List { .. } | Ask::Do(_) => Ok((Verdict::Allowed, CachedValue::Nothing)),
+    }
+}
+
+/// Returns the verdict on a request at a time, and the value that it read. The standing rules use the
+/// register at the last moment.
+fn read_verdict<S: Alter>(
+    alloc: Global,
+    conn: &mut Connection<S>,
+    caller: Caller,
+    ask: &Ask,
+    past: bool,
+    at: i64,
+) -> Result<(Verdict, CachedValue), ReadFault>
+    requires open { IsUsable S.Store conn.old }
+    requires land { HasRegisterTables S.Store conn.old }
+    ensures look { ReadsTables S.Store result (IsVerdictWith caller ask.now past at) conn.old conn.new }
+    ensures mode { LeavesAutocommit conn.old conn.new }
+{
+    let first = read_standing_verdict(alloc, conn, caller, ask, past, LAST_MOMENT)?;
+    match first {
+        Verdict::Allowed => sighted(alloc, conn, caller, ask, at),
+        Verdict::Denied(rule) => Ok((Verdict::Denied(rule), CachedValue::Nothing)),
+    }
+}
+
+/// The query for the verdict on a request.
+#[derive(Clone, Copy, Debug)]
+pub(crate) struct VerdictQuery<'a> {
+    /// The caller.
+    pub(crate) caller: Caller,
+    /// The request.
+    pub(crate) ask: &'a Ask,
+    /// Whether the time is before now.
+    pub(crate) past: bool,
+    /// The time, in Unix milliseconds.
+    pub(crate) moment: i64,
+}
+
+impl Query<(Verdict, CachedValue)> for VerdictQuery<'_> {
+    ghost use Rattle.land_select.specs.Verdicts.{IsVerdictWith};
+
+    ghost results = { λ it db told. IsVerdictWith it.caller it.ask.now it.past it.moment db told };
+
+    fn run<S: Alter>(
+        &self,
+        alloc: Global,
+        conn: &mut Connection<S>,
+    ) -> Result<(Verdict, CachedValue), ReadFault> {
+        read_verdict(alloc, conn, self.caller, self.ask, self.past, self.moment)
+    }
+}
