@@ -38,7 +38,7 @@ abbrev pub member_text : Member → List ℕ
 member_text m =
     codes "{\"party\":" ++ (decimal m.party ++ (codes ",\"share\":" ++ (share_text m.share ++ codes "}")))
 
--- `name` is a name as JSON writes it, in quotation marks
+-- `name` is a JSON string with its quotation marks
 abbrev pub party_text : (kind : List ℕ) → List Member → (name : List ℕ) → ℕ → List Role → List ℕ
 party_text kind members name n roles =
     codes "{\"kind\":" ++ (quoted_word kind ++ (codes ",\"members\":[" ++ (with_commas (map member_text members)
