@@ -1,4 +1,4 @@
--- Facts on the window of a stream, and on how many fields fit in it.
+-- Lemmas on the window of a stream, and on the number of fields in it.
 use Rattle.std.proofs.Common.{◌≡◌, ℕ, ◌-◌, ◌*◌, ◌<◌, ◌≤◌, suc, zero, List, [], ◌∷◌, ◌++◌, length, take, drop, refl, sym, ap, ◌∙◌, subst, arith, append-nil, length-drop, length-append, length-take, Option, Some, None, IfSome}
 use Rattle.std.specs.Prelude.{map}
 use Rattle.httparse.specs.Spans.{IsWithin, IsHeaderWithin, IsRequestWithin, IsRequestAt, span_bytes, header_bytes}
@@ -33,7 +33,7 @@ drop_front front more zero fits = refl
 drop_front [] more (suc n) fits = absurd (omega arith)
 drop_front (x ∷ front) more (suc n) fits = drop_front front more n (omega arith)
 
--- what spans cover in a front, they cover in the whole
+-- spans in a prefix cover the same bytes in the whole
 slice_front : (front more : List ℕ) (s : Span) (n : ℕ) → n ≤ length front → IsWithin n s
     → span_bytes (front ++ more) s ≡ span_bytes front s
 slice_front front more s n fits ok =
@@ -92,7 +92,7 @@ head_in items e headers spans small ok =
       ),
     )
 
--- the window of the stream goes on from what the buffer has of it
+-- the window of the stream extends the window of the buffer
 pub window_goes_on : (items rest : List ℕ) (e : ℕ) → e ≤ 8192 → e ≤ length items
     → window (items ++ rest) ≡ take e items ++ drop e (window (items ++ rest))
 window_goes_on items rest e small inside =

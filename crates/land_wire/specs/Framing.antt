@@ -1,4 +1,4 @@
--- Definitions of streams and the items in them.
+-- Definitions of streams and their items.
 pub mod Frame
 pub mod FrameFaults
 pub mod Items

@@ -1,4 +1,4 @@
-//! The item at the front of a stream.
+//! Reads the next item of a stream.
 ghost use Rattle.std.specs.Prelude.{◌≡◌, ◌≤◌, ◌<◌, ◌+◌, ◌*◌, ◌⊎◌, ℕ, List, length, vec_len, vec_capacity, IfOk, IfErr, IfSome};
 ghost use Rattle.std.specs.Io.KnownBytes.{Keeps, prepend_known};
 ghost use Rattle.httparse.specs.Grammar.{RequestHead};
@@ -14,20 +14,22 @@ use land_streams::counted_reader::CountedReader;
 use land_streams::stream_fault::StreamFault;
 use std::io::Read;
 
-/// What stands at the front of a stream.
+/// The next item of a stream.
 #[derive(Clone, Copy, Debug, PartialEq, Eq)]
 pub enum Front {
-    /// No byte is left.
+    /// The end of the input.
     End,
-    /// A fault of framing, after which nothing is looked at.
+    /// A framing fault, after which the rest is ignored.
     Fault(FrameFault),
     /// A whole request: the spans of its head, and the length of the body after it.
     Request(RequestSpans, usize),
 }
 
-/// The item at the front of what the buffer holds and the reader has left, where a request's parts lie in the
-/// buffer. The error is the reader's, or of memory; no byte of the stream is lost. The reader is not asked once a whole
-/// request or a fault is there.
+/// Reads the first item of `buffer` followed by the rest of `reader`; the spans of a request refer to the
+/// buffer.
+///
+/// Once a whole request or a fault is in the buffer, the reader is not called. Errors: those of the reader,
+/// or out of memory; the bytes read so far remain in the buffer.
 pub fn read_item<R: Read>(
     reader: &mut CountedReader<'_, R>,
     buffer: &mut Vec<u8>,
@@ -46,7 +48,8 @@ pub fn read_item<R: Read>(
     ensures item { IfOk result (λ f. IfSome (prepend_known buffer.new.items (R.remaining reader.new.reader.now))
         (λ stream. IsFrontOf stream f)) }
 
-    // `NoMemory` is returned only if there was no room for a piece; `Read` only if the reader was called, or its budget was spent.
+    // Returns `NoMemory` only if the buffer had no capacity for a chunk, and `Read` only if the reader was
+    // called, or its budget was spent.
     ensures memory { IfErr result (λ e. e ≡ StreamFault.NoMemory → vec_capacity buffer.new < vec_len buffer.new + 1024) }
     ensures failed { IfErr result (λ e. e ≡ StreamFault.Read → (reader.new.left ≡ 0)
         ⊎ ((reader.new.left < reader.old.left) × (vec_len buffer.new + 1024 ≤ vec_capacity buffer.new))) }
@@ -67,7 +70,7 @@ pub fn read_item<R: Read>(
     }
 }
 
-/// What a fault before the end of a head stands for.
+/// Returns the item of a fault before the end of a head: the end, if the input is empty.
 fn fault_front(fault: FrameFault, empty: bool) -> Front
     ensures { result ≡ fault_front fault empty }
 {

@@ -1,4 +1,4 @@
-//! The items of bytes that are all there.
+//! Counts the items of bytes that are a complete stream.
 ghost use Rattle.std.specs.Prelude.{◌≡◌, ◌≤◌, List, length};
 ghost use Rattle.land_wire.specs.Framing.Items.{Item, AreItems, IsFrontIn, IsFrontOf};
 ghost use Rattle.land_wire.specs.Framing.Stream.{field_room};
@@ -10,7 +10,7 @@ use crate::framing::head::{HEAD_LIMIT, Look, look_at};
 use crate::framing::item::Front;
 use httparse::spans::HeaderSpan;
 
-/// How many items the bytes have as a stream. So each stream has a list of items.
+/// Returns the number of items of a stream. This also proves that each stream has a list of items.
 pub fn item_count(bytes: &[u8], headers: &mut [HeaderSpan]) -> usize
     requires { field_room ≤ length headers.old }
     ensures { (items : List Item) × AreItems bytes.now items × (length items ≡ result) }
@@ -32,7 +32,7 @@ pub fn item_count(bytes: &[u8], headers: &mut [HeaderSpan]) -> usize
     }
 }
 
-/// What stands at the front of the bytes, after which nothing comes.
+/// Returns the first item of a complete stream.
 pub fn front_of(bytes: &[u8], headers: &mut [HeaderSpan]) -> Front
     requires { field_room ≤ length headers.old }
     ensures room { length headers.new ≡ length headers.old }
