@@ -1,4 +1,4 @@
--- Title sheets: the lines in order, each with the line feed that ends it.
+-- Title sheets: the lines in order, each with its line feed.
 use Rattle.std.specs.Prelude.{◌≡◌, ◌++◌, Bool, true, false, List, [], ◌∷◌, ℕ, codes, decimal, length, unsigned_abs}
 use Rattle.land_core.specs.Words.{class_word}
 use Rattle.land_core.specs.declared.parcel.Parcel.{Parcel}
@@ -18,11 +18,11 @@ use Rattle.land_sheet.specs.Widths.{number_right, text_left, text_right}
 unfoldable pub title_line : List ℕ
 title_line = codes "TITLE SHEET\n"
 
--- the unit by its number and its name
+-- the unit, by its number and its name
 unfoldable pub unit_line : Unit → List ℕ
 unit_line unit = codes "Unit " ++ (decimal unit.number ++ (codes " " ++ (unit.name ++ codes "\n")))
 
--- the moment that was asked for: a date, and a time of that day
+-- the requested time: a date, and a time of that day
 unfoldable pub date_part : CivilDate → List ℕ
 date_part date = codes "At " ++ (date_text date ++ codes "T")
 
@@ -32,12 +32,12 @@ time_part moment = time_text moment ++ codes "Z\n"
 unfoldable pub moment_line : CivilDate → (moment : ℕ) → List ℕ
 moment_line date moment = date_part date ++ time_part moment
 
--- whether the shares of each type of right have to make a whole
+-- the shares of each type of right must sum to 1, if shares are checked
 abbrev pub checked_line : Bool → List ℕ
 checked_line true = codes "Shares checked\n"
 checked_line false = codes "Shares unchecked\n"
 
--- the square metres of all parcels together
+-- the total area of the parcels in square metres
 unfoldable pub area_line : List Parcel → List ℕ
 area_line parcels = codes "Area " ++ (square_metres (doubled_areas parcels) ++ codes "\n")
 
@@ -61,14 +61,14 @@ parcel_lines (parcel ∷ parcels) = parcel_line parcel ++ parcel_lines parcels
 unfoldable pub entry_count_line : List NamedRrr → List ℕ
 entry_count_line entries = codes "Entries " ++ (decimal (length entries) ++ codes "\n")
 
--- what stands of an entry before what it says: its number, its class, the number and the name of its party
+-- an entry up to its content: its number, its class, the number and the name of its party
 unfoldable pub entry_start : NamedRrr → List ℕ
 entry_start entry =
     number_right 10 entry.rrr.number ++ (codes "  " ++ (text_left 14 (class_word entry.rrr.class) ++ (codes "  "
     ++ (number_right 10 entry.rrr.party ++ (codes " " ++ (entry.name ++ codes ": "))))))
 
--- what an entry says: the share of a right, the words of a restriction or a responsibility, the rank, the currency and the
--- amount of a mortgage
+-- the content of an entry: the share of a right, the words of a restriction or a responsibility, the rank,
+-- the currency and the amount of a mortgage
 abbrev pub class_end : Class → List ℕ
 class_end (Right type share) = text_of share ++ codes "\n"
 class_end (Restriction words) = words ++ codes "\n"
@@ -107,7 +107,7 @@ unfoldable pub sheet_text : View → CivilDate → (moment : ℕ) → List ℕ
 sheet_text view date moment =
     head_lines view.unit date moment ++ (parcel_part view.parcels ++ (entry_part view.rrrs ++ end_line))
 
--- a text is the sheet of a view: that with its moment, and with the date on which this lies
+-- the text is the sheet of a view, with the view's moment and its date
 pub record IsSheet (view : View) (text : List ℕ) : Type 0 where
   pub date : CivilDate
   pub date_is : IsDateOf (day_number (moment_of view)) date

@@ -1,4 +1,4 @@
-//! The rows of extracts, as the writer of `csv` writes them with its default settings.
+//! Writes the rows of extracts with `csv` and its default settings.
 ghost use Rattle.std.specs.Io.KnownBytes.{Appends};
 ghost use Rattle.std.specs.Prelude.{◌≡◌, ◌++◌, ◌∷◌, [], IfOk, OnOk, Some, decimal, map, string_bytes};
 ghost use Rattle.std.specs.Fmt.{signed_decimal};
@@ -28,17 +28,18 @@ use land_shape::Ring;
 use std::alloc::{AllocError, Global};
 use std::io::Write;
 
-/// How many columns the rows of a kind have, at most.
+/// The maximum number of columns of a kind.
 const MOST_COLUMNS: usize = 11;
 
-/// The first row of an extract: the names of the columns of a kind, ended by a line feed. An error is a want of memory.
+/// Returns the first row of an extract, the names of a kind's columns, with its line feed. The only error is
+/// out of memory.
 pub fn csv_header(alloc: Global, kind: Kind) -> Result<Vec<u8>, AllocError>
     ensures { IfOk result (λ row. row.items ≡ header_text kind) }
 {
     row_bytes(alloc, columns_of(kind))
 }
 
-/// The names of the columns of a kind.
+/// Returns the names of a kind's columns.
 fn columns_of(kind: Kind) -> &'static [&'static [u8]]
     ensures { map (λ column. column.now) result.now ≡ columns_of kind }
 {
@@ -79,8 +80,8 @@ fn columns_of(kind: Kind) -> &'static [&'static [u8]]
     }
 }
 
-/// The row of an object, ended by a line feed. `name` is what the party of an entry is called; no other object shows it. An
-/// error is a want of memory.
+/// Returns the row of an object with its line feed. `name` is the name of an entry's party; rows of other
+/// objects do not contain it. The only error is out of memory.
 pub fn csv_row(alloc: Global, object: &Object, name: &str) -> Result<Vec<u8>, AllocError>
     ensures { IfOk result (λ row. row.items ≡ object_row object.now name.now) }
 {
@@ -89,7 +90,8 @@ pub fn csv_row(alloc: Global, object: &Object, name: &str) -> Result<Vec<u8>, Al
     written_by(writer)
 }
 
-/// The rows of some objects of one kind as they are listed, one after another, each ended by a line feed. An error is a want of memory.
+/// Returns the rows of objects of one kind in order, each with its line feed. The only error is out of
+/// memory.
 pub(crate) fn csv_rows(alloc: Global, rows: &[NamedObject]) -> Result<Vec<u8>, AllocError>
     ensures { IfOk result (λ text. text.items ≡ rows_of rows.now) }
 {
@@ -98,7 +100,7 @@ pub(crate) fn csv_rows(alloc: Global, rows: &[NamedObject]) -> Result<Vec<u8>, A
     written_by(writer)
 }
 
-/// A writer of rows that has written nothing.
+/// Returns a new writer of rows.
 fn row_writer(alloc: Global) -> Writer<Vec<u8>>
     ensures between { IsBetweenRows result }
     ensures nothing { text_written (λ v. Some v.items) result ≡ Some [] }
@@ -106,7 +108,7 @@ fn row_writer(alloc: Global) -> Writer<Vec<u8>>
     WriterBuilder::new().from_writer(Vec::new(alloc))
 }
 
-/// What a writer of rows has written.
+/// Returns the bytes that a writer of rows has written.
 fn written_by(writer: Writer<Vec<u8>>) -> Result<Vec<u8>, AllocError>
     ensures { IfOk result (λ text. text_written (λ v. Some v.items) writer ≡ Some text.items) }
 {
@@ -116,7 +118,7 @@ fn written_by(writer: Writer<Vec<u8>>) -> Result<Vec<u8>, AllocError>
     }
 }
 
-/// Writes the rows of some objects of one kind as they are listed, one after another.
+/// Writes the rows of objects of one kind in order.
 fn write_objects<W: Write + Drop>(
     writer: &mut Writer<W>,
     alloc: Global,
@@ -167,7 +169,7 @@ fn write_texts<W: Write + Drop>(
     }
 }
 
-/// A row of fields.
+/// Returns a row of fields.
 fn row_bytes(alloc: Global, fields: &[&[u8]]) -> Result<Vec<u8>, AllocError>
     ensures { IfOk result (λ row. row.items ≡ row_text default_writer (map (λ field. field.now) fields.now)) }
 {
@@ -178,7 +180,7 @@ fn row_bytes(alloc: Global, fields: &[&[u8]]) -> Result<Vec<u8>, AllocError>
     written_by(writer)
 }
 
-/// A text as a field.
+/// Writes a text as a field.
 fn push_text(fields: &mut Vec<String>, alloc: Global, text: &str) -> Result<(), AllocError>
     ensures { OnOk result (map string_bytes fields.new.items ≡ map string_bytes fields.old.items ++ text.now ∷ []) }
 {
@@ -186,7 +188,7 @@ fn push_text(fields: &mut Vec<String>, alloc: Global, text: &str) -> Result<(), 
     Ok(())
 }
 
-/// The decimal digits of a number as a field.
+/// Writes a decimal number as a field.
 fn push_number(fields: &mut Vec<String>, alloc: Global, number: u64) -> Result<(), AllocError>
     ensures { OnOk result (map string_bytes fields.new.items ≡ map string_bytes fields.old.items ++ decimal number ∷ []) }
 {
@@ -194,7 +196,7 @@ fn push_number(fields: &mut Vec<String>, alloc: Global, number: u64) -> Result<(
     Ok(())
 }
 
-/// The decimal digits of a moment as a field.
+/// Writes a moment as a field, in decimal.
 fn push_moment(fields: &mut Vec<String>, alloc: Global, moment: i64) -> Result<(), AllocError>
     ensures { OnOk result (map string_bytes fields.new.items ≡ map string_bytes fields.old.items ++ signed_decimal moment ∷ []) }
 {
@@ -202,7 +204,7 @@ fn push_moment(fields: &mut Vec<String>, alloc: Global, moment: i64) -> Result<(
     Ok(())
 }
 
-/// A share as a field.
+/// Writes a share as a field.
 fn push_share(fields: &mut Vec<String>, alloc: Global, share: Fraction) -> Result<(), AllocError>
     ensures { OnOk result (map string_bytes fields.new.items ≡ map string_bytes fields.old.items ++ text_of share ∷ []) }
 {
@@ -210,7 +212,7 @@ fn push_share(fields: &mut Vec<String>, alloc: Global, share: Fraction) -> Resul
     Ok(())
 }
 
-/// The square metres of an outline as a field.
+/// Writes the square metres of an outline as a field.
 fn push_area(fields: &mut Vec<String>, alloc: Global, outline: &Ring) -> Result<(), AllocError>
     ensures { OnOk result (map string_bytes fields.new.items ≡ map string_bytes fields.old.items ++ square_metres (doubled_area outline.now) ∷ []) }
 {
@@ -218,7 +220,7 @@ fn push_area(fields: &mut Vec<String>, alloc: Global, outline: &Ring) -> Result<
     Ok(())
 }
 
-/// An outline in well-known text as a field.
+/// Writes an outline as a field, as well-known text.
 fn push_outline(fields: &mut Vec<String>, outline: &Ring) -> Result<(), AllocError>
     ensures { OnOk result (map string_bytes fields.new.items ≡ map string_bytes fields.old.items ++ printed outline.now ∷ []) }
 {
@@ -226,7 +228,7 @@ fn push_outline(fields: &mut Vec<String>, outline: &Ring) -> Result<(), AllocErr
     Ok(())
 }
 
-/// The fields of an object.
+/// Writes the fields of an object.
 fn push_object(
     fields: &mut Vec<String>,
     alloc: Global,
@@ -272,7 +274,7 @@ fn push_parcel(fields: &mut Vec<String>, alloc: Global, parcel: &Parcel) -> Resu
     push_number(fields, alloc, parcel.source)
 }
 
-/// The number, the unit and the label of a parcel.
+/// Writes the number, the unit and the label of a parcel.
 #[tactic(auto, unfolding(crate::specs::Rows::parcel_start))]
 fn push_parcel_start(
     fields: &mut Vec<String>,
@@ -286,7 +288,7 @@ fn push_parcel_start(
     push_text(fields, alloc, parcel.label.as_str())
 }
 
-/// The square metres and the text of an outline.
+/// Writes the square metres and the text of an outline.
 #[tactic(auto, unfolding(crate::specs::Rows::outline_fields))]
 fn push_extent(fields: &mut Vec<String>, alloc: Global, outline: &Ring) -> Result<(), AllocError>
     ensures { OnOk result (map string_bytes fields.new.items ≡ map string_bytes fields.old.items ++ outline_fields outline.now) }
@@ -309,7 +311,7 @@ fn push_rrr(
     push_number(fields, alloc, entry.source)
 }
 
-/// The fields of an entry before those of its class.
+/// Writes the fields of an entry before those of its class.
 #[tactic(auto, unfolding(crate::specs::Rows::entry_start))]
 fn push_entry_start(
     fields: &mut Vec<String>,
@@ -326,7 +328,7 @@ fn push_entry_start(
     push_text(fields, alloc, class_word(&entry.class))
 }
 
-/// The share, the amount, the currency, the rank and the words, each empty where the class lacks it.
+/// Writes the share, the amount, the currency, the rank and the words, each empty if the class lacks it.
 fn push_class(fields: &mut Vec<String>, alloc: Global, class: &Class) -> Result<(), AllocError>
     ensures { OnOk result (map string_bytes fields.new.items ≡ map string_bytes fields.old.items ++ class_fields class.now) }
 {

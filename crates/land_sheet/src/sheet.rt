@@ -1,4 +1,4 @@
-//! Title sheets, line by line.
+//! Writes title sheets line by line.
 ghost use Rattle.std.specs.Prelude.{◌≡◌, ◌++◌, IfOk, OnOk, string_bytes};
 ghost use Rattle.land_keep.specs.Moments.{IsMoment};
 ghost use Rattle.land_sheet.specs.Dates.{parts_of};
@@ -14,8 +14,8 @@ use land_core::words::class_word;
 use land_keep::view::{NamedRrr, View};
 use std::alloc::{AllocError, Global};
 
-/// The title sheet of a unit as a caller sees it, each line ended by a line feed. The view's moment is 0 to
-/// 4_102_444_799_999. Areas are exact, whatever the number of parcels. An error is a want of memory.
+/// Returns the title sheet of a unit for a caller; each line ends with a line feed. The view's moment is from
+/// 0 to the last moment of 2099. Areas are exact for any number of parcels. The only error is out of memory.
 pub fn title_sheet(alloc: Global, view: &View) -> Result<String, AllocError>
     requires { IsMoment view.now.at }
     ensures { IfOk result (λ text. IsSheet view.now (string_bytes text)) }
@@ -25,10 +25,10 @@ pub fn title_sheet(alloc: Global, view: &View) -> Result<String, AllocError>
     sheet_on(alloc, view, date, moment)
 }
 
-/// So many bytes hold the sheet of a unit with a parcel and a few entries; a longer one grows.
+/// The initial capacity of a sheet in bytes: enough for a unit with a parcel and a few entries.
 const SHEET_ROOM: usize = 512;
 
-/// The sheet of a view with a date and a moment.
+/// Returns the sheet of a view with a date and a moment.
 #[tactic(auto, unfolding(crate::specs::Sheets::sheet_text))]
 fn sheet_on(alloc: Global, view: &View, date: Date, moment: u64) -> Result<String, AllocError>
     ensures { IfOk result (λ text. string_bytes text ≡ sheet_text view.now (parts_of date) moment) }
@@ -41,7 +41,7 @@ fn sheet_on(alloc: Global, view: &View, date: Date, moment: u64) -> Result<Strin
     Ok(text)
 }
 
-/// The lines before the area.
+/// Writes the lines before the area.
 #[tactic(auto, unfolding(crate::specs::Sheets::head_lines))]
 fn push_head(text: &mut String, unit: &Unit, date: Date, moment: u64) -> Result<(), AllocError>
     ensures { OnOk result (string_bytes text.new ≡ string_bytes text.old ++ head_lines unit.now (parts_of date) moment) }
@@ -114,7 +114,7 @@ fn push_checked(text: &mut String, checked: bool) -> Result<(), AllocError>
     }
 }
 
-/// The area and the parcels.
+/// Writes the area and the parcels.
 #[tactic(auto, unfolding(crate::specs::Sheets::parcel_part))]
 fn push_parcel_part(text: &mut String, alloc: Global, parcels: &[Parcel]) -> Result<(), AllocError>
     ensures { OnOk result (string_bytes text.new ≡ string_bytes text.old ++ parcel_part parcels.now) }
@@ -161,7 +161,7 @@ fn push_parcel(text: &mut String, alloc: Global, parcel: &Parcel) -> Result<(), 
     write!(text, "{number:>10}  {area:>20}  {label}\n")
 }
 
-/// The entries in sight.
+/// Writes the entries that the caller sees.
 #[tactic(auto, unfolding(crate::specs::Sheets::entry_part))]
 fn push_entry_part(text: &mut String, entries: &[NamedRrr]) -> Result<(), AllocError>
     ensures { OnOk result (string_bytes text.new ≡ string_bytes text.old ++ entry_part entries.now) }
@@ -195,7 +195,7 @@ fn push_entry(text: &mut String, entry: &NamedRrr) -> Result<(), AllocError>
     push_class_end(text, &entry.rrr.class)
 }
 
-/// Its number, its class and its party.
+/// Writes an entry's number, class and party.
 #[tactic(auto, unfolding(crate::specs::Sheets::entry_start))]
 fn push_entry_start(text: &mut String, entry: &NamedRrr) -> Result<(), AllocError>
     ensures { OnOk result (string_bytes text.new ≡ string_bytes text.old ++ entry_start entry.now) }
@@ -207,7 +207,7 @@ fn push_entry_start(text: &mut String, entry: &NamedRrr) -> Result<(), AllocErro
     write!(text, "{number:>10}  {class:<14}  {party:>10} {name}: ")
 }
 
-/// What it says.
+/// Writes an entry's content.
 fn push_class_end(text: &mut String, class: &Class) -> Result<(), AllocError>
     ensures { OnOk result (string_bytes text.new ≡ string_bytes text.old ++ class_end class.now) }
 {

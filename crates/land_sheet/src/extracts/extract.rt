@@ -1,4 +1,4 @@
-//! Extracts, written part by part.
+//! Writes extracts part by part.
 ghost use Rattle.std.specs.Prelude.{◌≡◌, false, unwrap_or};
 ghost use Rattle.land_keep.specs.Keeping.{Closes, IsLive};
 ghost use Rattle.land_keep.specs.Machine.{now_of};
@@ -19,9 +19,11 @@ use land_streams::put::put;
 use std::alloc::Global;
 use std::io::Write;
 
-/// Writes the extract of a kind: the names of its columns, then a row for each object that the caller sees at a moment, in ascending
-/// order, now where no moment is named. The rows of a part are made whole before they are written. The result is the number of bytes
-/// written. Nothing in the register changes. A keeper whose store fails is closed from then on.
+/// Writes the extract of a kind: the names of its columns, then a row for each object that the caller sees at
+/// a moment, by increasing number. Without `at` the moment is now.
+///
+/// Returns the number of bytes written. The register does not change. The rows of a part are built before
+/// they are written. If the store fails, the keeper stays closed.
 pub fn extract_to<K: Keeper, W: Write>(
     alloc: Global,
     keeper: &mut K,
@@ -49,8 +51,8 @@ pub fn extract_to<K: Keeper, W: Write>(
     }
 }
 
-/// Writes the rows of the objects of a kind that stand at a moment under these numbers, behind so many bytes, and says how many are
-/// written then. The objects are read part by part, so that no more memory is held than a part takes.
+/// Writes the rows of the objects with these numbers at a moment, after `before` bytes, and returns the total
+/// number of bytes written. Reads the objects part by part, so that memory is bounded by the size of a part.
 fn write_parts<K: Keeper, W: Write>(
     alloc: Global,
     keeper: &mut K,
@@ -80,7 +82,8 @@ fn write_parts<K: Keeper, W: Write>(
     Ok(written)
 }
 
-/// Writes the rows of some objects behind so many bytes, made whole first, and says how many are written then.
+/// Writes the rows of objects after `before` bytes, and returns the total number of bytes written. The rows
+/// are built before they are written.
 fn write_rows<W: Write>(
     alloc: Global,
     rows: &[NamedObject],

@@ -1,4 +1,4 @@
-//! The list of which an extract is made.
+//! The list of objects in an extract.
 ghost use Rattle.std.specs.Prelude.{◌≡◌, IfOk, unwrap_or};
 ghost use Rattle.land_keep.specs.Keeping.{Closes, IsLive};
 ghost use Rattle.land_keep.specs.Machine.{now_of};
@@ -19,23 +19,24 @@ use land_keep::store_fault::StoreFault;
 use land_rules::verdict::Verdict;
 use std::alloc::Global;
 
-/// What a list gives, and the moment at which it was asked for.
+/// A list with its requested time.
 #[derive(Debug, Drop)]
 pub(crate) struct Listed {
-    /// The numbers of the objects that are seen, ascending.
+    /// The numbers of the objects that the caller sees, increasing.
     pub(crate) numbers: NumberList,
-    /// The moment, in milliseconds since 1970 UTC.
+    /// The moment, in Unix milliseconds.
     pub(crate) at: i64,
 }
 
-/// Now, for a read, by the clock and the last stamp.
+/// Returns the time of a read that requests none: the clock's, but not before the last stamp.
 fn now_at(clock: i64, last: i64) -> i64
     ensures { result ≡ now_after clock last }
 {
     clock.max(0).min(LAST_MOMENT).max(last)
 }
 
-/// The list of a kind, as the register machine replies it, with the moment that is asked for.
+/// Returns the list of a kind with its requested time, as the model replies it. Errors: the first rule that
+/// denies the list; 135 if the moment is in the future; the store's errors.
 pub(crate) fn list<K: Keeper>(
     alloc: Global,
     keeper: &mut K,

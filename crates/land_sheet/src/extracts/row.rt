@@ -1,4 +1,4 @@
-//! The row of an object.
+//! Reads an object for its row.
 ghost use Rattle.std.specs.Prelude.{◌≡◌, IfOk};
 ghost use Rattle.land_keep.specs.Keeping.{Closes, IsLive};
 ghost use Rattle.land_keep.specs.Timeline.{register_at};
@@ -10,7 +10,7 @@ use land_keep::named::NamedObject;
 use land_keep::store_fault::StoreFault;
 use std::alloc::Global;
 
-/// The object that stands under a number at a moment, as it is listed, or `None` where none stands.
+/// Reads the object with a number at a moment, or returns `None` if it does not exist.
 pub(crate) fn row_of<K: Keeper>(
     alloc: Global,
     keeper: &mut K,

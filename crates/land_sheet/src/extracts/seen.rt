@@ -1,4 +1,4 @@
-//! What a caller sees of a kind at a moment, row by row.
+//! Reads the objects that a caller sees, row by row.
 ghost use Rattle.std.specs.Prelude.{◌≡◌, IfOk};
 ghost use Rattle.land_keep.specs.Keeping.{Closes, IsLive};
 ghost use Rattle.land_keep.specs.Timeline.{register_at};
@@ -15,8 +15,8 @@ use land_keep::named::NamedObject;
 use land_keep::store_fault::StoreFault;
 use std::alloc::Global;
 
-/// The rows of what a caller sees of a kind at a moment, given one at a time in ascending order. It borrows the keeper, and
-/// `into_keeper` gives it back. It may be let go at any row: it owns no memory, so that whoever lent the keeper knows it again.
+/// An iterator over the rows that a caller sees of a kind at a moment, by increasing number. It borrows the
+/// keeper; `into_keeper` returns it. It owns no memory and may be dropped at any row.
 #[derive(Drop)]
 pub struct Seen<'a, K: Keeper> {
     alloc: Global,
@@ -27,8 +27,8 @@ pub struct Seen<'a, K: Keeper> {
     at: i64,
 }
 
-/// What a caller sees of a kind at a moment: the numbers of objects that stand, ascending, of which `each_seen` gives the rows. Nothing
-/// in the register changes, whether there are numbers or a fault. A keeper whose store fails is closed from then on.
+/// Returns the numbers of the objects that a caller sees of a kind at a moment, increasing. `each_seen`
+/// returns their rows. The register does not change. If the store fails, the keeper stays closed.
 pub fn numbers_seen<K: Keeper>(
     alloc: Global,
     keeper: &mut K,
@@ -45,7 +45,8 @@ pub fn numbers_seen<K: Keeper>(
     keeper.sight(alloc, caller, kind, at)
 }
 
-/// The rows of the objects of a kind under these numbers at a moment, to be given one at a time. Nothing is asked of the keeper yet.
+/// Returns an iterator over the rows of the objects with these numbers at a moment. It does not call the
+/// keeper yet.
 pub fn each_seen<'a, K: Keeper>(
     alloc: Global,
     keeper: &'a mut K,
@@ -70,7 +71,7 @@ pub fn each_seen<'a, K: Keeper>(
 }
 
 impl<'a, K: Keeper> Seen<'a, K> {
-    /// The row of the next object, or `None` once all are given. After an error it is `None` from then on.
+    /// Returns the row of the next object, or `None` after the last one. After an error it returns `None`.
     pub fn next(&mut self) -> Result<Option<NamedObject>, StoreFault>
         ensures gives { K.honest self.new.keeper.now → AllStand (register_at (K.timeline self.old.keeper.now) self.old.at) self.old.kind (left_of self.old)
             → IfOk result (Gives (register_at (K.timeline self.old.keeper.now) self.old.at) self.old.kind (left_of self.old)) }
@@ -94,7 +95,7 @@ impl<'a, K: Keeper> Seen<'a, K> {
         made
     }
 
-    /// The keeper, given back.
+    /// Returns the borrowed keeper.
     pub fn into_keeper(self) -> &'a mut K
         ensures same { result.now ≡ self.entry.keeper.now }
         ensures same_reference { result.ghost_name ≡ self.entry.keeper.ghost_name }
