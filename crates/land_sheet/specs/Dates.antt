@@ -25,7 +25,8 @@ day_number moment = moment / 86400000
 
 -- `YYYY-MM-DD`
 abbrev pub date_text : CivilDate → List ℕ
-date_text date = zeros 4 (unsigned_abs date.year) ++ (codes "-" ++ (zeros 2 date.month ++ (codes "-" ++ zeros 2 date.day)))
+date_text date =
+    zeros 4 (unsigned_abs date.year) ++ (codes "-" ++ (zeros 2 date.month ++ (codes "-" ++ zeros 2 date.day)))
 
 -- `HH:MM:SS.mmm`: the time since the start of the day, in hours, minutes, seconds and milliseconds
 abbrev pub time_text : (moment : ℕ) → List ℕ

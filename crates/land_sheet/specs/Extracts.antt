@@ -1,6 +1,7 @@
 -- Extracts: the names of a kind's columns, then a row for each object that a caller sees at a moment.
 pub mod Left
 pub mod Seeing
+pub mod Timelines
 pub mod Writing
 use Rattle.std.specs.Prelude.{ℕ, ℤ, List, [], ◌++◌, Option}
 use Rattle.std.specs.List.{flat_map}

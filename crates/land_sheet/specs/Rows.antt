@@ -1,7 +1,9 @@
 -- Extracts: the columns of each kind, and the fields of an object. A field that an object lacks is empty.
-use Rattle.std.specs.Prelude.{◌≡◌, List, [], ◌∷◌, ◌++◌, ℕ, codes, decimal, false}
+use Rattle.std.specs.Prelude.{◌≡◌, List, [], ◌∷◌, ◌++◌, ℕ, codes, decimal, false, OnOk, Option, Result}
+use Rattle.std.specs.Io.KnownBytes.{Appends}
 use Rattle.std.specs.Fmt.{signed_decimal}
-use Rattle.csv.specs.Writing.{default_writer, fields_written, has_written, row_text, writer_setup}
+use Rattle.csv.specs.Writing.{default_writer, fields_written, has_written, row_text, text_written}
+use Rattle.csv.specs.Writing.{writer_setup}
 use Rattle.csv.specs.declared.writer.Writer.{Writer}
 use Rattle.land_core.specs.Words.{act_word, class_word, party_word, source_word, state_word}
 use Rattle.land_core.specs.declared.kind.Kind.{Kind}
@@ -28,13 +30,16 @@ abbrev pub columns_of : Kind → List (List ℕ)
 columns_of kind.Party = codes "number" ∷ codes "name" ∷ codes "kind" ∷ []
 columns_of kind.Unit = codes "number" ∷ codes "name" ∷ codes "checked" ∷ []
 columns_of kind.Parcel =
-    codes "number" ∷ codes "unit" ∷ codes "label" ∷ codes "square_metres" ∷ codes "outline" ∷ codes "source" ∷ []
+    codes "number" ∷ codes "unit" ∷ codes "label" ∷ codes "square_metres" ∷ codes "outline"
+    ∷ codes "source" ∷ []
 columns_of kind.Rrr =
-    codes "number" ∷ codes "unit" ∷ codes "party" ∷ codes "name" ∷ codes "class" ∷ codes "share" ∷ codes "amount"
+    codes "number" ∷ codes "unit" ∷ codes "party" ∷ codes "name" ∷ codes "class" ∷ codes "share"
+    ∷ codes "amount"
     ∷ codes "currency" ∷ codes "rank" ∷ codes "words" ∷ codes "source" ∷ []
 columns_of kind.Source = codes "number" ∷ codes "kind" ∷ codes "title" ∷ []
 columns_of kind.Mutation =
-    codes "number" ∷ codes "lodger" ∷ codes "reference" ∷ codes "source" ∷ codes "lodged" ∷ codes "act" ∷ codes "state" ∷ []
+    codes "number" ∷ codes "lodger" ∷ codes "reference" ∷ codes "source" ∷ codes "lodged" ∷ codes "act"
+    ∷ codes "state" ∷ []
 
 unfoldable pub party_fields : Party → List (List ℕ)
 party_fields party = decimal party.number ∷ party.name ∷ party_word party.kind ∷ []
@@ -94,4 +99,11 @@ object_row it name = row_text default_writer (fields_of it name)
 
 -- a writer with the default settings that is not inside a row
 abbrev pub IsBetweenRows : {W : Type 0} → Writer W → Type 0
-IsBetweenRows writer = (writer_setup writer ≡ default_writer) × (fields_written writer ≡ 0) × (has_written writer ≡ false)
+IsBetweenRows writer =
+    (writer_setup writer ≡ default_writer) × (fields_written writer ≡ 0) × (has_written writer ≡ false)
+
+-- a call that succeeds writes these rows; if it runs out of memory, a part of them may be missing
+abbrev pub WritesRows : {W E : Type 0} → (W → Option (List ℕ)) → Result (Unit {0}) E → (old new : Writer W)
+    → List ℕ → Type 0
+WritesRows contents result old new rows =
+    OnOk result (Appends (text_written contents old) (text_written contents new) rows)

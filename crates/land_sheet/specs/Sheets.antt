@@ -1,5 +1,6 @@
 -- Title sheets: the lines in order, each with its line feed.
-use Rattle.std.specs.Prelude.{◌≡◌, ◌++◌, Bool, true, false, List, [], ◌∷◌, ℕ, codes, decimal, length, unsigned_abs}
+use Rattle.std.specs.Prelude.{◌≡◌, ◌++◌, Bool, true, false, List, [], ◌∷◌, ℕ, codes, decimal, length}
+use Rattle.std.specs.Prelude.{unsigned_abs}
 use Rattle.land_core.specs.Words.{class_word}
 use Rattle.land_core.specs.declared.parcel.Parcel.{Parcel}
 use Rattle.land_core.specs.declared.rrr.Class.{Class}
@@ -49,7 +50,8 @@ parcel_count_line parcels = codes "Parcels " ++ (decimal (length parcels) ++ cod
 -- a parcel: its number, its square metres, its label
 unfoldable pub parcel_line : Parcel → List ℕ
 parcel_line parcel =
-    number_right 10 parcel.number ++ (codes "  " ++ (text_right 20 (square_metres (doubled_area parcel.outline))
+    number_right 10 parcel.number ++ (codes "  "
+    ++ (text_right 20 (square_metres (doubled_area parcel.outline))
     ++ (codes "  " ++ (parcel.label ++ codes "\n"))))
 
 abbrev pub parcel_lines : List Parcel → List ℕ
@@ -64,7 +66,8 @@ entry_count_line entries = codes "Entries " ++ (decimal (length entries) ++ code
 -- an entry up to its content: its number, its class, the number and the name of its party
 unfoldable pub entry_start : NamedRrr → List ℕ
 entry_start entry =
-    number_right 10 entry.rrr.number ++ (codes "  " ++ (text_left 14 (class_word entry.rrr.class) ++ (codes "  "
+    number_right 10 entry.rrr.number ++ (codes "  " ++ (text_left 14 (class_word entry.rrr.class)
+    ++ (codes "  "
     ++ (number_right 10 entry.rrr.party ++ (codes " " ++ (entry.name ++ codes ": "))))))
 
 -- the content of an entry: the share of a right, the words of a restriction or a responsibility, the rank,
@@ -74,7 +77,8 @@ class_end (Right type share) = text_of share ++ codes "\n"
 class_end (Restriction words) = words ++ codes "\n"
 class_end (Responsibility words) = words ++ codes "\n"
 class_end (Mortgage amount currency rank) =
-    codes "rank " ++ (decimal rank ++ (codes " " ++ (currency ++ (codes " " ++ (decimal amount ++ codes "\n")))))
+    codes "rank " ++ (decimal rank ++ (codes " " ++ (currency ++ (codes " "
+    ++ (decimal amount ++ codes "\n")))))
 
 unfoldable pub entry_line : NamedRrr → List ℕ
 entry_line entry = entry_start entry ++ class_end entry.rrr.class

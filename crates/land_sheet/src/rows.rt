@@ -1,14 +1,19 @@
 //! Writes the rows of extracts with `csv` and its default settings.
-ghost use Rattle.std.specs.Io.KnownBytes.{Appends};
-ghost use Rattle.std.specs.Prelude.{◌≡◌, ◌++◌, ◌∷◌, [], IfOk, OnOk, Some, decimal, map, string_bytes};
+ghost use Rattle.std.specs.Prelude.{◌≡◌, ◌∷◌, [], IfOk, OnOk, Some, decimal, map, string_bytes};
 ghost use Rattle.std.specs.Fmt.{signed_decimal};
 ghost use Rattle.csv.specs.Writing.{default_writer, row_text, text_written};
 ghost use Rattle.land_fraction.specs.Text.{text_of};
 ghost use Rattle.land_shape.specs.Outline.{doubled_area};
 ghost use Rattle.land_shape.specs.Printed.{printed};
+ghost use Rattle.land_sheet.specs.Appending.{AppendsFields};
 ghost use Rattle.land_sheet.specs.Areas.{square_metres};
 ghost use Rattle.land_sheet.specs.Extracts.Writing.{rows_of};
-ghost use Rattle.land_sheet.specs.Rows.{IsBetweenRows, class_fields, columns_of, entry_start, fields_of, header_text, mutation_fields, object_row, outline_fields, parcel_fields, parcel_start, party_fields, rrr_fields, source_fields, unit_fields};
+ghost use Rattle.land_sheet.specs.Rows.{IsBetweenRows, WritesRows, columns_of, fields_of, header_text};
+ghost use Rattle.land_sheet.specs.Rows.{object_row};
+ghost use Rattle.land_sheet.specs.Rows.{class_fields, entry_start, outline_fields, parcel_fields};
+ghost use Rattle.land_sheet.specs.Rows.{parcel_start};
+ghost use Rattle.land_sheet.specs.Rows.{mutation_fields, party_fields, rrr_fields, source_fields};
+ghost use Rattle.land_sheet.specs.Rows.{unit_fields};
 
 use crate::areas::square_metres;
 use crate::words::checked_word;
@@ -125,7 +130,7 @@ fn write_objects<W: Write + Drop>(
     rows: &[NamedObject],
 ) -> Result<(), AllocError>
     requires between { IsBetweenRows writer.old }
-    ensures text { OnOk result (Appends (text_written W.contents writer.old) (text_written W.contents writer.new) (rows_of rows.now)) }
+    ensures text { WritesRows W.contents result writer.old writer.new (rows_of rows.now) }
 {
     'rows: for row in rows {
         write_object(writer, alloc, &row.object, row.name.as_str())?;
@@ -141,7 +146,7 @@ fn write_object<W: Write + Drop>(
     name: &str,
 ) -> Result<(), AllocError>
     requires between { IsBetweenRows writer.old }
-    ensures text { OnOk result (Appends (text_written W.contents writer.old) (text_written W.contents writer.new) (object_row object.now name.now)) }
+    ensures text { WritesRows W.contents result writer.old writer.new (object_row object.now name.now) }
     ensures between { OnOk result (IsBetweenRows writer.new) }
 {
     let mut fields = Vec::with_capacity(alloc, MOST_COLUMNS)?;
@@ -156,7 +161,8 @@ fn write_texts<W: Write + Drop>(
     fields: &[String],
 ) -> Result<(), AllocError>
     requires between { IsBetweenRows writer.old }
-    ensures text { OnOk result (Appends (text_written W.contents writer.old) (text_written W.contents writer.new) (row_text default_writer (map string_bytes fields.now))) }
+    ensures text { WritesRows W.contents result writer.old writer.new
+        (row_text default_writer (map string_bytes fields.now)) }
     ensures between { OnOk result (IsBetweenRows writer.new) }
 {
     let mut lent: Vec<&[u8]> = Vec::with_capacity(alloc, MOST_COLUMNS)?;
@@ -182,7 +188,7 @@ fn row_bytes(alloc: Global, fields: &[&[u8]]) -> Result<Vec<u8>, AllocError>
 
 /// Writes a text as a field.
 fn push_text(fields: &mut Vec<String>, alloc: Global, text: &str) -> Result<(), AllocError>
-    ensures { OnOk result (map string_bytes fields.new.items ≡ map string_bytes fields.old.items ++ text.now ∷ []) }
+    ensures { AppendsFields result fields.old fields.new (text.now ∷ []) }
 {
     fields.push(String::from_str(alloc, text)?)?;
     Ok(())
@@ -190,7 +196,7 @@ fn push_text(fields: &mut Vec<String>, alloc: Global, text: &str) -> Result<(), 
 
 /// Writes a decimal number as a field.
 fn push_number(fields: &mut Vec<String>, alloc: Global, number: u64) -> Result<(), AllocError>
-    ensures { OnOk result (map string_bytes fields.new.items ≡ map string_bytes fields.old.items ++ decimal number ∷ []) }
+    ensures { AppendsFields result fields.old fields.new (decimal number ∷ []) }
 {
     fields.push(format!(in alloc; "{number}")?)?;
     Ok(())
@@ -198,7 +204,7 @@ fn push_number(fields: &mut Vec<String>, alloc: Global, number: u64) -> Result<(
 
 /// Writes a moment as a field, in decimal.
 fn push_moment(fields: &mut Vec<String>, alloc: Global, moment: i64) -> Result<(), AllocError>
-    ensures { OnOk result (map string_bytes fields.new.items ≡ map string_bytes fields.old.items ++ signed_decimal moment ∷ []) }
+    ensures { AppendsFields result fields.old fields.new (signed_decimal moment ∷ []) }
 {
     fields.push(format!(in alloc; "{moment}")?)?;
     Ok(())
@@ -206,7 +212,7 @@ fn push_moment(fields: &mut Vec<String>, alloc: Global, moment: i64) -> Result<(
 
 /// Writes a share as a field.
 fn push_share(fields: &mut Vec<String>, alloc: Global, share: Fraction) -> Result<(), AllocError>
-    ensures { OnOk result (map string_bytes fields.new.items ≡ map string_bytes fields.old.items ++ text_of share ∷ []) }
+    ensures { AppendsFields result fields.old fields.new (text_of share ∷ []) }
 {
     fields.push(format!(in alloc; "{share}")?)?;
     Ok(())
@@ -214,7 +220,7 @@ fn push_share(fields: &mut Vec<String>, alloc: Global, share: Fraction) -> Resul
 
 /// Writes the square metres of an outline as a field.
 fn push_area(fields: &mut Vec<String>, alloc: Global, outline: &Ring) -> Result<(), AllocError>
-    ensures { OnOk result (map string_bytes fields.new.items ≡ map string_bytes fields.old.items ++ square_metres (doubled_area outline.now) ∷ []) }
+    ensures { AppendsFields result fields.old fields.new (square_metres (doubled_area outline.now) ∷ []) }
 {
     fields.push(square_metres(alloc, u128::from(outline.doubled_area()))?)?;
     Ok(())
@@ -222,7 +228,7 @@ fn push_area(fields: &mut Vec<String>, alloc: Global, outline: &Ring) -> Result<
 
 /// Writes an outline as a field, as well-known text.
 fn push_outline(fields: &mut Vec<String>, outline: &Ring) -> Result<(), AllocError>
-    ensures { OnOk result (map string_bytes fields.new.items ≡ map string_bytes fields.old.items ++ printed outline.now ∷ []) }
+    ensures { AppendsFields result fields.old fields.new (printed outline.now ∷ []) }
 {
     fields.push(outline.write_wkt()?)?;
     Ok(())
@@ -235,7 +241,7 @@ fn push_object(
     object: &Object,
     name: &str,
 ) -> Result<(), AllocError>
-    ensures { OnOk result (map string_bytes fields.new.items ≡ map string_bytes fields.old.items ++ fields_of object.now name.now) }
+    ensures { AppendsFields result fields.old fields.new (fields_of object.now name.now) }
 {
     match object {
         Object::Party(party) => push_party(fields, alloc, party),
@@ -249,7 +255,7 @@ fn push_object(
 
 #[tactic(auto, unfolding(crate::specs::Rows::party_fields))]
 fn push_party(fields: &mut Vec<String>, alloc: Global, party: &Party) -> Result<(), AllocError>
-    ensures { OnOk result (map string_bytes fields.new.items ≡ map string_bytes fields.old.items ++ party_fields party.now) }
+    ensures { AppendsFields result fields.old fields.new (party_fields party.now) }
 {
     push_number(fields, alloc, party.number)?;
     push_text(fields, alloc, party.name.as_str())?;
@@ -258,7 +264,7 @@ fn push_party(fields: &mut Vec<String>, alloc: Global, party: &Party) -> Result<
 
 #[tactic(auto, unfolding(crate::specs::Rows::unit_fields))]
 fn push_unit(fields: &mut Vec<String>, alloc: Global, unit: &Unit) -> Result<(), AllocError>
-    ensures { OnOk result (map string_bytes fields.new.items ≡ map string_bytes fields.old.items ++ unit_fields unit.now) }
+    ensures { AppendsFields result fields.old fields.new (unit_fields unit.now) }
 {
     push_number(fields, alloc, unit.number)?;
     push_text(fields, alloc, unit.name.as_str())?;
@@ -267,7 +273,7 @@ fn push_unit(fields: &mut Vec<String>, alloc: Global, unit: &Unit) -> Result<(),
 
 #[tactic(auto, unfolding(crate::specs::Rows::parcel_fields))]
 fn push_parcel(fields: &mut Vec<String>, alloc: Global, parcel: &Parcel) -> Result<(), AllocError>
-    ensures { OnOk result (map string_bytes fields.new.items ≡ map string_bytes fields.old.items ++ parcel_fields parcel.now) }
+    ensures { AppendsFields result fields.old fields.new (parcel_fields parcel.now) }
 {
     push_parcel_start(fields, alloc, parcel)?;
     push_extent(fields, alloc, &parcel.outline)?;
@@ -281,7 +287,7 @@ fn push_parcel_start(
     alloc: Global,
     parcel: &Parcel,
 ) -> Result<(), AllocError>
-    ensures { OnOk result (map string_bytes fields.new.items ≡ map string_bytes fields.old.items ++ parcel_start parcel.now) }
+    ensures { AppendsFields result fields.old fields.new (parcel_start parcel.now) }
 {
     push_number(fields, alloc, parcel.number)?;
     push_number(fields, alloc, parcel.unit)?;
@@ -291,7 +297,7 @@ fn push_parcel_start(
 /// Writes the square metres and the text of an outline.
 #[tactic(auto, unfolding(crate::specs::Rows::outline_fields))]
 fn push_extent(fields: &mut Vec<String>, alloc: Global, outline: &Ring) -> Result<(), AllocError>
-    ensures { OnOk result (map string_bytes fields.new.items ≡ map string_bytes fields.old.items ++ outline_fields outline.now) }
+    ensures { AppendsFields result fields.old fields.new (outline_fields outline.now) }
 {
     push_area(fields, alloc, outline)?;
     push_outline(fields, outline)
@@ -304,7 +310,7 @@ fn push_rrr(
     entry: &Rrr,
     name: &str,
 ) -> Result<(), AllocError>
-    ensures { OnOk result (map string_bytes fields.new.items ≡ map string_bytes fields.old.items ++ rrr_fields entry.now name.now) }
+    ensures { AppendsFields result fields.old fields.new (rrr_fields entry.now name.now) }
 {
     push_entry_start(fields, alloc, entry, name)?;
     push_class(fields, alloc, &entry.class)?;
@@ -319,7 +325,7 @@ fn push_entry_start(
     entry: &Rrr,
     name: &str,
 ) -> Result<(), AllocError>
-    ensures { OnOk result (map string_bytes fields.new.items ≡ map string_bytes fields.old.items ++ entry_start entry.now name.now) }
+    ensures { AppendsFields result fields.old fields.new (entry_start entry.now name.now) }
 {
     push_number(fields, alloc, entry.number)?;
     push_number(fields, alloc, entry.unit)?;
@@ -330,7 +336,7 @@ fn push_entry_start(
 
 /// Writes the share, the amount, the currency, the rank and the words, each empty if the class lacks it.
 fn push_class(fields: &mut Vec<String>, alloc: Global, class: &Class) -> Result<(), AllocError>
-    ensures { OnOk result (map string_bytes fields.new.items ≡ map string_bytes fields.old.items ++ class_fields class.now) }
+    ensures { AppendsFields result fields.old fields.new (class_fields class.now) }
 {
     match class {
         Class::Right { share, .. } => push_right(fields, alloc, *share),
@@ -346,7 +352,7 @@ fn push_class(fields: &mut Vec<String>, alloc: Global, class: &Class) -> Result<
 }
 
 fn push_right(fields: &mut Vec<String>, alloc: Global, share: Fraction) -> Result<(), AllocError>
-    ensures { OnOk result (map string_bytes fields.new.items ≡ map string_bytes fields.old.items ++ (text_of share ∷ [] ∷ [] ∷ [] ∷ [] ∷ [])) }
+    ensures { AppendsFields result fields.old fields.new (text_of share ∷ [] ∷ [] ∷ [] ∷ [] ∷ []) }
 {
     push_share(fields, alloc, share)?;
     push_text(fields, alloc, "")?;
@@ -356,7 +362,7 @@ fn push_right(fields: &mut Vec<String>, alloc: Global, share: Fraction) -> Resul
 }
 
 fn push_burden(fields: &mut Vec<String>, alloc: Global, words: &str) -> Result<(), AllocError>
-    ensures { OnOk result (map string_bytes fields.new.items ≡ map string_bytes fields.old.items ++ ([] ∷ [] ∷ [] ∷ [] ∷ words.now ∷ [])) }
+    ensures { AppendsFields result fields.old fields.new ([] ∷ [] ∷ [] ∷ [] ∷ words.now ∷ []) }
 {
     push_text(fields, alloc, "")?;
     push_text(fields, alloc, "")?;
@@ -372,7 +378,8 @@ fn push_mortgage(
     currency: &str,
     rank: u64,
 ) -> Result<(), AllocError>
-    ensures { OnOk result (map string_bytes fields.new.items ≡ map string_bytes fields.old.items ++ ([] ∷ decimal amount ∷ currency.now ∷ decimal rank ∷ [] ∷ [])) }
+    ensures { AppendsFields result fields.old fields.new
+        ([] ∷ decimal amount ∷ currency.now ∷ decimal rank ∷ [] ∷ []) }
 {
     push_text(fields, alloc, "")?;
     push_number(fields, alloc, amount)?;
@@ -383,7 +390,7 @@ fn push_mortgage(
 
 #[tactic(auto, unfolding(crate::specs::Rows::source_fields))]
 fn push_source(fields: &mut Vec<String>, alloc: Global, source: &Source) -> Result<(), AllocError>
-    ensures { OnOk result (map string_bytes fields.new.items ≡ map string_bytes fields.old.items ++ source_fields source.now) }
+    ensures { AppendsFields result fields.old fields.new (source_fields source.now) }
 {
     push_number(fields, alloc, source.number)?;
     push_text(fields, alloc, source_word(source.kind))?;
@@ -396,7 +403,7 @@ fn push_mutation(
     alloc: Global,
     mutation: &Mutation,
 ) -> Result<(), AllocError>
-    ensures { OnOk result (map string_bytes fields.new.items ≡ map string_bytes fields.old.items ++ mutation_fields mutation.now) }
+    ensures { AppendsFields result fields.old fields.new (mutation_fields mutation.now) }
 {
     push_number(fields, alloc, mutation.number)?;
     push_number(fields, alloc, mutation.lodger)?;

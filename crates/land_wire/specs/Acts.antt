@@ -6,7 +6,8 @@ use Rattle.land_wire.specs.declared.routes.act_word.ActWord.{ActWord}
 use Rattle.land_wire.specs.declared.routes.act_word.ActWord.TheVariants as word
 use Rattle.land_wire_json.specs.Bodies.Fields.{value_in}
 use Rattle.land_wire_json.specs.Bodies.Mutations.{decision_of, lodging_of}
-use Rattle.land_wire_json.specs.Bodies.Parties.{enrol_of, group_of, regroup_of, grant_of, mandate_of, withdrawal_of}
+use Rattle.land_wire_json.specs.Bodies.Parties.{enrol_of, group_of, regroup_of, grant_of, mandate_of}
+use Rattle.land_wire_json.specs.Bodies.Parties.{withdrawal_of}
 use Rattle.land_wire_json.specs.Bodies.Units.{unit_of, burden_of, lift_of}
 use Rattle.land_wire_json.specs.Bodies.WireFaults.{◌>>=◌}
 use Rattle.land_wire_json.specs.declared.bodies.content_kind.ContentKind.{ContentKind}

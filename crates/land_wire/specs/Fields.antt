@@ -6,6 +6,8 @@ use Rattle.http_header.specs.FieldName.{IsFieldName}
 use Rattle.http_header.specs.FieldValue.{FieldValue, IsFieldValue, plain_value}
 use Rattle.http_header.specs.HeaderMap.{Entries, append, get_all}
 use Rattle.http_header.specs.Token.{lowercase}
+use Rattle.httparse.specs.Spans.{header_bytes}
+use Rattle.httparse.specs.declared.spans.HeaderSpan.{HeaderSpan}
 use Rattle.land_core.specs.declared.caller.Caller.{Caller}
 use Rattle.land_core.specs.declared.role.Role.{Role}
 use Rattle.land_wire.specs.Numbers.{number_in}
@@ -25,6 +27,10 @@ with_field fields field = append fields (lowercase field.0) (plain_value field.1
 -- the header map of the fields of a head, each a name and a value
 abbrev pub field_map : List (List ℕ × List ℕ) → Entries FieldValue
 field_map fields = fold with_field [] fields
+
+-- the header map of the fields at these spans of a head
+abbrev pub fields_at : (head : List ℕ) → List HeaderSpan → Entries FieldValue
+fields_at head fields = field_map (map (header_bytes head) fields)
 
 -- the values of the fields with a name, compared without case (RFC 9110, section 5.1)
 abbrev pub values_named : List ℕ → List (List ℕ × List ℕ) → List (List ℕ)

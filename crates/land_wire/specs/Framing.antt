@@ -2,5 +2,6 @@
 pub mod Frame
 pub mod FrameFaults
 pub mod Items
+pub mod Reads
 pub mod Stream
 pub mod Target

@@ -1,5 +1,6 @@
 -- Laws of requests and replies, each stated with definitions only.
-use Rattle.std.specs.Prelude.{◌≡◌, ℕ, ℤ, pos, Bool, true, false, List, map, codes, bytes_eq, Option, Some, None, IfOk, Result}
+use Rattle.std.specs.Prelude.{◌≡◌, ℕ, ℤ, pos, Bool, true, false, List, map, codes, bytes_eq, Option, Some}
+use Rattle.std.specs.Prelude.{None, IfOk, Result}
 use Rattle.http_header.specs.FieldValue.{FieldValue, plain_value}
 use Rattle.http_header.specs.HeaderMap.{Entries, get_all}
 use Rattle.http_header.specs.Token.{lowercase}
@@ -48,8 +49,10 @@ GetsDoNothing =
 -- each other method that is accepted is POST, and requests an act
 abbrev pub OtherMethodsAskForActs : Type 0
 OtherMethodsAskForActs =
-    (method target : List ℕ) (fields : Entries FieldValue) (body : List ℕ) → bytes_eq method (codes "GET") ≡ false
-    → IfOk (reading method target fields body) (λ request. (is_done request.ask ≡ true) × (bytes_eq method (codes "POST") ≡ true))
+    (method target : List ℕ) (fields : Entries FieldValue) (body : List ℕ)
+    → bytes_eq method (codes "GET") ≡ false
+    → IfOk (reading method target fields body)
+    (λ request. (is_done request.ask ≡ true) × (bytes_eq method (codes "POST") ≡ true))
 
 -- the moment of a query, if there is one, is from 0 to the last moment
 abbrev pub IsStated : Option ℤ → Type 0
@@ -86,7 +89,8 @@ NumbersTexts = (numbers : List ℕ) → reply_text (reply.Numbers numbers) ≡ S
 abbrev pub DoneTexts : Type 0
 DoneTexts =
     (made : List ℕ) (n stamp : ℕ)
-    → reply_text (reply.Done (record { number = n; made = made; stamp = pos stamp })) ≡ Some (done_text made n stamp)
+    → reply_text (reply.Done (record { number = n; made = made; stamp = pos stamp }))
+    ≡ Some (done_text made n stamp)
 
 -- the text of an object's reply contains the object's text
 abbrev pub ShownTexts : Type 0

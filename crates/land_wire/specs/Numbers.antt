@@ -17,4 +17,5 @@ number_in text = decimal_in text >>= λ value. if is_number value then Ok value 
 
 -- a moment, from 0 to the last one; fault 132 for a later one
 abbrev pub moment_in : List ℕ → Result ℤ WireFault
-moment_in text = decimal_in text >>= λ value. if int_lt last_moment (pos value) then Err fault.Number else Ok (pos value)
+moment_in text =
+    decimal_in text >>= λ value. if int_lt last_moment (pos value) then Err fault.Number else Ok (pos value)

@@ -43,7 +43,8 @@ ask_of (act word) query body = do
   Ok (ask.Do wanted)
 
 -- the request, or its first fault in this order: the route, the method, the caller's fields, the ask
-unfoldable pub parts_reading : (method path query : List ℕ) → Result Caller WireFault → (body : List ℕ) → Result Request WireFault
+unfoldable pub parts_reading : (method path query : List ℕ) → Result Caller WireFault → (body : List ℕ)
+    → Result Request WireFault
 parts_reading method path query asking body = do
   resource ← resource_at path
   permit ← allowed resource method
@@ -52,9 +53,11 @@ parts_reading method path query asking body = do
   Ok (record { caller = caller; ask = asked })
 
 -- likewise for a target, which is a path and a query
-abbrev pub reading_by : (method target : List ℕ) → Result Caller WireFault → (body : List ℕ) → Result Request WireFault
+abbrev pub reading_by : (method target : List ℕ) → Result Caller WireFault → (body : List ℕ)
+    → Result Request WireFault
 reading_by method target asking body = parts_reading method (path_of target) (query_of target) asking body
 
 -- likewise for the fields of a head, which contain the caller
-abbrev pub reading : (method target : List ℕ) → Entries FieldValue → (body : List ℕ) → Result Request WireFault
+abbrev pub reading : (method target : List ℕ) → Entries FieldValue → (body : List ℕ)
+    → Result Request WireFault
 reading method target fields body = reading_by method target (caller_in fields) body

@@ -4,7 +4,8 @@ pub mod ActWords
 pub mod Laws
 pub mod Table
 pub mod Targets
-use Rattle.std.specs.Prelude.{◌≡◌, ℕ, ◌==◌, ◌&&◌, Bool, true, false, not, List, [], ◌∷◌, ◌++◌, codes, bytes_eq, Option, Some, None, option_map, if◌then◌else◌}
+use Rattle.std.specs.Prelude.{◌≡◌, ℕ, ◌==◌, ◌&&◌, Bool, true, false, not, List, [], ◌∷◌, ◌++◌, codes}
+use Rattle.std.specs.Prelude.{bytes_eq, Option, Some, None, option_map, if◌then◌else◌}
 use Rattle.land_core.specs.declared.kind.Kind.{Kind}
 use Rattle.land_core.specs.declared.kind.Kind.TheVariants as kind
 use Rattle.land_wire.specs.Routes.ActWords.{act_of, act_word}
@@ -71,7 +72,8 @@ where_after (Some rest) found other = found rest
 -- a title sheet, after `/units/`: a segment, and `/sheet`
 abbrev pub sheet_of : List ℕ → Option Resource
 sheet_of rest =
-    if not (is_empty (before_slash rest)) && bytes_eq (from_slash rest) (codes "/sheet") then Some (sheet (before_slash rest))
+    if not (is_empty (before_slash rest)) && bytes_eq (from_slash rest) (codes "/sheet")
+    then Some (sheet (before_slash rest))
     else None
 
 -- only units have sheets

@@ -1,5 +1,8 @@
 //! Laws, each stated with definitions only.
-ghost use Rattle.land_wire.specs.Laws.{ReadingsAreWellFormed, BodiesOfReadsDoNotCount, GetsDoNothing, OtherMethodsAskForActs, StatedMomentsAreMoments, AskedMomentsAreMoments, NamesAreInAnyCase, ShortTexts, NumbersTexts, DoneTexts, ShownTexts, RepliesAreTold};
+ghost use Rattle.land_wire.specs.Laws.{BodiesOfReadsDoNotCount, GetsDoNothing, OtherMethodsAskForActs};
+ghost use Rattle.land_wire.specs.Laws.{ReadingsAreWellFormed};
+ghost use Rattle.land_wire.specs.Laws.{AskedMomentsAreMoments, NamesAreInAnyCase, StatedMomentsAreMoments};
+ghost use Rattle.land_wire.specs.Laws.{DoneTexts, NumbersTexts, RepliesAreTold, ShortTexts, ShownTexts};
 
 /// Each request that was read is within the limits of its fields.
 pub fn readings_are_well_formed()

@@ -1,6 +1,7 @@
 //! Writes the texts of replies as compact JSON.
 ghost use Rattle.std.specs.Prelude.{◌≡◌, ◌++◌, IfOk, OnOk, Some, codes, decimal, false, map, string_bytes};
-ghost use Rattle.land_wire.specs.Replies.{IsStoreFault, done_data, is_sheet, numbers_text, reply_text, short_text};
+ghost use Rattle.land_wire.specs.Replies.{IsStoreFault, done_data, is_sheet, numbers_text, reply_text};
+ghost use Rattle.land_wire.specs.Replies.{short_text};
 ghost use Rattle.land_wire_json.specs.Texts.Objects.{object_data};
 ghost use Rattle.land_wire_json.specs.Texts.Values.{after_comma, one_member};
 ghost use Rattle.land_keep.specs.declared.reply.Reply.TheVariants as reply;
@@ -58,7 +59,8 @@ fn numbers_text(alloc: Global, numbers: &[u64]) -> Result<String, AllocError>
 
 /// Appends numbers, each after a comma.
 fn push_later(text: &mut String, numbers: &[u64]) -> Result<(), AllocError>
-    ensures { OnOk result (string_bytes text.new ≡ string_bytes text.old ++ after_comma (map decimal numbers.now)) }
+    ensures { OnOk result (string_bytes text.new
+        ≡ string_bytes text.old ++ after_comma (map decimal numbers.now)) }
 {
     for number in numbers {
         text.push_str(",")?;
@@ -88,7 +90,8 @@ pub fn store_text(number: u16) -> &'static str
 
 /// Writes the text of an object's reply.
 fn object_text(alloc: Global, object: &Object) -> Result<String, AllocError>
-    ensures { IfOk result (λ text. string_bytes text ≡ compact_text (one_member (codes "object") (object_data object.now))) }
+    ensures { IfOk result (λ text. string_bytes text
+        ≡ compact_text (one_member (codes "object") (object_data object.now))) }
 {
     let mut out = new_text(alloc)?;
     out.begin_object()?;

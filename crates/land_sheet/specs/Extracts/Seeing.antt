@@ -35,6 +35,7 @@ Leaves (number ∷ numbers) (Ok (Some row)) after = after ≡ numbers
 Leaves (number ∷ numbers) (Err fault) after = after ≡ []
 
 -- the keeper is called only if numbers remain, and its faults close it as usual
-abbrev pub ClosesAt : (left : List ℕ) → (before after : Bool) → Result (Option NamedObject) StoreFault → Type 0
+abbrev pub ClosesAt : (left : List ℕ) → (before after : Bool) → Result (Option NamedObject) StoreFault
+    → Type 0
 ClosesAt [] before after result = after ≡ before
 ClosesAt (number ∷ numbers) before after result = Closes before after result

@@ -17,7 +17,8 @@ abbrev pub rows_of : List NamedObject → List ℕ
 rows_of objects = flat_map (λ it. object_row it.object it.name) objects
 
 -- a text is written after this number of bytes: all of it, or only a prefix if the writer or the store fails
-abbrev pub IsPut : (text : List ℕ) → (before : ℕ) → (old new : Option (List ℕ)) → Result ℕ ExtractFault → Type 0
+abbrev pub IsPut : (text : List ℕ) → (before : ℕ) → (old new : Option (List ℕ))
+    → Result ℕ ExtractFault → Type 0
 IsPut text before old new (Ok after) = IsWhole text before after old new
 IsPut text before old new (Err (Write after)) = IsFront text before after old new
 IsPut text before old new (Err (Store fault after)) = IsFront text before after old new
@@ -31,10 +32,12 @@ Lists r = (numbers : List ℕ) × (r ≡ reply.Numbers numbers)
 -- If the list is denied, or requested for a future moment, nothing is written. Otherwise its extract is
 -- written and counted: all of it, or only a prefix if the writer or the store fails. If the store fails
 -- before the list is read, nothing is written.
-abbrev pub IsExtracted : (list : Reply) → (extract : List ℕ) → (old new : Option (List ℕ)) → Result ℕ ExtractFault → Type 0
+abbrev pub IsExtracted : (list : Reply) → (extract : List ℕ) → (old new : Option (List ℕ))
+    → Result ℕ ExtractFault → Type 0
 IsExtracted list extract old new (Ok written) = Lists list × IsWhole extract 0 written old new
 IsExtracted list extract old new (Err (Write written)) = Lists list × IsFront extract 0 written old new
-IsExtracted list extract old new (Err (Store fault written)) = (Lists list ⊎ (written ≡ 0)) × IsFront extract 0 written old new
+IsExtracted list extract old new (Err (Store fault written)) =
+    (Lists list ⊎ (written ≡ 0)) × IsFront extract 0 written old new
 IsExtracted list extract old new (Err (Denied rule)) = (list ≡ reply.Denied rule) × Appends old new []
 IsExtracted list extract old new (Err (Fault number)) = (list ≡ reply.Fault number) × Appends old new []
 

@@ -1,9 +1,9 @@
 //! Writes extracts part by part.
-ghost use Rattle.std.specs.Prelude.{◌≡◌, false, unwrap_or};
-ghost use Rattle.land_keep.specs.Keeping.{Closes, IsLive};
-ghost use Rattle.land_keep.specs.Machine.{now_of};
-ghost use Rattle.land_keep.specs.Timeline.{register_at};
+ghost use Rattle.std.specs.Prelude.{◌≡◌, false};
+ghost use Rattle.land_keep.specs.Keepers.{WasHonest};
+ghost use Rattle.land_keep.specs.Keeping.{Closes};
 ghost use Rattle.land_sheet.specs.Extracts.{extract_of, list_reply, rows_at};
+ghost use Rattle.land_sheet.specs.Extracts.Timelines.{LeavesTimeline, keeper_register, time_of};
 ghost use Rattle.land_sheet.specs.Extracts.Writing.{IsExtracted, IsPut, of_store, rows_of};
 
 use crate::extracts::fault::ExtractFault;
@@ -33,11 +33,12 @@ pub fn extract_to<K: Keeper, W: Write>(
     at: Option<i64>,
     writer: &mut W,
 ) -> Result<u64, ExtractFault>
-    ensures extracted { K.honest keeper.new → IsExtracted (list_reply clock caller kind at (K.timeline keeper.old))
-        (extract_of (register_at (K.timeline keeper.old) (unwrap_or at (now_of clock (K.timeline keeper.old)))) caller kind)
+    ensures extracted { K.honest keeper.new → IsExtracted
+        (list_reply clock caller kind at (K.timeline keeper.old))
+        (extract_of (keeper_register K.Keeper keeper.old (time_of K.Keeper keeper.old clock at)) caller kind)
         (W.contents writer.old) (W.contents writer.new) result }
-    ensures was { K.honest keeper.new → K.honest keeper.old }
-    ensures same { IsLive (K.honest keeper.new) (K.closed keeper.new) → K.timeline keeper.new ≡ K.timeline keeper.old }
+    ensures was { WasHonest K.Keeper keeper.old keeper.new }
+    ensures same { LeavesTimeline K.Keeper keeper.old keeper.new }
     ensures closes { Closes (K.closed keeper.old) (K.closed keeper.new) (of_store result) }
 {
     let listed = list(alloc, keeper, clock, caller, kind, at)?;
@@ -63,10 +64,11 @@ fn write_parts<K: Keeper, W: Write>(
     before: u64,
 ) -> Result<u64, ExtractFault>
     requires { K.closed keeper.old ≡ false }
-    ensures put { K.honest keeper.new → IsPut (rows_at (register_at (K.timeline keeper.old) at) kind numbers.now) before
+    ensures put { K.honest keeper.new
+        → IsPut (rows_at (keeper_register K.Keeper keeper.old at) kind numbers.now) before
         (W.contents writer.old) (W.contents writer.new) result }
-    ensures was { K.honest keeper.new → K.honest keeper.old }
-    ensures same { IsLive (K.honest keeper.new) (K.closed keeper.new) → K.timeline keeper.new ≡ K.timeline keeper.old }
+    ensures was { WasHonest K.Keeper keeper.old keeper.new }
+    ensures same { LeavesTimeline K.Keeper keeper.old keeper.new }
     ensures closes { Closes (K.closed keeper.old) (K.closed keeper.new) (of_store result) }
 {
     let mut written = before;

@@ -1,11 +1,11 @@
 //! The list of objects in an extract.
-ghost use Rattle.std.specs.Prelude.{◌≡◌, IfOk, unwrap_or};
-ghost use Rattle.land_keep.specs.Keeping.{Closes, IsLive};
-ghost use Rattle.land_keep.specs.Machine.{now_of};
+ghost use Rattle.std.specs.Prelude.{◌≡◌, IfOk};
+ghost use Rattle.land_keep.specs.Keepers.{WasHonest};
+ghost use Rattle.land_keep.specs.Keeping.{Closes};
 ghost use Rattle.land_keep.specs.Moments.{now_after};
-ghost use Rattle.land_keep.specs.Timeline.{register_at};
 ghost use Rattle.land_rules.specs.Rules.{seen_of};
 ghost use Rattle.land_sheet.specs.Extracts.{list_reply};
+ghost use Rattle.land_sheet.specs.Extracts.Timelines.{LeavesTimeline, keeper_register, time_of};
 ghost use Rattle.land_sheet.specs.Extracts.Writing.{IsListed, of_store};
 
 use crate::extracts::fault::ExtractFault;
@@ -45,11 +45,13 @@ pub(crate) fn list<K: Keeper>(
     kind: Kind,
     at: Option<i64>,
 ) -> Result<Listed, ExtractFault>
-    ensures listed { K.honest keeper.new → IsListed (list_reply clock caller kind at (K.timeline keeper.old)) result }
-    ensures moment { K.honest keeper.new → IfOk result (λ it. it.at ≡ unwrap_or at (now_of clock (K.timeline keeper.old))) }
-    ensures seen { K.honest keeper.new → IfOk result (λ it. it.numbers ≡ seen_of (register_at (K.timeline keeper.old) it.at) caller kind) }
-    ensures was { K.honest keeper.new → K.honest keeper.old }
-    ensures same { IsLive (K.honest keeper.new) (K.closed keeper.new) → K.timeline keeper.new ≡ K.timeline keeper.old }
+    ensures listed { K.honest keeper.new
+        → IsListed (list_reply clock caller kind at (K.timeline keeper.old)) result }
+    ensures moment { K.honest keeper.new → IfOk result (λ it. it.at ≡ time_of K.Keeper keeper.old clock at) }
+    ensures seen { K.honest keeper.new
+        → IfOk result (λ it. it.numbers ≡ seen_of (keeper_register K.Keeper keeper.old it.at) caller kind) }
+    ensures was { WasHonest K.Keeper keeper.old keeper.new }
+    ensures same { LeavesTimeline K.Keeper keeper.old keeper.new }
     ensures closes { Closes (K.closed keeper.old) (K.closed keeper.new) (of_store result) }
 {
     if keeper.is_closed() {

@@ -16,7 +16,8 @@ pub(crate) fn part_end(numbers: &[u64], begin: usize) -> usize
     ensures further { begin < result }
     ensures inside { result ≤ length numbers.now }
     ensures few { result ≤ begin + 256 }
-    ensures dense { slice_index numbers.now (result - 1) ≤ slice_index numbers.now begin + 16 * (result - begin) }
+    ensures dense { slice_index numbers.now (result - 1)
+        ≤ slice_index numbers.now begin + 16 * (result - begin) }
 {
     let first = numbers[begin];
     let most = numbers.len().min(begin.saturating_add(MOST));

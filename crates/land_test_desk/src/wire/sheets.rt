@@ -1,4 +1,5 @@
 //! Title sheets.
+use land_core::limits::LAST_MOMENT;
 use land_core::parcel::Parcel;
 use land_core::rrr::{Class, RightType, Rrr};
 use land_core::sequence::Sequence;
@@ -10,9 +11,6 @@ use land_shape::{Ring, ShapeFault, read_wkt};
 use land_sheet::sheet::title_sheet;
 use land_test_scenario::stop::{Stop, expect};
 use std::alloc::{AllocError, Global};
-
-/// The last valid moment.
-const LAST_MOMENT: i64 = 4_102_444_799_999;
 
 /// The content of an entry.
 #[derive(Clone, Copy)]
@@ -119,7 +117,7 @@ END
         unit: 2,
         name: "Yard",
         checked: true,
-        at: 4_102_444_799_999,
+        at: LAST_MOMENT,
         parcels: &[Land(
             3,
             "1",

@@ -1,5 +1,6 @@
 -- The length of the body after a head, and whether the connection closes.
-use Rattle.std.specs.Prelude.{◌≡◌, ℕ, ◌<◌, Bool, not, ◌==◌, ◌||◌, nat_lt, List, [], ◌∷◌, length, map, codes, Result, Ok, Err, if◌then◌else◌}
+use Rattle.std.specs.Prelude.{◌≡◌, ℕ, ◌<◌, Bool, not, ◌==◌, ◌||◌, nat_lt, List, [], ◌∷◌, length, map, codes}
+use Rattle.std.specs.Prelude.{Result, Ok, Err, if◌then◌else◌}
 use Rattle.std.specs.List.{list_any, slice_split}
 use Rattle.std.specs.Str.{bytes_eq, str_eq_ignore_ascii_case}
 use Rattle.std.specs.Str.Parse.{digits_value}
@@ -62,5 +63,6 @@ is_head h = bytes_eq h.method (codes "HEAD")
 -- the number of occurrences of a field, from its values, and the span of a single value
 abbrev pub IsOccurrence : List ℕ → List (List ℕ) → Occurrence → Type 0
 IsOccurrence head values occurrence.Absent = values ≡ []
-IsOccurrence head values (occurrence.Once span) = IsWithin (length head) span × (values ≡ span_bytes head span ∷ [])
+IsOccurrence head values (occurrence.Once span) =
+    IsWithin (length head) span × (values ≡ span_bytes head span ∷ [])
 IsOccurrence head values occurrence.Repeated = 1 < length values

@@ -1,7 +1,8 @@
 -- The numbers of framing faults.
 use Rattle.std.specs.Prelude.{ℕ}
 use Rattle.land_wire.specs.declared.framing.frame_fault.FrameFault.{FrameFault}
-use Rattle.land_wire.specs.declared.framing.frame_fault.FrameFault.TheVariants.{Head, HeadLong, BodyLong, Encoding, Cut}
+use Rattle.land_wire.specs.declared.framing.frame_fault.FrameFault.TheVariants.{Head, HeadLong, BodyLong}
+use Rattle.land_wire.specs.declared.framing.frame_fault.FrameFault.TheVariants.{Encoding, Cut}
 
 -- the number in the reply
 abbrev pub number_of : FrameFault → ℕ

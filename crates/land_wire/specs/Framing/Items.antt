@@ -1,5 +1,6 @@
 -- The items of a stream: whole requests in order, and at the end a fault if the stream is malformed.
-use Rattle.std.specs.Prelude.{◌≡◌, ℕ, ◌+◌, ◌<◌, ◌≤◌, Bool, true, false, List, [], ◌∷◌, ◌++◌, length, take, drop, Result, Ok, Err, ◌⊎◌}
+use Rattle.std.specs.Prelude.{◌≡◌, ℕ, ◌+◌, ◌<◌, ◌≤◌, Bool, true, false, List, [], ◌∷◌, ◌++◌, length, take}
+use Rattle.std.specs.Prelude.{drop, Result, Ok, Err, ◌⊎◌}
 use Rattle.httparse.specs.Grammar.{RequestHead, print_request}
 use Rattle.httparse.specs.Spans.{IsRequestAt, IsRequestWithin}
 use Rattle.httparse.specs.declared.spans.HeaderSpan.{HeaderSpan}
@@ -28,7 +29,8 @@ IsItem bytes (request h body) rest = HasHead bytes h (body ++ rest) × (frame h 
 -- a fault takes all remaining bytes, and there is at least one
 IsItem bytes (faulty f) rest =
     (rest ≡ []) × (0 < length bytes)
-    × (IsFault bytes f ⊎ ((h : RequestHead) × (after : List ℕ) × HasHead bytes h after × FailsAfter after (frame h) f))
+    × (IsFault bytes f
+    ⊎ ((h : RequestHead) × (after : List ℕ) × HasHead bytes h after × FailsAfter after (frame h) f))
 
 -- the connection closes after the item, so it is the last one
 abbrev pub is_last : Item → Bool
@@ -44,7 +46,8 @@ AreItems bytes (item ∷ items) =
 
 -- a stream has exactly one first item, and one rest after it
 abbrev pub OneItem : Type 0
-OneItem = (bytes : List ℕ) (a b : Item) (r q : List ℕ) → IsItem bytes a r → IsItem bytes b q → (a ≡ b) × (r ≡ q)
+OneItem =
+    (bytes : List ℕ) (a b : Item) (r q : List ℕ) → IsItem bytes a r → IsItem bytes b q → (a ≡ b) × (r ≡ q)
 
 -- a stream has exactly one list of items
 abbrev pub OneListOfItems : Type 0
@@ -54,7 +57,8 @@ OneListOfItems = (bytes : List ℕ) (xs ys : List Item) → AreItems bytes xs �
 abbrev pub IsRequestIn : List ℕ → List HeaderSpan → RequestSpans → ℕ → Type 0
 IsRequestIn bytes headers spans n =
     IsRequestWithin bytes headers spans
-    × ((h : RequestHead) × IsRequestAt bytes headers spans h × (length (print_request h) ≤ limit) × (frame h ≡ Ok n))
+    × ((h : RequestHead) × IsRequestAt bytes headers spans h
+    × (length (print_request h) ≤ limit) × (frame h ≡ Ok n))
     × (spans.len + n ≤ length bytes)
 
 -- the part of the next item that a buffer shows: the spans of a request

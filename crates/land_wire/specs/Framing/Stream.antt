@@ -1,6 +1,7 @@
 -- The head at the front of a stream (RFC 9112, sections 2 to 5), and the fault if there is none.
 use Rattle.std.specs.Prelude.{◌≡◌, ℕ, ◌≤◌, ◌<◌, List, ◌++◌, length, take}
-use Rattle.httparse.specs.Grammar.{RequestHead, ReadsRequest, print_request, HasNoRequest, NeverHasRequest, MayBecomeRequest, EndsInTarget}
+use Rattle.httparse.specs.Grammar.{RequestHead, ReadsRequest, print_request, HasNoRequest, NeverHasRequest}
+use Rattle.httparse.specs.Grammar.{MayBecomeRequest, EndsInTarget}
 use Rattle.httparse.specs.Spans.{IsRequestAt, IsRequestWithin}
 use Rattle.httparse.specs.declared.spans.HeaderSpan.{HeaderSpan}
 use Rattle.land_wire.specs.declared.framing.frame_fault.FrameFault.{FrameFault}
@@ -59,14 +60,16 @@ IsFault bytes fault.Encoding = ⊥
 
 -- the result of parsing a window
 abbrev pub IsLook : List ℕ → List HeaderSpan → Look → Type 0
-IsLook bytes headers (look.Whole spans) = IsRequestWithin bytes headers spans × ((h : RequestHead) × IsRequestAt bytes headers spans h)
+IsLook bytes headers (look.Whole spans) =
+    IsRequestWithin bytes headers spans × ((h : RequestHead) × IsRequestAt bytes headers spans h)
 IsLook bytes headers look.More = IsOpen bytes
 IsLook bytes headers look.Never = IsNever bytes
 
 -- the head in a buffer, by its spans
 abbrev pub IsHeadIn : List ℕ → List HeaderSpan → Found → Type 0
 IsHeadIn bytes headers (found.Whole spans) =
-    IsRequestWithin bytes headers spans × ((h : RequestHead) × IsRequestAt bytes headers spans h × (length (print_request h) ≤ limit))
+    IsRequestWithin bytes headers spans
+    × ((h : RequestHead) × IsRequestAt bytes headers spans h × (length (print_request h) ≤ limit))
 IsHeadIn bytes headers (found.Fault f) = Unit {0}
 
 -- the fault at the front of the stream

@@ -10,7 +10,8 @@ next_place place.Blank b =
     if b == 13 then place.Return else if b == 10 then place.Blank
     else if is_token_byte b then place.Method else place.Elsewhere
 next_place place.Return b = if b == 10 then place.Blank else place.Elsewhere
-next_place place.Method b = if b == 32 then place.Target else if is_token_byte b then place.Method else place.Elsewhere
+next_place place.Method b =
+    if b == 32 then place.Target else if is_token_byte b then place.Method else place.Elsewhere
 next_place place.Target b = if is_uri_byte b then place.Target else place.Elsewhere
 next_place place.Elsewhere b = place.Elsewhere
 

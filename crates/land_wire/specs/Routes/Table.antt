@@ -1,6 +1,7 @@
 -- The route table, and the correctness of a router.
 use Rattle.std.specs.Borrow.{Bor}
-use Rattle.std.specs.Prelude.{◌≡◌, ℕ, ◌<◌, ◌+◌, ◌&&◌, Bool, true, false, List, [], ◌∷◌, codes, drop, length, Option, Some, None, is_none, Result, Ok, Err}
+use Rattle.std.specs.Prelude.{◌≡◌, ℕ, ◌<◌, ◌+◌, ◌&&◌, Bool, true, false, List, [], ◌∷◌, codes, drop, length}
+use Rattle.std.specs.Prelude.{Option, Some, None, is_none, Result, Ok, Err}
 use Rattle.land_wire.specs.Routes.{Resource, before_slash, list, list_path, named_act, route_of, sheet, view}
 use Rattle.land_wire.specs.declared.routes.table.Goal.{Goal}
 use Rattle.land_wire.specs.declared.routes.table.Goal.TheVariants as to

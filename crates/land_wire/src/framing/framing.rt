@@ -2,7 +2,7 @@
 ghost use Rattle.std.specs.Prelude.{◌≡◌, ◌≤◌, IfOk};
 ghost use Rattle.httparse.specs.Grammar.{RequestHead};
 ghost use Rattle.httparse.specs.Spans.{IsRequestAt, IsRequestWithin};
-ghost use Rattle.land_wire.specs.Framing.Frame.{frame, length_of};
+ghost use Rattle.land_wire.specs.Framing.Frame.{body_limit, frame, length_of};
 
 use crate::framing::frame_fault::FrameFault;
 use crate::framing::named::{Occurrence, look_up};
@@ -26,7 +26,7 @@ const LENGTH_DIGITS: usize = 18;
 pub fn frame(spans: &RequestSpans, head: &[u8], headers: &[HeaderSpan]) -> Result<usize, FrameFault>
     requires { IsRequestWithin head.now headers.now spans.now }
     ensures value { (h : RequestHead) → IsRequestAt head.now headers.now spans.now h → result ≡ frame h }
-    ensures bound { IfOk result (λ n. n ≤ 1048576) }
+    ensures bound { IfOk result (λ n. n ≤ body_limit) }
 {
     if spans.headers > MOST_FIELDS {
         return Err(FrameFault::Head);
@@ -46,7 +46,7 @@ pub fn frame(spans: &RequestSpans, head: &[u8], headers: &[HeaderSpan]) -> Resul
 /// Reads the length in a value.
 fn read_length(value: &[u8]) -> Result<usize, FrameFault>
     ensures value { result ≡ length_of value.now }
-    ensures bound { IfOk result (λ n. n ≤ 1048576) }
+    ensures bound { IfOk result (λ n. n ≤ body_limit) }
 {
     match read_digits(value, LENGTH_DIGITS) {
         None => Err(FrameFault::Head),

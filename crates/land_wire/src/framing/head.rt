@@ -1,8 +1,11 @@
 //! Reads the head at the front of a stream that arrives in chunks.
-ghost use Rattle.std.specs.Prelude.{◌≡◌, ◌≤◌, ◌<◌, ◌+◌, ◌*◌, ◌⊎◌, ℕ, List, length, vec_len, vec_capacity, IfOk, IfErr, IfSome};
-ghost use Rattle.std.specs.Io.KnownBytes.{IsAtEnd, Keeps, prepend_known};
+ghost use Rattle.std.specs.Prelude.{◌≡◌, ◌≤◌, ℕ, List, length, vec_len, vec_capacity, IfOk, IfSome};
+ghost use Rattle.std.specs.Io.KnownBytes.{IsAtEnd, prepend_known};
 ghost use Rattle.httparse.specs.Grammar.{RequestHead};
-ghost use Rattle.land_wire.specs.Framing.Stream.{field_room, HasHead, IsLook, IsHeadIn, IsFoundFault, IsJustRead};
+ghost use Rattle.land_wire.specs.Framing.Reads.{FailsOnlyIfCalled, IsOutOfMemoryOnlyIfFull, LosesNoByte};
+ghost use Rattle.land_wire.specs.Framing.Reads.{ReadsChunks};
+ghost use Rattle.land_wire.specs.Framing.Stream.{HasHead, IsFoundFault, IsHeadIn, IsJustRead, IsLook};
+ghost use Rattle.land_wire.specs.Framing.Stream.{field_room, limit};
 
 use crate::framing::frame_fault::FrameFault;
 use crate::framing::target::ends_in_target;
@@ -50,24 +53,27 @@ pub fn read_head<R: Read>(
 ) -> Result<Found, StreamFault>
     requires { field_room ≤ length headers.old }
     ensures room { length headers.new ≡ length headers.old }
-    ensures bound { length buffer.new.items + 1024 * reader.new.left ≤ length buffer.old.items + 1024 * reader.old.left }
+    ensures bound { ReadsChunks (length buffer.old.items) reader.old.left
+        (length buffer.new.items) reader.new.left }
     ensures fewer { reader.new.left ≤ reader.old.left }
-    ensures stream { Keeps (prepend_known buffer.old.items (R.remaining reader.old.reader.now))
-        (prepend_known buffer.new.items (R.remaining reader.new.reader.now)) }
-    ensures end { IfOk result (λ f. f ≡ Found.Fault FrameFault.Cut → IsAtEnd (R.remaining reader.new.reader.now)) }
+    ensures stream { LosesNoByte buffer.old.items (R.remaining reader.old.reader.now)
+        buffer.new.items (R.remaining reader.new.reader.now) }
+    ensures end { IfOk result (λ f. f ≡ Found.Fault FrameFault.Cut
+        → IsAtEnd (R.remaining reader.new.reader.now)) }
     ensures unread { (h : RequestHead) (rest : List ℕ) → HasHead buffer.old.items h rest
         → (reader.new ≡ reader.old) × (buffer.new.items ≡ buffer.old.items) }
     ensures ahead { length buffer.old.items ≤ 1024 → IfOk result (λ f. IsJustRead buffer.new.items) }
     ensures same_reference { reader.new.reader.ghost_name ≡ reader.old.reader.ghost_name }
     ensures whole { IfOk result (λ f. IsHeadIn buffer.new.items headers.new f) }
-    ensures fault { IfOk result (λ f. IfSome (prepend_known buffer.new.items (R.remaining reader.new.reader.now))
+    ensures fault { IfOk result (λ f. IfSome
+        (prepend_known buffer.new.items (R.remaining reader.new.reader.now))
         (λ stream. IsFoundFault stream f)) }
 
     // Returns `NoMemory` only if the buffer had no capacity for a chunk, and `Read` only if the reader was
     // called, or its budget was spent.
-    ensures memory { IfErr result (λ e. e ≡ StreamFault.NoMemory → vec_capacity buffer.new < vec_len buffer.new + 1024) }
-    ensures failed { IfErr result (λ e. e ≡ StreamFault.Read → (reader.new.left ≡ 0)
-        ⊎ ((reader.new.left < reader.old.left) × (vec_len buffer.new + 1024 ≤ vec_capacity buffer.new))) }
+    ensures memory { IsOutOfMemoryOnlyIfFull result (vec_len buffer.new) (vec_capacity buffer.new) }
+    ensures failed { FailsOnlyIfCalled result reader.old.left reader.new.left
+        (vec_len buffer.new) (vec_capacity buffer.new) }
 {
     loop {
         let end = buffer.len().min(HEAD_LIMIT);
@@ -90,7 +96,7 @@ pub fn read_head<R: Read>(
 /// Parses a window. `httparse` rejects a target that is not valid UTF-8 before the target's end was read, so
 /// a window that ends inside a target counts as incomplete.
 pub fn look_at(window: &[u8], headers: &mut [HeaderSpan]) -> Look
-    requires small { length window.now ≤ 8192 }
+    requires small { length window.now ≤ limit }
     requires room { field_room ≤ length headers.old }
     ensures { IsLook window.now headers.new result }
 {

@@ -1,8 +1,11 @@
 //! Reads the next item of a stream.
-ghost use Rattle.std.specs.Prelude.{◌≡◌, ◌≤◌, ◌<◌, ◌+◌, ◌*◌, ◌⊎◌, ℕ, List, length, vec_len, vec_capacity, IfOk, IfErr, IfSome};
-ghost use Rattle.std.specs.Io.KnownBytes.{Keeps, prepend_known};
+ghost use Rattle.std.specs.Prelude.{◌≡◌, ◌≤◌, ℕ, List, length, vec_len, vec_capacity, IfOk, IfSome};
+ghost use Rattle.std.specs.Io.KnownBytes.{prepend_known};
 ghost use Rattle.httparse.specs.Grammar.{RequestHead};
-ghost use Rattle.land_wire.specs.Framing.Items.{fault_front, request, IsItem, IsFrontIn, IsFrontOf, IsReadFor};
+ghost use Rattle.land_wire.specs.Framing.Items.{fault_front, request, IsItem, IsFrontIn, IsFrontOf};
+ghost use Rattle.land_wire.specs.Framing.Items.{IsReadFor};
+ghost use Rattle.land_wire.specs.Framing.Reads.{FailsOnlyIfCalled, IsOutOfMemoryOnlyIfFull, LosesNoByte};
+ghost use Rattle.land_wire.specs.Framing.Reads.{ReadsChunks};
 ghost use Rattle.land_wire.specs.Framing.Stream.{field_room};
 
 use crate::framing::frame_fault::FrameFault;
@@ -37,22 +40,25 @@ pub fn read_item<R: Read>(
 ) -> Result<Front, StreamFault>
     requires { field_room ≤ length headers.old }
     ensures room { length headers.new ≡ length headers.old }
-    ensures bound { length buffer.new.items + 1024 * reader.new.left ≤ length buffer.old.items + 1024 * reader.old.left }
+    ensures bound { ReadsChunks (length buffer.old.items) reader.old.left
+        (length buffer.new.items) reader.new.left }
     ensures fewer { reader.new.left ≤ reader.old.left }
-    ensures stream { Keeps (prepend_known buffer.old.items (R.remaining reader.old.reader.now))
-        (prepend_known buffer.new.items (R.remaining reader.new.reader.now)) }
-    ensures unread { (h : RequestHead) (body rest : List ℕ) → IsItem buffer.old.items (request h body) rest → reader.new ≡ reader.old }
+    ensures stream { LosesNoByte buffer.old.items (R.remaining reader.old.reader.now)
+        buffer.new.items (R.remaining reader.new.reader.now) }
+    ensures unread { (h : RequestHead) (body rest : List ℕ)
+        → IsItem buffer.old.items (request h body) rest → reader.new ≡ reader.old }
     ensures ahead { length buffer.old.items ≤ 1024 → IfOk result (λ f. IsReadFor buffer.new.items f) }
     ensures same_reference { reader.new.reader.ghost_name ≡ reader.old.reader.ghost_name }
     ensures front { IfOk result (λ f. IsFrontIn buffer.new.items headers.new f) }
-    ensures item { IfOk result (λ f. IfSome (prepend_known buffer.new.items (R.remaining reader.new.reader.now))
+    ensures item { IfOk result (λ f. IfSome
+        (prepend_known buffer.new.items (R.remaining reader.new.reader.now))
         (λ stream. IsFrontOf stream f)) }
 
     // Returns `NoMemory` only if the buffer had no capacity for a chunk, and `Read` only if the reader was
     // called, or its budget was spent.
-    ensures memory { IfErr result (λ e. e ≡ StreamFault.NoMemory → vec_capacity buffer.new < vec_len buffer.new + 1024) }
-    ensures failed { IfErr result (λ e. e ≡ StreamFault.Read → (reader.new.left ≡ 0)
-        ⊎ ((reader.new.left < reader.old.left) × (vec_len buffer.new + 1024 ≤ vec_capacity buffer.new))) }
+    ensures memory { IsOutOfMemoryOnlyIfFull result (vec_len buffer.new) (vec_capacity buffer.new) }
+    ensures failed { FailsOnlyIfCalled result reader.old.left reader.new.left
+        (vec_len buffer.new) (vec_capacity buffer.new) }
 {
     let spans = match read_head(reader, buffer, headers) {
         Err(fault) => return Err(fault),

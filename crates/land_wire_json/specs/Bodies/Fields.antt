@@ -1,14 +1,16 @@
 -- Request bodies as JSON (RFC 8259), and the fields of JSON objects: the value of a key, or the first fault.
 -- JSON is read as `serde_json` specifies: of two equal keys the last one counts, and at most 127 levels are
 -- read.
-use Rattle.std.specs.Prelude.{ℕ, suc, ◌&&◌, Bool, true, List, [], ◌∷◌, nat_le, if◌then◌else◌, Option, None, Result, Ok, Err, bytes_eq, ⊤}
+use Rattle.std.specs.Prelude.{ℕ, suc, ◌&&◌, Bool, true, List, [], ◌∷◌, nat_le, if◌then◌else◌, Option, None}
+use Rattle.std.specs.Prelude.{Result, Ok, Err, bytes_eq, ⊤}
 use Rattle.std.specs.List.{list_any}
 use Rattle.std.specs.Str.{is_utf8}
 use Rattle.land_core.specs.Numbers.{is_number}
 use Rattle.land_wire_json.specs.Bodies.WireFaults.{◌>>=◌, or_fault}
 use Rattle.land_wire_json.specs.declared.bodies.wire_fault.WireFault.{WireFault}
 use Rattle.land_wire_json.specs.declared.bodies.wire_fault.WireFault.TheVariants as fault
-use Rattle.serde_json.specs.Data.{Num, unsigned, negative, float, Data, Items, no_items, item, Members, no_members, member}
+use Rattle.serde_json.specs.Data.{Num, unsigned, negative, float, Data, Items, no_items, item, Members}
+use Rattle.serde_json.specs.Data.{no_members, member}
 use Rattle.serde_json.specs.Find.{get, as_bool, as_number, as_str, as_array, as_object}
 use Rattle.serde_json.specs.Read.{read}
 
@@ -35,7 +37,9 @@ has_only names (member key value others) = is_among names key && has_only names 
 
 -- fault 131 if the value is not an object, or has a key that is not one of these names
 unfoldable pub object_with : List (List ℕ) → Data → Result ⊤ WireFault
-object_with names value = or_fault (as_object value) fault.Field >>= λ members. if has_only names members then Ok tt else Err fault.Field
+object_with names value =
+    or_fault (as_object value) fault.Field
+    >>= λ members. if has_only names members then Ok tt else Err fault.Field
 
 -- the value of a key; fault 131 if the key is missing
 unfoldable pub field_at : (key : List ℕ) → Data → Result Data WireFault
@@ -86,7 +90,9 @@ item_count (item value items) = suc (item_count items)
 unfoldable pub items_at : (least most : ℕ) → (key : List ℕ) → Data → Result Items WireFault
 items_at least most key value =
     field_at key value >>= λ found. or_fault (as_array found) fault.Field
-    >>= λ items. if nat_le least (item_count items) && nat_le (item_count items) most then Ok items else Err fault.Field
+    >>= λ items.
+    if nat_le least (item_count items) && nat_le (item_count items) most then Ok items
+    else Err fault.Field
 
 -- reads each item in order: the first fault, or the list of values
 abbrev pub each_of : {A : Type 0} → (Data → Result A WireFault) → Items → Result (List A) WireFault

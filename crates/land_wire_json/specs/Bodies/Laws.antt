@@ -8,7 +8,8 @@ use Rattle.land_core.specs.declared.content.Content.{Content}
 use Rattle.land_shape.specs.Faults.{IsOutlineAnswer}
 use Rattle.land_wire_json.specs.Bodies.Mutations.{content_in, decision_of, lodging_of}
 use Rattle.land_wire_json.specs.Bodies.Outlines.{answer_of}
-use Rattle.land_wire_json.specs.Bodies.Parties.{enrol_of, group_of, regroup_of, grant_of, mandate_of, withdrawal_of}
+use Rattle.land_wire_json.specs.Bodies.Parties.{enrol_of, group_of, regroup_of, grant_of, mandate_of}
+use Rattle.land_wire_json.specs.Bodies.Parties.{withdrawal_of}
 use Rattle.land_wire_json.specs.Bodies.Stored.{IsStorable}
 use Rattle.land_wire_json.specs.Bodies.Units.{unit_of, burden_of, lift_of}
 use Rattle.land_wire_json.specs.Texts.Mutations.{content_text}
@@ -31,13 +32,15 @@ pub record BodiesAreWellFormed : Type 0 where
   pub register : (value : Data) → IfOk (unit_of value) (λ it. is_well_formed (act.Register it) ≡ true)
   pub burden : (value : Data) → IfOk (burden_of value) (λ it. is_well_formed (act.Burden it) ≡ true)
   pub lift : (value : Data) → IfOk (lift_of value) (λ it. is_well_formed (act.Lift it) ≡ true)
-  pub lodge : (which : ContentKind) (value : Data) → IfOk (lodging_of which value) (λ it. is_well_formed (act.Lodge it) ≡ true)
+  pub lodge : (which : ContentKind) (value : Data)
+      → IfOk (lodging_of which value) (λ it. is_well_formed (act.Lodge it) ≡ true)
   pub approve : (value : Data) → IfOk (decision_of value) (λ it. is_well_formed (act.Approve it) ≡ true)
   pub refuse : (value : Data) → IfOk (decision_of value) (λ it. is_well_formed (act.Refuse it) ≡ true)
 
 -- a content that was read is within its limits
 abbrev pub ContentsAreWellFormed : Type 0
-ContentsAreWellFormed = (word text : List ℕ) → IfOk (content_in word text) (λ it. is_well_formed_content it ≡ true)
+ContentsAreWellFormed =
+    (word text : List ℕ) → IfOk (content_in word text) (λ it. is_well_formed_content it ≡ true)
 
 -- reading the text of a content returns that content
 abbrev pub ContentsAreRead : Type 0

@@ -1,5 +1,6 @@
 -- The bodies of lodgings and decisions, and the contents of mutations. Fields are read in the order given.
-use Rattle.std.specs.Prelude.{ℕ, List, [], ◌∷◌, codes, bytes_eq, Option, Some, None, Result, Ok, Err, if◌then◌else◌}
+use Rattle.std.specs.Prelude.{ℕ, List, [], ◌∷◌, codes, bytes_eq, Option, Some, None, Result, Ok, Err}
+use Rattle.std.specs.Prelude.{if◌then◌else◌}
 use Rattle.land_core.specs.Contents.{is_amount, is_currency}
 use Rattle.land_core.specs.Mergers.{rise_above, lists_number}
 use Rattle.land_core.specs.Texts.{is_name, is_title, is_label, is_reference}
@@ -13,7 +14,8 @@ use Rattle.land_core.specs.declared.content.Transfer.{Transfer}
 use Rattle.land_core.specs.declared.merger.Merger.{Merger}
 use Rattle.land_core.specs.declared.subdivision.Part.{Part}
 use Rattle.land_core.specs.declared.subdivision.Subdivision.{Subdivision}
-use Rattle.land_wire_json.specs.Bodies.Fields.{text_value, object_with, field_at, limited, limited_at, number_in, number_at, ranged_in, items_at, each_of}
+use Rattle.land_wire_json.specs.Bodies.Fields.{text_value, object_with, field_at, limited, limited_at}
+use Rattle.land_wire_json.specs.Bodies.Fields.{number_in, number_at, ranged_in, items_at, each_of}
 use Rattle.land_wire_json.specs.Bodies.Outlines.{outline_in}
 use Rattle.land_wire_json.specs.Bodies.Shares.{share_at}
 use Rattle.land_wire_json.specs.Bodies.Units.{parcel_of}
@@ -78,7 +80,8 @@ merger_fields = codes "unit" ∷ codes "others" ∷ codes "parcels" ∷ codes "l
 -- `least` to `most` increasing numbers; fault 131 in another order, after each number was read
 unfoldable pub rising_at : (least most : ℕ) → (key : List ℕ) → Data → Result (List ℕ) WireFault
 rising_at least most key value =
-    items_at least most key value >>= each_of number_in >>= λ numbers. if rise_above 0 numbers then Ok numbers else Err fault.Field
+    items_at least most key value >>= each_of number_in
+    >>= λ numbers. if rise_above 0 numbers then Ok numbers else Err fault.Field
 
 -- fault 131 if the unit itself is among the others
 abbrev pub without : (unit : ℕ) → List ℕ → Result (List ℕ) WireFault

@@ -27,7 +27,8 @@ share_from (Some n) (Some d) = share_answer (fraction_of (over n d))
 
 -- the numbers before and after the first `/`
 unfoldable pub share_of : List ℕ → Result Ratio WireFault
-share_of text = share_from (digits_in 18 (before_first is_slash text)) (digits_in 18 (after_first is_slash text))
+share_of text =
+    share_from (digits_in 18 (before_first is_slash text)) (digits_in 18 (after_first is_slash text))
 
 -- the share of a key
 unfoldable pub share_at : (key : List ℕ) → Data → Result Ratio WireFault

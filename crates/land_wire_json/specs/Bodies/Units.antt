@@ -7,7 +7,8 @@ use Rattle.land_core.specs.declared.act.Lift.{Lift}
 use Rattle.land_core.specs.declared.act.NewParcel.{NewParcel}
 use Rattle.land_core.specs.declared.act.NewRight.{NewRight}
 use Rattle.land_core.specs.declared.act.NewUnit.{NewUnit}
-use Rattle.land_wire_json.specs.Bodies.Fields.{object_with, truth_at, limited_at, number_at, items_at, each_of}
+use Rattle.land_wire_json.specs.Bodies.Fields.{object_with, truth_at, limited_at, number_at, items_at}
+use Rattle.land_wire_json.specs.Bodies.Fields.{each_of}
 use Rattle.land_wire_json.specs.Bodies.Outlines.{outline_in}
 use Rattle.land_wire_json.specs.Bodies.Shares.{share_at}
 use Rattle.land_wire_json.specs.Bodies.WireFaults.{◌>>=◌}

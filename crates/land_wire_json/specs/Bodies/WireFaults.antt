@@ -3,7 +3,9 @@ use Rattle.std.specs.Prelude.{◌≡◌, ◌≢◌, ℕ, Option, Some, None, Res
 use Rattle.land_fraction.specs.Number.{number_of as fraction_number}
 use Rattle.land_shape.specs.FaultTexts.{number_of as shape_number}
 use Rattle.land_wire_json.specs.declared.bodies.wire_fault.WireFault.{WireFault}
-use Rattle.land_wire_json.specs.declared.bodies.wire_fault.WireFault.TheVariants.{Json, Field, Number, Text, Role, NoRoute, Method, Share, Outline, NoMemory}
+use Rattle.land_wire_json.specs.declared.bodies.wire_fault.WireFault.TheVariants.{Json, Field, Number, Text}
+use Rattle.land_wire_json.specs.declared.bodies.wire_fault.WireFault.TheVariants.{Role, NoRoute, Method}
+use Rattle.land_wire_json.specs.declared.bodies.wire_fault.WireFault.TheVariants.{Share, Outline, NoMemory}
 
 -- the number of a fault; shares and outlines have their own numbers
 abbrev pub fault_number : WireFault → ℕ

@@ -42,14 +42,16 @@ fields_tokens (field ∷ fields) = member_tokens field.0.now (shown_data field.1
 -- the tokens of the fields, before the rest
 abbrev pub fields_before : List Field → List Token → List Token
 fields_before [] rest = rest
-fields_before (field ∷ fields) rest = member_tokens field.0.now (shown_data field.1) ++ fields_before fields rest
+fields_before (field ∷ fields) rest =
+    member_tokens field.0.now (shown_data field.1) ++ fields_before fields rest
 
 -- an object with these fields
 abbrev pub object_tokens : List Field → List Token
 object_tokens fields = token.begin_object ∷ fields_before fields (token.end_object ∷ [])
 
 -- tokens are written after the existing ones; if memory ran out, some of them may be missing
-pub record Adds {E : Type 0} (r : Result (Unit {0}) E) (old new : Written) (tokens : List Token) : Type 0 where
+pub record Adds {E : Type 0} (r : Result (Unit {0}) E) (old new : Written) (tokens : List Token)
+    : Type 0 where
   pub added : OnOk r (new.tokens ≡ old.tokens ++ tokens)
   pub before : new.before ≡ old.before
 
@@ -59,7 +61,8 @@ AddsValue r old new value = Adds r old new (json_tokens (outline value))
 
 -- a label and an outline in canonical form, under their names
 abbrev pub plan_tokens : List ℕ → List Place → List Token
-plan_tokens label ring = member_tokens (codes "label") (string label) ++ member_tokens (codes "outline") (string (printed ring))
+plan_tokens label ring =
+    member_tokens (codes "label") (string label) ++ member_tokens (codes "outline") (string (printed ring))
 
 -- the name of a new unit under its name, if there is one
 abbrev pub unit_tokens : Option (List ℕ) → List Token

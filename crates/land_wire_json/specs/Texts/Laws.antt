@@ -35,7 +35,13 @@ use Rattle.serde_json.specs.Written.{compact_text}
 abbrev pub PartyTexts : Type 0
 PartyTexts =
     (n : ℕ) (kind : PartyKind) (name : List ℕ) (members : List Member) (roles : List Role)
-    → object_text (shown.Party (record { number = n; kind = kind; name = name; members = members; roles = roles }))
+    → object_text (shown.Party (record {
+      number = n;
+      kind = kind;
+      name = name;
+      members = members;
+      roles = roles;
+    }))
     ≡ party_text (party_word kind) members (compact_text (string name)) n roles
 
 -- the text of a share is its canonical form in quotation marks
@@ -70,12 +76,21 @@ ContentTexts = (it : Content) → content_text it ≡ spelled_content it
 abbrev pub MutationTexts : Type 0
 MutationTexts =
     (n source lodger lodged : ℕ) (reference : List ℕ) (it : Content) (state : MutationState)
-    → object_text (shown.Mutation (record { number = n; content = it; reference = reference; source = source; lodger = lodger; lodged = pos lodged; state = state }))
+    → object_text (shown.Mutation (record {
+      number = n;
+      content = it;
+      reference = reference;
+      source = source;
+      lodger = lodger;
+      lodged = pos lodged;
+      state = state;
+    }))
     ≡ mutation_text it lodged lodger n (string_text reference) source state
 
 -- reading the compact text of exact JSON that is not too deep returns that JSON
 abbrev pub CompactLaw : Type 0
-CompactLaw = (value : Data) → is_exact value ≡ true → depth value ≤ max_depth → read (compact_text value) ≡ Some value
+CompactLaw =
+    (value : Data) → is_exact value ≡ true → depth value ≤ max_depth → read (compact_text value) ≡ Some value
 
 -- a text determines its object, if the object is within its limits
 abbrev pub ObjectsAreTold : Type 0
@@ -83,4 +98,5 @@ ObjectsAreTold = (a b : Object) → IsObjectWithin a → IsObjectWithin b → ob
 
 -- a text determines its content, if the content is within its limits; the word of the act is not part of it
 abbrev pub ContentsAreTold : Type 0
-ContentsAreTold = (a b : Content) → IsContentWithin a → IsContentWithin b → content_text a ≡ content_text b → a ≡ b
+ContentsAreTold =
+    (a b : Content) → IsContentWithin a → IsContentWithin b → content_text a ≡ content_text b → a ≡ b

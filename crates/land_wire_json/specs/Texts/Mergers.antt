@@ -2,7 +2,8 @@
 use Rattle.std.specs.Prelude.{ℕ, List, ◌++◌, map, codes, decimal}
 use Rattle.land_core.specs.declared.merger.Merger.{Merger}
 use Rattle.land_shape.specs.Printed.{printed}
-use Rattle.land_wire_json.specs.Texts.Values.{number_data, numbers_data, outline_text, string_text, with_commas}
+use Rattle.land_wire_json.specs.Texts.Values.{number_data, numbers_data, outline_text, string_text}
+use Rattle.land_wire_json.specs.Texts.Values.{with_commas}
 use Rattle.serde_json.specs.Data.{Data, string, object, no_members, member}
 
 -- `others` are the units that end, `parcels` those that are merged, `outline` is that of the new parcel in

@@ -68,7 +68,8 @@ mutation_data mutation =
 abbrev pub transfer_text : Transfer → List ℕ
 transfer_text it =
     codes "{\"receiver\":" ++ (decimal it.receiver ++ (codes ",\"right\":" ++ (decimal it.right
-    ++ (codes ",\"share\":" ++ (share_text it.share ++ (codes ",\"unit\":" ++ (decimal it.unit ++ codes "}")))))))
+    ++ (codes ",\"share\":" ++ (share_text it.share ++ (codes ",\"unit\":"
+    ++ (decimal it.unit ++ codes "}")))))))
 
 -- the amount in minor units
 abbrev pub mortgage_text : Mortgage → List ℕ
@@ -91,7 +92,8 @@ spelled_content (content.Mortgage it) = mortgage_text it
 spelled_content (content.Discharge it) = discharge_text it
 
 -- `lodged` is the time of lodging, `reference` a JSON string
-abbrev pub mutation_text : Content → (lodged lodger n : ℕ) → (reference : List ℕ) → (source : ℕ) → MutationState → List ℕ
+abbrev pub mutation_text : Content → (lodged lodger n : ℕ) → (reference : List ℕ) → (source : ℕ)
+    → MutationState → List ℕ
 mutation_text it lodged lodger n reference source state =
     codes "{\"act\":" ++ (quoted_word (act_word it) ++ (codes ",\"content\":" ++ (content_text it
     ++ (codes ",\"lodged\":" ++ (decimal lodged ++ (codes ",\"lodger\":" ++ (decimal lodger

@@ -57,5 +57,6 @@ part_text part =
 abbrev pub subdivision_text : Subdivision → List ℕ
 subdivision_text it =
     codes "{\"first\":" ++ (first_text it.first ++ (codes ",\"parcel\":" ++ (decimal it.parcel
-    ++ (codes ",\"rest\":[" ++ (with_commas (map part_text it.rest) ++ (codes "],\"unit\":" ++ (decimal it.unit
+    ++ (codes ",\"rest\":[" ++ (with_commas (map part_text it.rest) ++ (codes "],\"unit\":"
+    ++ (decimal it.unit
     ++ codes "}")))))))

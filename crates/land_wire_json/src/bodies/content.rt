@@ -4,7 +4,8 @@ ghost use Rattle.land_core.specs.Contents.{is_amount, is_currency};
 ghost use Rattle.land_core.specs.Words.{act_word};
 ghost use Rattle.land_core.specs.declared.content.Content.{Content};
 ghost use Rattle.land_wire_json.specs.Bodies.Fields.{limited, limited_at, ranged_in};
-ghost use Rattle.land_wire_json.specs.Bodies.Mutations.{content_by, content_in, content_of, discharge_of, fields_of, mortgage_of, transfer_of};
+ghost use Rattle.land_wire_json.specs.Bodies.Mutations.{content_by, content_in, content_of, discharge_of};
+ghost use Rattle.land_wire_json.specs.Bodies.Mutations.{fields_of, mortgage_of, transfer_of};
 ghost use Rattle.land_wire_json.specs.Bodies.Stored.{IsStorable};
 ghost use Rattle.land_wire_json.specs.Bodies.WireFaults.{Gives};
 ghost use Rattle.land_wire_json.specs.Texts.Mutations.{content_text};
@@ -29,7 +30,8 @@ use std::alloc::Global;
 /// the fields in their order; 501 if out of memory. Reading the text of a content returns that content.
 pub fn read_content(alloc: Global, word: &str, text: &str) -> Result<Content, WireFault>
     ensures reading { Gives (λ it. it) result (content_in word.now text.now) }
-    ensures back { (it : Content) → IsStorable it → word.now ≡ act_word it → text.now ≡ content_text it → Gives (λ it. it) result (Ok it) }
+    ensures back { (it : Content) → IsStorable it → word.now ≡ act_word it → text.now ≡ content_text it
+        → Gives (λ it. it) result (Ok it) }
 {
     laws::contents_are_read();
     content_in(alloc, word, text)

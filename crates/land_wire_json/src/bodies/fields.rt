@@ -4,7 +4,9 @@ ghost use Rattle.std.specs.List.{list_all, list_any};
 ghost use Rattle.std.specs.BTreeMap.{keys};
 ghost use Rattle.land_core.specs.Numbers.{is_number};
 ghost use Rattle.land_core.specs.Texts.{are_words, is_label, is_name, is_reference, is_title};
-ghost use Rattle.land_wire_json.specs.Bodies.Fields.{field_at, has_only, is_among, item_count, items_at, limited, limited_at, number_at, number_in, object_with, text_at, text_value, truth_at, value_in};
+ghost use Rattle.land_wire_json.specs.Bodies.Fields.{field_at, has_only, is_among, item_count, items_at};
+ghost use Rattle.land_wire_json.specs.Bodies.Fields.{limited, limited_at, number_at, number_in, object_with};
+ghost use Rattle.land_wire_json.specs.Bodies.Fields.{text_at, text_value, truth_at, value_in};
 ghost use Rattle.land_wire_json.specs.Bodies.WireFaults.{Gives, seen_by};
 ghost use Rattle.serde_json.specs.Find.{get};
 ghost use Rattle.serde_json.specs.View.{view, members_view, items_view};
@@ -65,7 +67,8 @@ fn has_only(members: &Map<String, Value>, names: &[&str]) -> bool
 }
 
 fn has_keys_among(members: &Map<String, Value>, names: &[&str]) -> bool
-    ensures { result ≡ list_all (λ key. is_among (map (λ name. name.now) names.now) (string_bytes key)) (keys members.now) }
+    ensures { result ≡ list_all (λ key. is_among (map (λ name. name.now) names.now) (string_bytes key))
+        (keys members.now) }
 {
     members.keys().all(|key| is_among(key.as_str(), names))
 }
@@ -208,7 +211,8 @@ pub fn items_at<'v>(
     least: usize,
     most: usize,
 ) -> Result<&'v Vec<Value>, WireFault>
-    ensures { seen_by (λ found. items_view found.now.items) result ≡ items_at least most key.now (view value.now) }
+    ensures { seen_by (λ found. items_view found.now.items) result
+        ≡ items_at least most key.now (view value.now) }
 {
     match field_at(value, key)?.as_array() {
         Some(items) if least <= items.len() && items.len() <= most => Ok(items),

@@ -1,5 +1,6 @@
 //! Laws, each stated with definitions only.
-ghost use Rattle.land_wire_json.specs.Bodies.Laws.{BodiesAreWellFormed, ContentsAreRead, ContentsAreWellFormed, OutlinesHaveTheirAnswers};
+ghost use Rattle.land_wire_json.specs.Bodies.Laws.{BodiesAreWellFormed, ContentsAreRead};
+ghost use Rattle.land_wire_json.specs.Bodies.Laws.{ContentsAreWellFormed, OutlinesHaveTheirAnswers};
 
 /// The answer for an outline's text is a ring that the text denotes, or the text's first fault.
 pub fn outlines_have_their_answers()

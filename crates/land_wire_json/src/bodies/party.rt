@@ -1,7 +1,8 @@
 //! Reads the bodies of acts on parties.
 ghost use Rattle.std.specs.Prelude.{◌≡◌};
 ghost use Rattle.land_wire_json.specs.Bodies.Fields.{each_of};
-ghost use Rattle.land_wire_json.specs.Bodies.Parties.{enrol_of, grant_of, group_of, mandate_of, member_of, members_of, regroup_of, withdrawal_of};
+ghost use Rattle.land_wire_json.specs.Bodies.Parties.{enrol_of, grant_of, group_of, mandate_of, member_of};
+ghost use Rattle.land_wire_json.specs.Bodies.Parties.{members_of, regroup_of, withdrawal_of};
 ghost use Rattle.land_wire_json.specs.Bodies.WireFaults.{Gives};
 ghost use Rattle.serde_json.specs.View.{view, items_view};
 

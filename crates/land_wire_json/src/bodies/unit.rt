@@ -1,7 +1,9 @@
 //! Reads the bodies of acts on units and their entries.
 ghost use Rattle.std.specs.Prelude.{◌≡◌, map};
 ghost use Rattle.land_wire_json.specs.Bodies.Fields.{each_of};
-ghost use Rattle.land_wire_json.specs.Bodies.Units.{burden_by, burden_fields, burden_of, lift_of, owned, parcel_of, parcels_of, right_of, rights_of, unit_by, unit_fields, unit_of};
+ghost use Rattle.land_wire_json.specs.Bodies.Units.{burden_by, burden_fields, burden_of, lift_of, owned};
+ghost use Rattle.land_wire_json.specs.Bodies.Units.{parcel_of, parcels_of, right_of, rights_of, unit_by};
+ghost use Rattle.land_wire_json.specs.Bodies.Units.{unit_fields, unit_of};
 ghost use Rattle.land_wire_json.specs.Bodies.WireFaults.{Gives};
 ghost use Rattle.serde_json.specs.View.{view, items_view};
 

@@ -1,6 +1,7 @@
 //! Reads the words of kinds, roles, types and classes.
 ghost use Rattle.std.specs.Prelude.{◌≡◌, bytes_eq};
-ghost use Rattle.land_wire_json.specs.Bodies.Words.{class_in, class_of, kind_in, kind_of, role_in, role_of, type_in, type_of};
+ghost use Rattle.land_wire_json.specs.Bodies.Words.{class_in, class_of, kind_in, kind_of, role_in, role_of};
+ghost use Rattle.land_wire_json.specs.Bodies.Words.{type_in, type_of};
 ghost use Rattle.serde_json.specs.View.{view};
 
 use crate::bodies::fields::text_at;

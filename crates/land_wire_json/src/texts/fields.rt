@@ -1,7 +1,8 @@
 //! Writes JSON objects field by field.
 ghost use Rattle.std.specs.Prelude.{◌≡◌, [], string_bytes, IfOk};
 ghost use Rattle.json.specs.Print.{print};
-ghost use Rattle.land_wire_json.specs.Texts.Fields.{Adds, AddsValue, fields_tokens, member_tokens, object_tokens, shown_data};
+ghost use Rattle.land_wire_json.specs.Texts.Fields.{Adds, AddsValue, fields_tokens, member_tokens};
+ghost use Rattle.land_wire_json.specs.Texts.Fields.{object_tokens, shown_data};
 
 use crate::texts::members::{
     write_first, write_members, write_numbers, write_outline, write_parts, write_roles, write_share,

@@ -1,6 +1,8 @@
 //! Laws, each stated with definitions only.
-ghost use Rattle.land_wire_json.specs.Texts.Laws.{PartyTexts, UnitTexts, ParcelTexts, RrrTexts, SourceTexts, MutationTexts, ContentTexts};
-ghost use Rattle.land_wire_json.specs.Texts.Laws.{ShareTexts, OutlineTexts, CompactLaw, ObjectsAreTold, ContentsAreTold};
+ghost use Rattle.land_wire_json.specs.Texts.Laws.{PartyTexts, UnitTexts, ParcelTexts, RrrTexts, SourceTexts};
+ghost use Rattle.land_wire_json.specs.Texts.Laws.{MutationTexts, ContentTexts};
+ghost use Rattle.land_wire_json.specs.Texts.Laws.{ShareTexts, OutlineTexts, CompactLaw, ObjectsAreTold};
+ghost use Rattle.land_wire_json.specs.Texts.Laws.{ContentsAreTold};
 
 /// The texts of parties in replies.
 pub fn parties_have_plain_texts()

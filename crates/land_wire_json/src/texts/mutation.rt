@@ -1,7 +1,8 @@
 //! Writes mutations and their contents as JSON.
 ghost use Rattle.std.specs.Prelude.{◌≡◌, IfOk, string_bytes};
 ghost use Rattle.land_wire_json.specs.Texts.Fields.{AddsValue};
-ghost use Rattle.land_wire_json.specs.Texts.Mutations.{content_data, content_text, discharge_data, mortgage_data, mutation_data, transfer_data};
+ghost use Rattle.land_wire_json.specs.Texts.Mutations.{content_data, content_text, discharge_data};
+ghost use Rattle.land_wire_json.specs.Texts.Mutations.{mortgage_data, mutation_data, transfer_data};
 
 use crate::texts::fields::{Field, Shown, new_text, text_of, write_fields, write_object};
 use crate::texts::members::write_text;
