@@ -1,12 +1,12 @@
 -- The caller, from the fields of a head.
-use Rattle.std.specs.Prelude.{ℕ, List, [], ◌∷◌, map, filter, codes, Result, Ok, Err}
+use Rattle.std.specs.Prelude.{ℕ, List, [], ◌∷◌, All, length, map, filter, codes, Result, Ok, Err}
 use Rattle.std.specs.List.{fold}
 use Rattle.std.specs.Str.{str_eq_ignore_ascii_case}
 use Rattle.http_header.specs.FieldName.{IsFieldName}
 use Rattle.http_header.specs.FieldValue.{FieldValue, IsFieldValue, plain_value}
 use Rattle.http_header.specs.HeaderMap.{Entries, append, get_all}
 use Rattle.http_header.specs.Token.{lowercase}
-use Rattle.httparse.specs.Spans.{header_bytes}
+use Rattle.httparse.specs.Spans.{header_bytes, IsHeaderWithin}
 use Rattle.httparse.specs.declared.spans.HeaderSpan.{HeaderSpan}
 use Rattle.land_core.specs.declared.caller.Caller.{Caller}
 use Rattle.land_core.specs.declared.role.Role.{Role}
@@ -27,6 +27,10 @@ with_field fields field = append fields (lowercase field.0) (plain_value field.1
 -- the header map of the fields of a head, each a name and a value
 abbrev pub field_map : List (List ℕ × List ℕ) → Entries FieldValue
 field_map fields = fold with_field [] fields
+
+-- the spans of the fields lie within the head
+abbrev pub AreWithin : (head : List ℕ) → List HeaderSpan → Type 0
+AreWithin head fields = All (IsHeaderWithin (length head)) fields
 
 -- the header map of the fields at these spans of a head
 abbrev pub fields_at : (head : List ℕ) → List HeaderSpan → Entries FieldValue

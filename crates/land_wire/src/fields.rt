@@ -1,12 +1,11 @@
 //! Header fields: builds a header map, and reads the caller from it or from the head itself.
-ghost use Rattle.std.specs.Prelude.{◌≡◌, OnOk, OnErr, All, length};
+ghost use Rattle.std.specs.Prelude.{◌≡◌, OnOk, OnErr};
 ghost use Rattle.std.specs.Result.{IsErrOf};
 ghost use Rattle.http_header.specs.FieldName.{IsFieldName};
 ghost use Rattle.http_header.specs.FieldValue.{IsFieldValue};
 ghost use Rattle.http_header.specs.HeaderMap.{RefusesAppend, get_all};
 ghost use Rattle.http_header.specs.Token.{lowercase};
-ghost use Rattle.httparse.specs.Spans.{IsHeaderWithin};
-ghost use Rattle.land_wire.specs.Fields.{caller_in, fields_at, only_value, party_in, role_in, with_field};
+ghost use Rattle.land_wire.specs.Fields.{AreWithin, caller_in, fields_at, only_value, party_in, role_in, with_field};
 ghost use Rattle.land_wire_json.specs.Bodies.WireFaults.{seen_by};
 
 use crate::framing::named::{Occurrence, look_up};
@@ -96,7 +95,7 @@ pub fn read_role(fields: &HeaderMap) -> Result<Role, WireFault>
 /// Reads the caller from the fields at these spans of a head, with the errors of `read_caller`. It builds no
 /// map.
 pub fn caller_at(head: &[u8], fields: &[HeaderSpan]) -> Result<Caller, WireFault>
-    requires { All (IsHeaderWithin (length head.now)) fields.now }
+    requires { AreWithin head.now fields.now }
     ensures { result ≡ caller_in (fields_at head.now fields.now) }
 {
     Ok(Caller {
@@ -106,21 +105,21 @@ pub fn caller_at(head: &[u8], fields: &[HeaderSpan]) -> Result<Caller, WireFault
 }
 
 fn party_at(head: &[u8], fields: &[HeaderSpan]) -> Result<u64, WireFault>
-    requires { All (IsHeaderWithin (length head.now)) fields.now }
+    requires { AreWithin head.now fields.now }
     ensures { result ≡ party_in (fields_at head.now fields.now) }
 {
     read_number(value_at(head, fields, "register-party")?)
 }
 
 fn role_at(head: &[u8], fields: &[HeaderSpan]) -> Result<Role, WireFault>
-    requires { All (IsHeaderWithin (length head.now)) fields.now }
+    requires { AreWithin head.now fields.now }
     ensures { result ≡ role_in (fields_at head.now fields.now) }
 {
     role_of(value_at(head, fields, "register-role")?)
 }
 
 fn value_at<'h>(head: &'h [u8], fields: &[HeaderSpan], name: &str) -> Result<&'h [u8], WireFault>
-    requires { All (IsHeaderWithin (length head.now)) fields.now }
+    requires { AreWithin head.now fields.now }
     ensures { seen_by (λ value. value.now) result
         ≡ only_value (get_all (fields_at head.now fields.now) (lowercase name.now)) }
 {

@@ -2,15 +2,12 @@
 ghost use Rattle.std.specs.Prelude.{◌≡◌};
 ghost use Rattle.land_wire.specs.Numbers.{decimal_in, moment_in, number_in};
 
-use land_core::limits::is_number;
+use land_core::limits::{LAST_MOMENT, is_number};
 use land_wire_json::bodies::decimals::read_digits;
 use land_wire_json::bodies::wire_fault::WireFault;
 
 /// The maximum number of digits of a number or a moment.
 const MOST_DIGITS: usize = 13;
-
-/// The last valid moment, the end of the year 2099 in UTC, in Unix milliseconds.
-const LAST_MOMENT: u64 = 4_102_444_799_999;
 
 /// Reads the number of an object: 1 to 13 decimal digits, leading zeros allowed, of a value from 1 to
 /// 1_000_000_000. Errors: 132 for any other text.
@@ -31,7 +28,7 @@ pub fn read_moment(text: &[u8]) -> Result<i64, WireFault>
     ensures { result ≡ moment_in text.now }
 {
     let value = read_decimal(text)?;
-    if LAST_MOMENT < value {
+    if LAST_MOMENT.unsigned_abs() < value {
         Err(WireFault::Number)
     } else {
         Ok(value as i64)

@@ -25,8 +25,7 @@ use land_wire_json::bodies::wire_fault::WireFault;
 use matchit::Router;
 use std::alloc::Global;
 
-/// Reads a request as `read_routed` does, with its own router. Errors: also 501 if there is no memory for the
-/// router.
+/// Reads a request as `read_routed` does, with its own router and with the same errors.
 pub fn read_request(
     alloc: Global,
     method: &[u8],

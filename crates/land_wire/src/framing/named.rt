@@ -1,7 +1,7 @@
 //! Finds the fields of a head by name, with their spans.
-ghost use Rattle.std.specs.Prelude.{◌≡◌, All, length, map};
-ghost use Rattle.httparse.specs.Spans.{IsHeaderWithin, header_bytes};
-ghost use Rattle.land_wire.specs.Fields.{values_named};
+ghost use Rattle.std.specs.Prelude.{◌≡◌, map};
+ghost use Rattle.httparse.specs.Spans.{header_bytes};
+ghost use Rattle.land_wire.specs.Fields.{AreWithin, values_named};
 ghost use Rattle.land_wire.specs.Framing.Frame.{IsOccurrence};
 
 use crate::words::is_word_in_any_case;
@@ -20,7 +20,7 @@ pub enum Occurrence {
 
 /// Finds the fields with a name, compared without case.
 pub fn look_up(head: &[u8], fields: &[HeaderSpan], name: &str) -> Occurrence
-    requires { All (IsHeaderWithin (length head.now)) fields.now }
+    requires { AreWithin head.now fields.now }
     ensures { IsOccurrence head.now (values_named name.now (map (header_bytes head.now) fields.now)) result }
 {
     let mut found = Occurrence::Absent;
