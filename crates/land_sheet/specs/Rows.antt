@@ -103,7 +103,7 @@ IsBetweenRows writer =
     (writer_setup writer ≡ default_writer) × (fields_written writer ≡ 0) × (has_written writer ≡ false)
 
 -- a call that succeeds writes these rows; if it runs out of memory, a part of them may be missing
-abbrev pub WritesRows : {W E : Type 0} → (W → Option (List ℕ)) → Result (Unit {0}) E → (old new : Writer W)
+abbrev pub WritesRows : {W T E : Type 0} → (W → Option (List ℕ)) → Result T E → (old new : Writer W)
     → List ℕ → Type 0
 WritesRows contents result old new rows =
     OnOk result (Appends (text_written contents old) (text_written contents new) rows)
