@@ -1,4 +1,4 @@
--- Objects that are given one at a time, and what of them is written.
+-- Objects that are returned one at a time, and the rows written for them.
 use Rattle.std.proofs.Common.{◌≡◌, ◌<◌, ◌≤◌, ◌+◌, ◌-◌, ℕ, List, [], ◌∷◌, ◌++◌, length, drop, take, get_or, Option, Some, None, Result, Ok, Err, refl, sym, ap, ap₂, subst, ◌∙◌, arith, append-nil, append_assoc}
 use Rattle.std.specs.List.{slice_range}
 use Rattle.std.specs.Prelude.{IfOk, IsErrAnd, IsSome}
@@ -27,7 +27,7 @@ use Rattle.land_streams.specs.Writing.{IsFront, IsWhole}
 
 -- ---- one at a time
 
--- of what is listed under one number the last is all there is
+-- the list of one number has at most one object, which is the last one
 one_popped : {A : Type 0} (items rest : List A) (given popped : Option A) → items ≡ option_to_list given ++ [] → items ≡ rest ++ option_to_list popped → rest ≡ take (length items - 1) items
     → popped ≡ given
 one_popped items rest None None is parts kept = refl
@@ -50,7 +50,7 @@ one_popped items rest (Some it) (Some that) is parts kept =
     same : it ∷ [] ≡ that ∷ [] → Some that ≡ Some it
     same e = cc
 
--- what is listed under one number is what stands there
+-- the list of one number is the object with that number
 one_named : (r : Register) (k : Kind) (n : ℕ) → objects_at r k (n ∷ []) ≡ option_to_list (told_at r k n) ++ []
 one_named r k n = ap (λ l. l ++ []) (by_object (object_at r k n))
   where
@@ -58,12 +58,12 @@ one_named r k n = ap (λ l. l ++ []) (by_object (object_at r k n))
     by_object None = refl
     by_object (Some it) = refl
 
--- so it is told
+-- likewise for the returned object
 pub one_told : (r : Register) (k : Kind) (n : ℕ) (items rest : List NamedObject) (popped : Option NamedObject) → items ≡ objects_at r k (n ∷ []) → items ≡ rest ++ option_to_list popped
     → rest ≡ take (length items - 1) items → popped ≡ told_at r k n
 one_told r k n items rest popped is parts kept = one_popped items rest (told_at r k n) popped (is ∙ one_named r k n) parts kept
 
--- what stands under the first number is given
+-- the object with the first number is returned
 pub first_given : (r : Register) (k : Kind) (numbers : List ℕ) (given number : ℕ) → given < length numbers → number ≡ get_or numbers given 0 → AllStand r k (drop given numbers)
     → Gives r k (drop given numbers) (told_at r k number)
 first_given r k numbers given number inside is stand =
@@ -75,7 +75,7 @@ first_given r k numbers given number inside is stand =
     by_object None e stands = absurd (false≢true stands)
     by_object (Some it) e stands = ap (λ (o : Option Object). option_map (named r) o) e
 
--- so it is where the store does not fail
+-- likewise if the store is honest
 pub result_given : (r : Register) (k : Kind) (numbers : List ℕ) (given number : ℕ) (result : Result (Option NamedObject) StoreFault) → given < length numbers
     → number ≡ get_or numbers given 0 → AllStand r k (drop given numbers) → IfOk result (λ row. row ≡ told_at r k number) → IfOk result (Gives r k (drop given numbers))
 result_given r k numbers given number (Ok row) inside is stand made =
@@ -84,7 +84,7 @@ result_given r k numbers given number (Err fault) inside is stand made = tt
 
 -- ---- the rows of a list
 
--- a party has its row without its members and roles
+-- the row of a party does not depend on its members and roles
 row_listed : (it : Object) (name : List ℕ) → object_row (listed it) name ≡ object_row it name
 unfolding Rattle.land_sheet.specs.Rows.party_fields
 row_listed (object.Party it) name = refl
@@ -101,30 +101,30 @@ one_row r (Some it) = append-nil (object_row (listed it) (name_beside r it)) ∙
 abbrev row_text_of : NamedObject → List ℕ
 row_text_of it = object_row it.object it.name
 
--- the rows of what is listed under some numbers
+-- the rows of the listed objects with some numbers
 pub rows_listed : (r : Register) (k : Kind) (numbers : List ℕ) → rows_of (objects_at r k numbers) ≡ rows_at r k numbers
 rows_listed r k [] = refl
 rows_listed r k (n ∷ ns) =
     flat_map-append row_text_of (named_at r k n) (objects_at r k ns) ∙ ap₂ (λ (a b : List ℕ). a ++ b) (one_row r (object_at r k n)) (rows_listed r k ns)
 
--- the rows from a place on are those up to another one, and those from there on
+-- the rows from an index on are those up to another index, and those from there on
 rows_parted : (r : Register) (k : Kind) (numbers : List ℕ) (given end : ℕ) → given ≤ end → rows_at r k (drop given numbers) ≡ rows_at r k (slice_range numbers given end) ++ rows_at r k (drop end numbers)
 rows_parted r k numbers given end below =
     ap (rows_at r k) (drop_split numbers given end below) ∙ flat_map-append (row_at r k) (slice_range numbers given end) (drop end numbers)
 
--- ---- what is written
+-- ---- the bytes written
 
--- rows are written and counted, and those of the numbers that are left make up the rest
+-- rows are written and counted, and the rows of the remaining numbers complete them
 pub record IsSoFar (all left : List ℕ) (before written : ℕ) (a b : Option (List ℕ)) : Type 0 where
   pub text : List ℕ
   pub parts : all ≡ text ++ left
   pub whole : IsWhole text before written a b
 
--- no row is written yet
+-- before the first row
 pub none_so_far : (all : List ℕ) (before : ℕ) (a : Option (List ℕ)) → IsSoFar all all before before a a
 none_so_far all before a = record { text = []; parts = refl; whole = (omega arith, Appends-nil a) }
 
--- more is written
+-- one more part is written
 pub more_so_far : (all more left : List ℕ) (before written after : ℕ) (a b c : Option (List ℕ)) → IsSoFar all (more ++ left) before written a b → IsWhole more written after b c
     → IsSoFar all left before after a c
 more_so_far all more left before written after a b c it put = record {
@@ -133,7 +133,7 @@ more_so_far all more left before written after a b c it put = record {
   whole = whole_then it.text more before written after a b c it.whole put;
 }
 
--- what is written more is cut short
+-- the next part is truncated
 pub cut : (all more left : List ℕ) (before written : ℕ) (a b c : Option (List ℕ)) (why : ExtractFault) → IsSoFar all (more ++ left) before written a b → IsPut more written b c (Err why)
     → IsPut all before a c (Err why)
 cut all more left before written a b c why it put = by_fault why put
@@ -149,22 +149,22 @@ cut all more left before written a b c why it put = by_fault why put
     by_fault (Denied rule) put = absurd put
     by_fault (Fault number) put = absurd put
 
--- so it is where that is told
+-- likewise for the returned error
 pub cut_told : (all more left : List ℕ) (before written : ℕ) (a b c : Option (List ℕ)) (told : Result ℕ ExtractFault) (why : ExtractFault) → IsErrAnd told (λ f. f ≡ why)
     → IsSoFar all (more ++ left) before written a b → IsPut more written b c (Err why) → IsPut all before a c told
 cut_told all more left before written a b c (Ok n) why is it put = absurd is
 cut_told all more left before written a b c (Err f) why is it put = subst (λ (g : ExtractFault). IsPut all before a c (Err g)) (sym is) (cut all more left before written a b c why it put)
 
--- no more is read, since the store failed
+-- the store failed, so the rest is not read
 pub stopped : (all left : List ℕ) (before written : ℕ) (a b : Option (List ℕ)) → IsSoFar all left before written a b → IsFront all before written a b
 stopped all left before written a b it =
     subst (λ (l : List ℕ). IsFront l before written a b) (sym it.parts) (whole_front it.text left before written a b it.whole)
 
--- nothing is left
+-- after the last row
 pub ended : (all : List ℕ) (before written : ℕ) (a b : Option (List ℕ)) → IsSoFar all [] before written a b → IsWhole all before written a b
 ended all before written a b it = subst (λ (l : List ℕ). IsWhole l before written a b) (sym (it.parts ∙ append-nil it.text)) it.whole
 
--- what is left begins with the part that is read
+-- the remaining numbers begin with the part that is read
 pub part_left : (r : Register) (k : Kind) (numbers : List ℕ) (given end before written : ℕ) (a b : Option (List ℕ)) (objects : List NamedObject) → given ≤ end
     → objects ≡ objects_at r k (slice_range numbers given end) → IsSoFar (rows_at r k numbers) (rows_at r k (drop given numbers)) before written a b
     → IsSoFar (rows_at r k numbers) (rows_of objects ++ rows_at r k (drop end numbers)) before written a b

@@ -1,4 +1,4 @@
--- Lemmas of sheets.
+-- Lemmas of sheets and extracts.
 pub mod ExtractRows
 pub mod OneDate
 pub mod Puts

@@ -1,4 +1,4 @@
--- Two dates of one day are one.
+-- A day has exactly one date.
 use Rattle.std.proofs.Common.{◌≡◌, ℕ, ℤ, List, pos, sym, arith, inl, inr}
 use Rattle.std.proofs.lemmas.Bool.{cases_order}
 use Rattle.std.proofs.lemmas.Int.{by_lt_z}
@@ -48,7 +48,7 @@ one_date n a b h k =
 same_value : (f : CivilDate → List ℕ) (a b : List ℕ) (d e : CivilDate) → d ≡ e → a ≡ f d → b ≡ f e → a ≡ b
 same_value f a b d e same g h = cc
 
--- the sheet of a view is told by the date of its moment
+-- the date of a view's moment determines its sheet
 pub one_sheet : OneSheetLaw
 one_sheet view a b h k =
     let same = one_date (day_number (moment_of view)) h.date k.date h.date_is k.date_is in

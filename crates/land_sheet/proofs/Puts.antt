@@ -1,4 +1,4 @@
--- What is put of an extract whose list is given, and of one whose list is not.
+-- The bytes written of an extract, if its list is allowed and if it is not.
 use Rattle.std.proofs.Common.{◌≡◌, ℕ, List, ◌++◌, Option, Result, Ok, Err, inl, inr, arith, subst, sym}
 use Rattle.std.specs.Prelude.{IsErrAnd}
 use Rattle.std.proofs.KnownBytes.{Appends-nil}
@@ -9,7 +9,7 @@ use Rattle.land_sheet.specs.declared.extracts.fault.ExtractFault.TheVariants.{De
 use Rattle.land_streams.proofs.Fronts.{front_then, whole_then}
 use Rattle.land_streams.specs.Writing.{IsWhole}
 
--- a text is put behind another one
+-- a text is written after another one
 pub put_then : (text more : List ℕ) (i j : ℕ) (a b c : Option (List ℕ)) (r : Result ℕ ExtractFault) → IsWhole text i j a b → IsPut more j b c r → IsPut (text ++ more) i a c r
 put_then text more i j a b c (Ok k) first second = whole_then text more i j k a b c first second
 put_then text more i j a b c (Err (Write k)) first second = front_then text more i j k a b c first second
@@ -17,7 +17,7 @@ put_then text more i j a b c (Err (Store fault k)) first second = front_then tex
 put_then text more i j a b c (Err (Denied rule)) first second = absurd second
 put_then text more i j a b c (Err (Fault number)) first second = absurd second
 
--- what is put of the extract of a list that is given
+-- the bytes written if the list is allowed
 pub extracted : (list : Reply) (text : List ℕ) (a b : Option (List ℕ)) (r : Result ℕ ExtractFault) → Lists list → IsPut text 0 a b r → IsExtracted list text a b r
 extracted list text a b (Ok n) lists put = (lists, put)
 extracted list text a b (Err (Write n)) lists put = (lists, put)
@@ -25,14 +25,14 @@ extracted list text a b (Err (Store fault n)) lists put = (inl lists, put)
 extracted list text a b (Err (Denied rule)) lists put = absurd put
 extracted list text a b (Err (Fault number)) lists put = absurd put
 
--- where no list is given nothing is written
+-- the bytes written if it is not: none
 pub not_listed : (list : Reply) (text : List ℕ) (a : Option (List ℕ)) (why : ExtractFault) → IsListed list (Err why) → IsExtracted list text a a (Err why)
 not_listed list text a (Denied rule) so = (so, Appends-nil a)
 not_listed list text a (Fault number) so = (so, Appends-nil a)
 not_listed list text a (Store fault n) so = (inr so, (0, omega arith, so, Appends-nil a))
 not_listed list text a (Write n) so = absurd so
 
--- so it is where that is told
+-- likewise for the returned error
 pub not_told : (list : Reply) (text : List ℕ) (a : Option (List ℕ)) (r : Result ℕ ExtractFault) (why : ExtractFault) → IsErrAnd r (λ f. f ≡ why)
     → IsListed list (Err why) → IsExtracted list text a a r
 not_told list text a (Ok n) why is so = absurd is

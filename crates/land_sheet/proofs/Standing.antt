@@ -1,4 +1,4 @@
--- What a caller sees stands.
+-- Each object that a caller sees exists.
 use Rattle.std.proofs.Common.{◌≡◌, ℕ, true, false, ◌||◌, List, [], ◌∷◌, Option, Some, None, refl, sym, ap, ◌∙◌}
 use Rattle.std.specs.Prelude.{IsSome, is_some, nat_eq}
 use Rattle.std.specs.FinMap as map
@@ -24,7 +24,7 @@ mapped : {A B : Type 0} (f : A → B) (o : Option A) → is_some (option_map f o
 mapped f None = refl
 mapped f (Some x) = refl
 
--- what stands is shown as an object
+-- an existing object is shown
 object_stands : (r : Register) (k : Kind) (n : ℕ) → is_some (object_at r k n) ≡ stands r k n
 object_stands r kind.Party n = mapped object.Party (party_at r n) ∙ mapped _ (map.get r.parties n)
 object_stands r kind.Unit n = mapped object.Unit (unit_at r n) ∙ mapped _ (map.get r.units n)
@@ -33,7 +33,7 @@ object_stands r kind.Rrr n = mapped object.Rrr (rrr_at r n) ∙ mapped _ (map.ge
 object_stands r kind.Source n = mapped object.Source (source_at r n) ∙ mapped _ (map.get r.sources n)
 object_stands r kind.Mutation n = mapped object.Mutation (mutation_at r n) ∙ mapped _ (map.get r.mutations n)
 
--- a rule denies the view of what does not stand
+-- a rule denies the view of an object that does not exist
 denies_absent : (at : Register) (caller : Caller) (k : Kind) (n : ℕ) → denies 27 (view_rules at caller k n) ≡ false → stands at k n ≡ true
 denies_absent at caller kind.Party n h = not-false _ (or_parts _ _ h).0
 denies_absent at caller kind.Unit n h = not-false _ (or_parts _ _ h).0
@@ -49,7 +49,7 @@ sees_what_stands at caller k n h = object_stands at k n ∙ denies_absent at cal
     allowed_from Allowed e = refl
     allowed_from (Denied k) e = absurd (false≢true e)
 
--- where all that is among some numbers stands, each of them does
+-- if each of some numbers exists, so does one of them
 each_stands : (r : Register) (k : Kind) (numbers : List ℕ) → ((n : ℕ) → list_any (nat_eq n) numbers ≡ true → IsSome (object_at r k n)) → AllStand r k numbers
 each_stands r k [] among = tt
 each_stands r k (number ∷ numbers) among = (
@@ -57,6 +57,6 @@ each_stands r k (number ∷ numbers) among = (
   each_stands r k numbers (λ n later. among n (ap (λ b. nat_eq n number || b) later ∙ or_true (nat_eq n number))),
 )
 
--- all that a caller sees stands
+-- each object that a caller sees exists
 pub all_stand : (r : Register) (caller : Caller) (k : Kind) → AllStand r k (seen_of r caller k)
 all_stand r caller k = each_stands r k (seen_of r caller k) (λ n among. sees_what_stands r caller k n (sym ((seen_exactly r caller k).exact n) ∙ among))

@@ -10,24 +10,25 @@ pub record CivilDate : Type 0 where
   pub month : ℕ
   pub day : ℕ
 
--- the calendar has the date, and it is so many days after 1 January 1970
+-- the date is valid, and is this number of days after 1 January 1970
 pub record IsDateOf (number : ℕ) (date : CivilDate) : Type 0 where
   pub in_calendar : IsCivilDate date.year date.month date.day
   pub number_is : days_from_civil date.year date.month date.day ≡ pos number
 
--- the date as the calendar's crate keeps it
+-- the date of a value of the calendar crate
 abbrev pub parts_of : Date → CivilDate
 parts_of date = record { year = date.year; month = date.month; day = date.day }
 
--- how many whole days lie between the start of 1970 and a moment
+-- the number of whole days from the start of 1970 to a moment
 abbrev pub day_number : (moment : ℕ) → ℕ
 day_number moment = moment / 86400000
 
 -- `YYYY-MM-DD`
 abbrev pub date_text : CivilDate → List ℕ
-date_text date = zeros 4 (unsigned_abs date.year) ++ (codes "-" ++ (zeros 2 date.month ++ (codes "-" ++ zeros 2 date.day)))
+date_text date =
+    zeros 4 (unsigned_abs date.year) ++ (codes "-" ++ (zeros 2 date.month ++ (codes "-" ++ zeros 2 date.day)))
 
--- `HH:MM:SS.mmm`: what of the moment lies after the start of its day, in hours, minutes, seconds and milliseconds
+-- `HH:MM:SS.mmm`: the time since the start of the day, in hours, minutes, seconds and milliseconds
 abbrev pub time_text : (moment : ℕ) → List ℕ
 time_text moment =
     zeros 2 (moment / 3600000 % 24) ++ (codes ":" ++ (zeros 2 (moment / 60000 % 60) ++ (codes ":"

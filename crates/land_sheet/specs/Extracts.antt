@@ -1,6 +1,7 @@
--- Extracts: the names of a kind's columns, then the row of each object that a caller sees at a moment.
+-- Extracts: the names of a kind's columns, then a row for each object that a caller sees at a moment.
 pub mod Left
 pub mod Seeing
+pub mod Timelines
 pub mod Writing
 use Rattle.std.specs.Prelude.{ℕ, ℤ, List, [], ◌++◌, Option}
 use Rattle.std.specs.List.{flat_map}
@@ -17,18 +18,19 @@ use Rattle.land_keep.specs.declared.reply.Reply.{Reply}
 use Rattle.land_rules.specs.Rules.{seen_of}
 use Rattle.land_sheet.specs.Rows.{header_text, object_row}
 
--- the row of what stands under a number, of an entry with what its party is called; of what does not stand there is none
+-- the row of the object with a number, of an entry with the name of its party; empty if the object does not
+-- exist
 abbrev pub row_at : Register → Kind → (number : ℕ) → List ℕ
 row_at r k number = option_map_or (λ it. object_row it (name_beside r it)) (object_at r k number) []
 
--- the rows of some objects, one after another
+-- the rows of these objects in order
 abbrev pub rows_at : Register → Kind → List ℕ → List ℕ
 rows_at r k numbers = flat_map (row_at r k) numbers
 
--- the extract of a kind: its header, and the rows of all that the caller sees, ascending
+-- the extract of a kind: its header, and the rows of all objects that the caller sees, by increasing number
 abbrev pub extract_of : Register → Caller → Kind → List ℕ
 extract_of r caller k = header_text k ++ rows_at r k (seen_of r caller k)
 
--- what the register machine replies to the list of the kind
+-- the reply of the model to the list of the kind
 abbrev pub list_reply : (clock : ℤ) → Caller → Kind → (at : Option ℤ) → Timeline → Reply
 list_reply clock caller k at tl = (step clock (record { caller = caller; ask = ask.List k at }) tl).0

@@ -1,4 +1,5 @@
 -- Definitions of sheets and extracts.
+pub mod Appending
 pub mod Areas
 pub mod Dates
 pub mod Extracts

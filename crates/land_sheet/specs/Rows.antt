@@ -1,7 +1,9 @@
--- Extracts: the columns of each kind, and the fields of an object in them. A field that an object lacks is empty.
-use Rattle.std.specs.Prelude.{◌≡◌, List, [], ◌∷◌, ◌++◌, ℕ, codes, decimal, false}
+-- Extracts: the columns of each kind, and the fields of an object. A field that an object lacks is empty.
+use Rattle.std.specs.Prelude.{◌≡◌, List, [], ◌∷◌, ◌++◌, ℕ, codes, decimal, false, OnOk, Option, Result}
+use Rattle.std.specs.Io.KnownBytes.{Appends}
 use Rattle.std.specs.Fmt.{signed_decimal}
-use Rattle.csv.specs.Writing.{default_writer, fields_written, has_written, row_text, writer_setup}
+use Rattle.csv.specs.Writing.{default_writer, fields_written, has_written, row_text, text_written}
+use Rattle.csv.specs.Writing.{writer_setup}
 use Rattle.csv.specs.declared.writer.Writer.{Writer}
 use Rattle.land_core.specs.Words.{act_word, class_word, party_word, source_word, state_word}
 use Rattle.land_core.specs.declared.kind.Kind.{Kind}
@@ -28,13 +30,16 @@ abbrev pub columns_of : Kind → List (List ℕ)
 columns_of kind.Party = codes "number" ∷ codes "name" ∷ codes "kind" ∷ []
 columns_of kind.Unit = codes "number" ∷ codes "name" ∷ codes "checked" ∷ []
 columns_of kind.Parcel =
-    codes "number" ∷ codes "unit" ∷ codes "label" ∷ codes "square_metres" ∷ codes "outline" ∷ codes "source" ∷ []
+    codes "number" ∷ codes "unit" ∷ codes "label" ∷ codes "square_metres" ∷ codes "outline"
+    ∷ codes "source" ∷ []
 columns_of kind.Rrr =
-    codes "number" ∷ codes "unit" ∷ codes "party" ∷ codes "name" ∷ codes "class" ∷ codes "share" ∷ codes "amount"
+    codes "number" ∷ codes "unit" ∷ codes "party" ∷ codes "name" ∷ codes "class" ∷ codes "share"
+    ∷ codes "amount"
     ∷ codes "currency" ∷ codes "rank" ∷ codes "words" ∷ codes "source" ∷ []
 columns_of kind.Source = codes "number" ∷ codes "kind" ∷ codes "title" ∷ []
 columns_of kind.Mutation =
-    codes "number" ∷ codes "lodger" ∷ codes "reference" ∷ codes "source" ∷ codes "lodged" ∷ codes "act" ∷ codes "state" ∷ []
+    codes "number" ∷ codes "lodger" ∷ codes "reference" ∷ codes "source" ∷ codes "lodged" ∷ codes "act"
+    ∷ codes "state" ∷ []
 
 unfoldable pub party_fields : Party → List (List ℕ)
 party_fields party = decimal party.number ∷ party.name ∷ party_word party.kind ∷ []
@@ -46,19 +51,19 @@ unit_fields unit = decimal unit.number ∷ unit.name ∷ checked_word unit.check
 unfoldable pub parcel_start : Parcel → List (List ℕ)
 parcel_start parcel = decimal parcel.number ∷ decimal parcel.unit ∷ parcel.label ∷ []
 
--- the square metres of an outline, and the outline in well-known text
+-- the square metres of an outline, and the outline as well-known text
 unfoldable pub outline_fields : (ring : List Place) → List (List ℕ)
 outline_fields ring = square_metres (doubled_area ring) ∷ printed ring ∷ []
 
 unfoldable pub parcel_fields : Parcel → List (List ℕ)
 parcel_fields parcel = parcel_start parcel ++ (outline_fields parcel.outline ++ (decimal parcel.source ∷ []))
 
--- the fields before those of its class: of an entry with the name of its party
+-- the fields of an entry before those of its class, with the name of its party
 unfoldable pub entry_start : Rrr → (name : List ℕ) → List (List ℕ)
 entry_start entry name =
     decimal entry.number ∷ decimal entry.unit ∷ decimal entry.party ∷ name ∷ class_word entry.class ∷ []
 
--- share, amount, currency, rank and words, each where the class has it
+-- share, amount, currency, rank and words, each empty if the class lacks it
 abbrev pub class_fields : Class → List (List ℕ)
 class_fields (Right type share) = text_of share ∷ [] ∷ [] ∷ [] ∷ [] ∷ []
 class_fields (Restriction words) = [] ∷ [] ∷ [] ∷ [] ∷ words ∷ []
@@ -76,7 +81,7 @@ mutation_fields mutation =
     decimal mutation.number ∷ decimal mutation.lodger ∷ mutation.reference ∷ decimal mutation.source
     ∷ signed_decimal mutation.lodged ∷ act_word mutation.content ∷ state_word mutation.state ∷ []
 
--- the fields of an object, an entry with the name of its party
+-- the fields of an object; the name is only for an entry
 abbrev pub fields_of : Object → (name : List ℕ) → List (List ℕ)
 fields_of (shown.Party party) name = party_fields party
 fields_of (shown.Unit unit) name = unit_fields unit
@@ -85,13 +90,20 @@ fields_of (shown.Rrr entry) name = rrr_fields entry name
 fields_of (shown.Source source) name = source_fields source
 fields_of (shown.Mutation mutation) name = mutation_fields mutation
 
--- the first row of an extract, and the row of an object, each ended by a line feed
+-- the first row of an extract, and the row of an object; each ends with a line feed
 abbrev pub header_text : Kind → List ℕ
 header_text kind = row_text default_writer (columns_of kind)
 
 abbrev pub object_row : Object → (name : List ℕ) → List ℕ
 object_row it name = row_text default_writer (fields_of it name)
 
--- a writer with the default settings that has begun no row that is not ended
+-- a writer with the default settings that is not inside a row
 abbrev pub IsBetweenRows : {W : Type 0} → Writer W → Type 0
-IsBetweenRows writer = (writer_setup writer ≡ default_writer) × (fields_written writer ≡ 0) × (has_written writer ≡ false)
+IsBetweenRows writer =
+    (writer_setup writer ≡ default_writer) × (fields_written writer ≡ 0) × (has_written writer ≡ false)
+
+-- a call that succeeds writes these rows; if it runs out of memory, a part of them may be missing
+abbrev pub WritesRows : {W T E : Type 0} → (W → Option (List ℕ)) → Result T E → (old new : Writer W)
+    → List ℕ → Type 0
+WritesRows contents result old new rows =
+    OnOk result (Appends (text_written contents old) (text_written contents new) rows)

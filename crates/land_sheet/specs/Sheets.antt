@@ -1,5 +1,6 @@
--- Title sheets: the lines in order, each with the line feed that ends it.
-use Rattle.std.specs.Prelude.{◌≡◌, ◌++◌, Bool, true, false, List, [], ◌∷◌, ℕ, codes, decimal, length, unsigned_abs}
+-- Title sheets: the lines in order, each with its line feed.
+use Rattle.std.specs.Prelude.{◌≡◌, ◌++◌, Bool, true, false, List, [], ◌∷◌, ℕ, codes, decimal, length}
+use Rattle.std.specs.Prelude.{unsigned_abs}
 use Rattle.land_core.specs.Words.{class_word}
 use Rattle.land_core.specs.declared.parcel.Parcel.{Parcel}
 use Rattle.land_core.specs.declared.rrr.Class.{Class}
@@ -18,11 +19,11 @@ use Rattle.land_sheet.specs.Widths.{number_right, text_left, text_right}
 unfoldable pub title_line : List ℕ
 title_line = codes "TITLE SHEET\n"
 
--- the unit by its number and its name
+-- the unit, by its number and its name
 unfoldable pub unit_line : Unit → List ℕ
 unit_line unit = codes "Unit " ++ (decimal unit.number ++ (codes " " ++ (unit.name ++ codes "\n")))
 
--- the moment that was asked for: a date, and a time of that day
+-- the requested time: a date, and a time of that day
 unfoldable pub date_part : CivilDate → List ℕ
 date_part date = codes "At " ++ (date_text date ++ codes "T")
 
@@ -32,12 +33,12 @@ time_part moment = time_text moment ++ codes "Z\n"
 unfoldable pub moment_line : CivilDate → (moment : ℕ) → List ℕ
 moment_line date moment = date_part date ++ time_part moment
 
--- whether the shares of each type of right have to make a whole
+-- the shares of each type of right must sum to 1, if shares are checked
 abbrev pub checked_line : Bool → List ℕ
 checked_line true = codes "Shares checked\n"
 checked_line false = codes "Shares unchecked\n"
 
--- the square metres of all parcels together
+-- the total area of the parcels in square metres
 unfoldable pub area_line : List Parcel → List ℕ
 area_line parcels = codes "Area " ++ (square_metres (doubled_areas parcels) ++ codes "\n")
 
@@ -49,7 +50,8 @@ parcel_count_line parcels = codes "Parcels " ++ (decimal (length parcels) ++ cod
 -- a parcel: its number, its square metres, its label
 unfoldable pub parcel_line : Parcel → List ℕ
 parcel_line parcel =
-    number_right 10 parcel.number ++ (codes "  " ++ (text_right 20 (square_metres (doubled_area parcel.outline))
+    number_right 10 parcel.number ++ (codes "  "
+    ++ (text_right 20 (square_metres (doubled_area parcel.outline))
     ++ (codes "  " ++ (parcel.label ++ codes "\n"))))
 
 abbrev pub parcel_lines : List Parcel → List ℕ
@@ -61,20 +63,22 @@ parcel_lines (parcel ∷ parcels) = parcel_line parcel ++ parcel_lines parcels
 unfoldable pub entry_count_line : List NamedRrr → List ℕ
 entry_count_line entries = codes "Entries " ++ (decimal (length entries) ++ codes "\n")
 
--- what stands of an entry before what it says: its number, its class, the number and the name of its party
+-- an entry up to its content: its number, its class, the number and the name of its party
 unfoldable pub entry_start : NamedRrr → List ℕ
 entry_start entry =
-    number_right 10 entry.rrr.number ++ (codes "  " ++ (text_left 14 (class_word entry.rrr.class) ++ (codes "  "
+    number_right 10 entry.rrr.number ++ (codes "  " ++ (text_left 14 (class_word entry.rrr.class)
+    ++ (codes "  "
     ++ (number_right 10 entry.rrr.party ++ (codes " " ++ (entry.name ++ codes ": "))))))
 
--- what an entry says: the share of a right, the words of a restriction or a responsibility, the rank, the currency and the
--- amount of a mortgage
+-- the content of an entry: the share of a right, the words of a restriction or a responsibility, the rank,
+-- the currency and the amount of a mortgage
 abbrev pub class_end : Class → List ℕ
 class_end (Right type share) = text_of share ++ codes "\n"
 class_end (Restriction words) = words ++ codes "\n"
 class_end (Responsibility words) = words ++ codes "\n"
 class_end (Mortgage amount currency rank) =
-    codes "rank " ++ (decimal rank ++ (codes " " ++ (currency ++ (codes " " ++ (decimal amount ++ codes "\n")))))
+    codes "rank " ++ (decimal rank ++ (codes " " ++ (currency ++ (codes " "
+    ++ (decimal amount ++ codes "\n")))))
 
 unfoldable pub entry_line : NamedRrr → List ℕ
 entry_line entry = entry_start entry ++ class_end entry.rrr.class
@@ -107,7 +111,7 @@ unfoldable pub sheet_text : View → CivilDate → (moment : ℕ) → List ℕ
 sheet_text view date moment =
     head_lines view.unit date moment ++ (parcel_part view.parcels ++ (entry_part view.rrrs ++ end_line))
 
--- a text is the sheet of a view: that with its moment, and with the date on which this lies
+-- the text is the sheet of a view, with the view's moment and its date
 pub record IsSheet (view : View) (text : List ℕ) : Type 0 where
   pub date : CivilDate
   pub date_is : IsDateOf (day_number (moment_of view)) date

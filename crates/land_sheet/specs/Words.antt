@@ -1,7 +1,7 @@
--- The words of sheets and extracts.
+-- Words of sheets and extracts.
 use Rattle.std.specs.Prelude.{Bool, true, false, List, ℕ, codes}
 
--- whether the shares of a unit are checked
+-- `yes` if the shares of a unit are checked
 abbrev pub checked_word : Bool → List ℕ
 checked_word true = codes "yes"
 checked_word false = codes "no"

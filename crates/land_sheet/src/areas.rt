@@ -5,7 +5,7 @@ ghost use Rattle.land_sheet.specs.Areas.{doubled_areas, square_metres};
 use land_core::parcel::Parcel;
 use std::alloc::{AllocError, Global};
 
-/// Twice the area of parcels together, in square millimetres: the exact sum, which never wraps.
+/// Returns twice the total area of parcels, in square millimetres. The sum is exact: it cannot overflow.
 pub(crate) fn doubled_areas(parcels: &[Parcel]) -> u128
     ensures sum { result ≡ doubled_areas parcels.now }
     ensures bounded { result ≤ 2 ^ 64 * 1000000000000000000 }
@@ -19,7 +19,8 @@ pub(crate) fn doubled_areas(parcels: &[Parcel]) -> u128
 }
 
 #[tactic(auto, unfolding(crate::specs::Areas::square_metres))]
-/// An area in square metres with seven decimals, from its double in square millimetres; an error is a want of memory.
+/// Returns an area in square metres with seven decimals, from twice the area in square millimetres. The only
+/// error is out of memory.
 pub(crate) fn square_metres(alloc: Global, doubled: u128) -> Result<String, AllocError>
     requires { doubled ≤ 2 ^ 64 * 1000000000000000000 }
     ensures { IfOk result (λ text. string_bytes text ≡ square_metres doubled) }

@@ -1,4 +1,4 @@
-//! Extracts: what a caller sees of a kind, as rows that are given one at a time, and as text that is written as they are made.
+//! Extracts: the objects of a kind that a caller sees, returned row by row, or written as CSV part by part.
 
 pub mod extract;
 pub mod fault;

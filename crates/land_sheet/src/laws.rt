@@ -1,12 +1,12 @@
-//! Laws, each stated over the definitions alone.
+//! Laws, each stated with definitions only.
 ghost use Rattle.land_sheet.specs.Laws.{OneDateLaw, OneSheetLaw};
 
-/// No day has two dates.
+/// A day has exactly one date.
 pub fn dates_are_unique()
     ensures { OneDateLaw }
 {}
 
-/// No view has two sheets.
+/// A view has exactly one sheet.
 pub fn sheets_are_unique()
     ensures { OneSheetLaw }
 {}

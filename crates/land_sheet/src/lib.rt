@@ -1,4 +1,4 @@
-//! Title sheets of units, and the rows of extracts, as exact text.
+//! Writes title sheets of units, and the rows of extracts.
 #![tactic(auto)]
 
 pub mod areas;

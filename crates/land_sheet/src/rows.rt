@@ -1,14 +1,19 @@
-//! The rows of extracts, as the writer of `csv` writes them with its default settings.
-ghost use Rattle.std.specs.Io.KnownBytes.{Appends};
-ghost use Rattle.std.specs.Prelude.{◌≡◌, ◌++◌, ◌∷◌, [], IfOk, OnOk, Some, decimal, map, string_bytes};
+//! Writes the rows of extracts with `csv` and its default settings.
+ghost use Rattle.std.specs.Prelude.{◌≡◌, ◌∷◌, [], IfOk, OnOk, Some, decimal, map, string_bytes};
 ghost use Rattle.std.specs.Fmt.{signed_decimal};
 ghost use Rattle.csv.specs.Writing.{default_writer, row_text, text_written};
 ghost use Rattle.land_fraction.specs.Text.{text_of};
 ghost use Rattle.land_shape.specs.Outline.{doubled_area};
 ghost use Rattle.land_shape.specs.Printed.{printed};
+ghost use Rattle.land_sheet.specs.Appending.{AppendsFields};
 ghost use Rattle.land_sheet.specs.Areas.{square_metres};
 ghost use Rattle.land_sheet.specs.Extracts.Writing.{rows_of};
-ghost use Rattle.land_sheet.specs.Rows.{IsBetweenRows, class_fields, columns_of, entry_start, fields_of, header_text, mutation_fields, object_row, outline_fields, parcel_fields, parcel_start, party_fields, rrr_fields, source_fields, unit_fields};
+ghost use Rattle.land_sheet.specs.Rows.{IsBetweenRows, WritesRows, columns_of, fields_of, header_text};
+ghost use Rattle.land_sheet.specs.Rows.{object_row};
+ghost use Rattle.land_sheet.specs.Rows.{class_fields, entry_start, outline_fields, parcel_fields};
+ghost use Rattle.land_sheet.specs.Rows.{parcel_start};
+ghost use Rattle.land_sheet.specs.Rows.{mutation_fields, party_fields, rrr_fields, source_fields};
+ghost use Rattle.land_sheet.specs.Rows.{unit_fields};
 
 use crate::areas::square_metres;
 use crate::words::checked_word;
@@ -28,17 +33,18 @@ use land_shape::Ring;
 use std::alloc::{AllocError, Global};
 use std::io::Write;
 
-/// How many columns the rows of a kind have, at most.
+/// The maximum number of columns of a kind.
 const MOST_COLUMNS: usize = 11;
 
-/// The first row of an extract: the names of the columns of a kind, ended by a line feed. An error is a want of memory.
+/// Returns the first row of an extract, the names of a kind's columns, with its line feed. The only error is
+/// out of memory.
 pub fn csv_header(alloc: Global, kind: Kind) -> Result<Vec<u8>, AllocError>
     ensures { IfOk result (λ row. row.items ≡ header_text kind) }
 {
     row_bytes(alloc, columns_of(kind))
 }
 
-/// The names of the columns of a kind.
+/// Returns the names of a kind's columns.
 fn columns_of(kind: Kind) -> &'static [&'static [u8]]
     ensures { map (λ column. column.now) result.now ≡ columns_of kind }
 {
@@ -79,8 +85,8 @@ fn columns_of(kind: Kind) -> &'static [&'static [u8]]
     }
 }
 
-/// The row of an object, ended by a line feed. `name` is what the party of an entry is called; no other object shows it. An
-/// error is a want of memory.
+/// Returns the row of an object with its line feed. `name` is the name of an entry's party; rows of other
+/// objects do not contain it. The only error is out of memory.
 pub fn csv_row(alloc: Global, object: &Object, name: &str) -> Result<Vec<u8>, AllocError>
     ensures { IfOk result (λ row. row.items ≡ object_row object.now name.now) }
 {
@@ -89,7 +95,8 @@ pub fn csv_row(alloc: Global, object: &Object, name: &str) -> Result<Vec<u8>, Al
     written_by(writer)
 }
 
-/// The rows of some objects of one kind as they are listed, one after another, each ended by a line feed. An error is a want of memory.
+/// Returns the rows of objects of one kind in order, each with its line feed. The only error is out of
+/// memory.
 pub(crate) fn csv_rows(alloc: Global, rows: &[NamedObject]) -> Result<Vec<u8>, AllocError>
     ensures { IfOk result (λ text. text.items ≡ rows_of rows.now) }
 {
@@ -98,7 +105,7 @@ pub(crate) fn csv_rows(alloc: Global, rows: &[NamedObject]) -> Result<Vec<u8>, A
     written_by(writer)
 }
 
-/// A writer of rows that has written nothing.
+/// Returns a new writer of rows.
 fn row_writer(alloc: Global) -> Writer<Vec<u8>>
     ensures between { IsBetweenRows result }
     ensures nothing { text_written (λ v. Some v.items) result ≡ Some [] }
@@ -106,7 +113,7 @@ fn row_writer(alloc: Global) -> Writer<Vec<u8>>
     WriterBuilder::new().from_writer(Vec::new(alloc))
 }
 
-/// What a writer of rows has written.
+/// Returns the bytes that a writer of rows has written.
 fn written_by(writer: Writer<Vec<u8>>) -> Result<Vec<u8>, AllocError>
     ensures { IfOk result (λ text. text_written (λ v. Some v.items) writer ≡ Some text.items) }
 {
@@ -116,14 +123,14 @@ fn written_by(writer: Writer<Vec<u8>>) -> Result<Vec<u8>, AllocError>
     }
 }
 
-/// Writes the rows of some objects of one kind as they are listed, one after another.
+/// Writes the rows of objects of one kind in order.
 fn write_objects<W: Write + Drop>(
     writer: &mut Writer<W>,
     alloc: Global,
     rows: &[NamedObject],
 ) -> Result<(), AllocError>
     requires between { IsBetweenRows writer.old }
-    ensures text { OnOk result (Appends (text_written W.contents writer.old) (text_written W.contents writer.new) (rows_of rows.now)) }
+    ensures text { WritesRows W.contents result writer.old writer.new (rows_of rows.now) }
 {
     'rows: for row in rows {
         write_object(writer, alloc, &row.object, row.name.as_str())?;
@@ -139,7 +146,7 @@ fn write_object<W: Write + Drop>(
     name: &str,
 ) -> Result<(), AllocError>
     requires between { IsBetweenRows writer.old }
-    ensures text { OnOk result (Appends (text_written W.contents writer.old) (text_written W.contents writer.new) (object_row object.now name.now)) }
+    ensures text { WritesRows W.contents result writer.old writer.new (object_row object.now name.now) }
     ensures between { OnOk result (IsBetweenRows writer.new) }
 {
     let mut fields = Vec::with_capacity(alloc, MOST_COLUMNS)?;
@@ -154,7 +161,8 @@ fn write_texts<W: Write + Drop>(
     fields: &[String],
 ) -> Result<(), AllocError>
     requires between { IsBetweenRows writer.old }
-    ensures text { OnOk result (Appends (text_written W.contents writer.old) (text_written W.contents writer.new) (row_text default_writer (map string_bytes fields.now))) }
+    ensures text { WritesRows W.contents result writer.old writer.new
+        (row_text default_writer (map string_bytes fields.now)) }
     ensures between { OnOk result (IsBetweenRows writer.new) }
 {
     let mut lent: Vec<&[u8]> = Vec::with_capacity(alloc, MOST_COLUMNS)?;
@@ -167,7 +175,7 @@ fn write_texts<W: Write + Drop>(
     }
 }
 
-/// A row of fields.
+/// Returns a row of fields.
 fn row_bytes(alloc: Global, fields: &[&[u8]]) -> Result<Vec<u8>, AllocError>
     ensures { IfOk result (λ row. row.items ≡ row_text default_writer (map (λ field. field.now) fields.now)) }
 {
@@ -178,62 +186,62 @@ fn row_bytes(alloc: Global, fields: &[&[u8]]) -> Result<Vec<u8>, AllocError>
     written_by(writer)
 }
 
-/// A text as a field.
+/// Writes a text as a field.
 fn push_text(fields: &mut Vec<String>, alloc: Global, text: &str) -> Result<(), AllocError>
-    ensures { OnOk result (map string_bytes fields.new.items ≡ map string_bytes fields.old.items ++ text.now ∷ []) }
+    ensures { AppendsFields result fields.old fields.new (text.now ∷ []) }
 {
     fields.push(String::from_str(alloc, text)?)?;
     Ok(())
 }
 
-/// The decimal digits of a number as a field.
+/// Writes a decimal number as a field.
 fn push_number(fields: &mut Vec<String>, alloc: Global, number: u64) -> Result<(), AllocError>
-    ensures { OnOk result (map string_bytes fields.new.items ≡ map string_bytes fields.old.items ++ decimal number ∷ []) }
+    ensures { AppendsFields result fields.old fields.new (decimal number ∷ []) }
 {
     fields.push(format!(in alloc; "{number}")?)?;
     Ok(())
 }
 
-/// The decimal digits of a moment as a field.
+/// Writes a moment as a field, in decimal.
 fn push_moment(fields: &mut Vec<String>, alloc: Global, moment: i64) -> Result<(), AllocError>
-    ensures { OnOk result (map string_bytes fields.new.items ≡ map string_bytes fields.old.items ++ signed_decimal moment ∷ []) }
+    ensures { AppendsFields result fields.old fields.new (signed_decimal moment ∷ []) }
 {
     fields.push(format!(in alloc; "{moment}")?)?;
     Ok(())
 }
 
-/// A share as a field.
+/// Writes a share as a field.
 fn push_share(fields: &mut Vec<String>, alloc: Global, share: Fraction) -> Result<(), AllocError>
-    ensures { OnOk result (map string_bytes fields.new.items ≡ map string_bytes fields.old.items ++ text_of share ∷ []) }
+    ensures { AppendsFields result fields.old fields.new (text_of share ∷ []) }
 {
     fields.push(format!(in alloc; "{share}")?)?;
     Ok(())
 }
 
-/// The square metres of an outline as a field.
+/// Writes the square metres of an outline as a field.
 fn push_area(fields: &mut Vec<String>, alloc: Global, outline: &Ring) -> Result<(), AllocError>
-    ensures { OnOk result (map string_bytes fields.new.items ≡ map string_bytes fields.old.items ++ square_metres (doubled_area outline.now) ∷ []) }
+    ensures { AppendsFields result fields.old fields.new (square_metres (doubled_area outline.now) ∷ []) }
 {
     fields.push(square_metres(alloc, u128::from(outline.doubled_area()))?)?;
     Ok(())
 }
 
-/// An outline in well-known text as a field.
+/// Writes an outline as a field, as well-known text.
 fn push_outline(fields: &mut Vec<String>, outline: &Ring) -> Result<(), AllocError>
-    ensures { OnOk result (map string_bytes fields.new.items ≡ map string_bytes fields.old.items ++ printed outline.now ∷ []) }
+    ensures { AppendsFields result fields.old fields.new (printed outline.now ∷ []) }
 {
     fields.push(outline.write_wkt()?)?;
     Ok(())
 }
 
-/// The fields of an object.
+/// Writes the fields of an object.
 fn push_object(
     fields: &mut Vec<String>,
     alloc: Global,
     object: &Object,
     name: &str,
 ) -> Result<(), AllocError>
-    ensures { OnOk result (map string_bytes fields.new.items ≡ map string_bytes fields.old.items ++ fields_of object.now name.now) }
+    ensures { AppendsFields result fields.old fields.new (fields_of object.now name.now) }
 {
     match object {
         Object::Party(party) => push_party(fields, alloc, party),
@@ -247,7 +255,7 @@ fn push_object(
 
 #[tactic(auto, unfolding(crate::specs::Rows::party_fields))]
 fn push_party(fields: &mut Vec<String>, alloc: Global, party: &Party) -> Result<(), AllocError>
-    ensures { OnOk result (map string_bytes fields.new.items ≡ map string_bytes fields.old.items ++ party_fields party.now) }
+    ensures { AppendsFields result fields.old fields.new (party_fields party.now) }
 {
     push_number(fields, alloc, party.number)?;
     push_text(fields, alloc, party.name.as_str())?;
@@ -256,7 +264,7 @@ fn push_party(fields: &mut Vec<String>, alloc: Global, party: &Party) -> Result<
 
 #[tactic(auto, unfolding(crate::specs::Rows::unit_fields))]
 fn push_unit(fields: &mut Vec<String>, alloc: Global, unit: &Unit) -> Result<(), AllocError>
-    ensures { OnOk result (map string_bytes fields.new.items ≡ map string_bytes fields.old.items ++ unit_fields unit.now) }
+    ensures { AppendsFields result fields.old fields.new (unit_fields unit.now) }
 {
     push_number(fields, alloc, unit.number)?;
     push_text(fields, alloc, unit.name.as_str())?;
@@ -265,31 +273,31 @@ fn push_unit(fields: &mut Vec<String>, alloc: Global, unit: &Unit) -> Result<(),
 
 #[tactic(auto, unfolding(crate::specs::Rows::parcel_fields))]
 fn push_parcel(fields: &mut Vec<String>, alloc: Global, parcel: &Parcel) -> Result<(), AllocError>
-    ensures { OnOk result (map string_bytes fields.new.items ≡ map string_bytes fields.old.items ++ parcel_fields parcel.now) }
+    ensures { AppendsFields result fields.old fields.new (parcel_fields parcel.now) }
 {
     push_parcel_start(fields, alloc, parcel)?;
     push_extent(fields, alloc, &parcel.outline)?;
     push_number(fields, alloc, parcel.source)
 }
 
-/// The number, the unit and the label of a parcel.
+/// Writes the number, the unit and the label of a parcel.
 #[tactic(auto, unfolding(crate::specs::Rows::parcel_start))]
 fn push_parcel_start(
     fields: &mut Vec<String>,
     alloc: Global,
     parcel: &Parcel,
 ) -> Result<(), AllocError>
-    ensures { OnOk result (map string_bytes fields.new.items ≡ map string_bytes fields.old.items ++ parcel_start parcel.now) }
+    ensures { AppendsFields result fields.old fields.new (parcel_start parcel.now) }
 {
     push_number(fields, alloc, parcel.number)?;
     push_number(fields, alloc, parcel.unit)?;
     push_text(fields, alloc, parcel.label.as_str())
 }
 
-/// The square metres and the text of an outline.
+/// Writes the square metres and the text of an outline.
 #[tactic(auto, unfolding(crate::specs::Rows::outline_fields))]
 fn push_extent(fields: &mut Vec<String>, alloc: Global, outline: &Ring) -> Result<(), AllocError>
-    ensures { OnOk result (map string_bytes fields.new.items ≡ map string_bytes fields.old.items ++ outline_fields outline.now) }
+    ensures { AppendsFields result fields.old fields.new (outline_fields outline.now) }
 {
     push_area(fields, alloc, outline)?;
     push_outline(fields, outline)
@@ -302,14 +310,14 @@ fn push_rrr(
     entry: &Rrr,
     name: &str,
 ) -> Result<(), AllocError>
-    ensures { OnOk result (map string_bytes fields.new.items ≡ map string_bytes fields.old.items ++ rrr_fields entry.now name.now) }
+    ensures { AppendsFields result fields.old fields.new (rrr_fields entry.now name.now) }
 {
     push_entry_start(fields, alloc, entry, name)?;
     push_class(fields, alloc, &entry.class)?;
     push_number(fields, alloc, entry.source)
 }
 
-/// The fields of an entry before those of its class.
+/// Writes the fields of an entry before those of its class.
 #[tactic(auto, unfolding(crate::specs::Rows::entry_start))]
 fn push_entry_start(
     fields: &mut Vec<String>,
@@ -317,7 +325,7 @@ fn push_entry_start(
     entry: &Rrr,
     name: &str,
 ) -> Result<(), AllocError>
-    ensures { OnOk result (map string_bytes fields.new.items ≡ map string_bytes fields.old.items ++ entry_start entry.now name.now) }
+    ensures { AppendsFields result fields.old fields.new (entry_start entry.now name.now) }
 {
     push_number(fields, alloc, entry.number)?;
     push_number(fields, alloc, entry.unit)?;
@@ -326,9 +334,9 @@ fn push_entry_start(
     push_text(fields, alloc, class_word(&entry.class))
 }
 
-/// The share, the amount, the currency, the rank and the words, each empty where the class lacks it.
+/// Writes the share, the amount, the currency, the rank and the words, each empty if the class lacks it.
 fn push_class(fields: &mut Vec<String>, alloc: Global, class: &Class) -> Result<(), AllocError>
-    ensures { OnOk result (map string_bytes fields.new.items ≡ map string_bytes fields.old.items ++ class_fields class.now) }
+    ensures { AppendsFields result fields.old fields.new (class_fields class.now) }
 {
     match class {
         Class::Right { share, .. } => push_right(fields, alloc, *share),
@@ -344,7 +352,7 @@ fn push_class(fields: &mut Vec<String>, alloc: Global, class: &Class) -> Result<
 }
 
 fn push_right(fields: &mut Vec<String>, alloc: Global, share: Fraction) -> Result<(), AllocError>
-    ensures { OnOk result (map string_bytes fields.new.items ≡ map string_bytes fields.old.items ++ (text_of share ∷ [] ∷ [] ∷ [] ∷ [] ∷ [])) }
+    ensures { AppendsFields result fields.old fields.new (text_of share ∷ [] ∷ [] ∷ [] ∷ [] ∷ []) }
 {
     push_share(fields, alloc, share)?;
     push_text(fields, alloc, "")?;
@@ -354,7 +362,7 @@ fn push_right(fields: &mut Vec<String>, alloc: Global, share: Fraction) -> Resul
 }
 
 fn push_burden(fields: &mut Vec<String>, alloc: Global, words: &str) -> Result<(), AllocError>
-    ensures { OnOk result (map string_bytes fields.new.items ≡ map string_bytes fields.old.items ++ ([] ∷ [] ∷ [] ∷ [] ∷ words.now ∷ [])) }
+    ensures { AppendsFields result fields.old fields.new ([] ∷ [] ∷ [] ∷ [] ∷ words.now ∷ []) }
 {
     push_text(fields, alloc, "")?;
     push_text(fields, alloc, "")?;
@@ -370,7 +378,8 @@ fn push_mortgage(
     currency: &str,
     rank: u64,
 ) -> Result<(), AllocError>
-    ensures { OnOk result (map string_bytes fields.new.items ≡ map string_bytes fields.old.items ++ ([] ∷ decimal amount ∷ currency.now ∷ decimal rank ∷ [] ∷ [])) }
+    ensures { AppendsFields result fields.old fields.new
+        ([] ∷ decimal amount ∷ currency.now ∷ decimal rank ∷ [] ∷ []) }
 {
     push_text(fields, alloc, "")?;
     push_number(fields, alloc, amount)?;
@@ -381,7 +390,7 @@ fn push_mortgage(
 
 #[tactic(auto, unfolding(crate::specs::Rows::source_fields))]
 fn push_source(fields: &mut Vec<String>, alloc: Global, source: &Source) -> Result<(), AllocError>
-    ensures { OnOk result (map string_bytes fields.new.items ≡ map string_bytes fields.old.items ++ source_fields source.now) }
+    ensures { AppendsFields result fields.old fields.new (source_fields source.now) }
 {
     push_number(fields, alloc, source.number)?;
     push_text(fields, alloc, source_word(source.kind))?;
@@ -394,7 +403,7 @@ fn push_mutation(
     alloc: Global,
     mutation: &Mutation,
 ) -> Result<(), AllocError>
-    ensures { OnOk result (map string_bytes fields.new.items ≡ map string_bytes fields.old.items ++ mutation_fields mutation.now) }
+    ensures { AppendsFields result fields.old fields.new (mutation_fields mutation.now) }
 {
     push_number(fields, alloc, mutation.number)?;
     push_number(fields, alloc, mutation.lodger)?;

@@ -1,8 +1,15 @@
-//! Title sheets, line by line.
-ghost use Rattle.std.specs.Prelude.{◌≡◌, ◌++◌, IfOk, OnOk, string_bytes};
+//! Writes title sheets line by line.
+ghost use Rattle.std.specs.Prelude.{◌≡◌, IfOk, string_bytes};
 ghost use Rattle.land_keep.specs.Moments.{IsMoment};
+ghost use Rattle.land_sheet.specs.Appending.{AppendsText};
 ghost use Rattle.land_sheet.specs.Dates.{parts_of};
-ghost use Rattle.land_sheet.specs.Sheets.{IsSheet, area_line, checked_line, class_end, date_part, end_line, entry_count_line, entry_line, entry_lines, entry_part, entry_start, head_lines, moment_line, parcel_count_line, parcel_line, parcel_lines, parcel_part, sheet_text, time_part, title_line, unit_line};
+ghost use Rattle.land_sheet.specs.Sheets.{IsSheet, area_line, checked_line, date_part, end_line, head_lines};
+ghost use Rattle.land_sheet.specs.Sheets.{moment_line};
+ghost use Rattle.land_sheet.specs.Sheets.{parcel_count_line, parcel_line, parcel_lines, parcel_part};
+ghost use Rattle.land_sheet.specs.Sheets.{sheet_text, time_part};
+ghost use Rattle.land_sheet.specs.Sheets.{class_end, entry_count_line, entry_line, entry_lines, entry_part};
+ghost use Rattle.land_sheet.specs.Sheets.{entry_start};
+ghost use Rattle.land_sheet.specs.Sheets.{title_line, unit_line};
 
 use crate::areas::{doubled_areas, square_metres};
 use crate::dates::date_of;
@@ -14,8 +21,8 @@ use land_core::words::class_word;
 use land_keep::view::{NamedRrr, View};
 use std::alloc::{AllocError, Global};
 
-/// The title sheet of a unit as a caller sees it, each line ended by a line feed. The view's moment is 0 to
-/// 4_102_444_799_999. Areas are exact, whatever the number of parcels. An error is a want of memory.
+/// Returns the title sheet of a unit for a caller; each line ends with a line feed. The view's moment is from
+/// 0 to the last moment of 2099. Areas are exact for any number of parcels. The only error is out of memory.
 pub fn title_sheet(alloc: Global, view: &View) -> Result<String, AllocError>
     requires { IsMoment view.now.at }
     ensures { IfOk result (λ text. IsSheet view.now (string_bytes text)) }
@@ -25,10 +32,10 @@ pub fn title_sheet(alloc: Global, view: &View) -> Result<String, AllocError>
     sheet_on(alloc, view, date, moment)
 }
 
-/// So many bytes hold the sheet of a unit with a parcel and a few entries; a longer one grows.
+/// The initial capacity of a sheet in bytes: enough for a unit with a parcel and a few entries.
 const SHEET_ROOM: usize = 512;
 
-/// The sheet of a view with a date and a moment.
+/// Returns the sheet of a view with a date and a moment.
 #[tactic(auto, unfolding(crate::specs::Sheets::sheet_text))]
 fn sheet_on(alloc: Global, view: &View, date: Date, moment: u64) -> Result<String, AllocError>
     ensures { IfOk result (λ text. string_bytes text ≡ sheet_text view.now (parts_of date) moment) }
@@ -41,10 +48,10 @@ fn sheet_on(alloc: Global, view: &View, date: Date, moment: u64) -> Result<Strin
     Ok(text)
 }
 
-/// The lines before the area.
+/// Writes the lines before the area.
 #[tactic(auto, unfolding(crate::specs::Sheets::head_lines))]
 fn push_head(text: &mut String, unit: &Unit, date: Date, moment: u64) -> Result<(), AllocError>
-    ensures { OnOk result (string_bytes text.new ≡ string_bytes text.old ++ head_lines unit.now (parts_of date) moment) }
+    ensures { AppendsText result text.old text.new (head_lines unit.now (parts_of date) moment) }
 {
     push_title(text)?;
     push_unit(text, unit)?;
@@ -54,21 +61,21 @@ fn push_head(text: &mut String, unit: &Unit, date: Date, moment: u64) -> Result<
 
 #[tactic(auto, unfolding(crate::specs::Sheets::title_line))]
 fn push_title(text: &mut String) -> Result<(), AllocError>
-    ensures { OnOk result (string_bytes text.new ≡ string_bytes text.old ++ title_line) }
+    ensures { AppendsText result text.old text.new title_line }
 {
     text.push_str("TITLE SHEET\n")
 }
 
 #[tactic(auto, unfolding(crate::specs::Sheets::end_line))]
 fn push_end(text: &mut String) -> Result<(), AllocError>
-    ensures { OnOk result (string_bytes text.new ≡ string_bytes text.old ++ end_line) }
+    ensures { AppendsText result text.old text.new end_line }
 {
     text.push_str("END\n")
 }
 
 #[tactic(auto, unfolding(crate::specs::Sheets::unit_line))]
 fn push_unit(text: &mut String, unit: &Unit) -> Result<(), AllocError>
-    ensures { OnOk result (string_bytes text.new ≡ string_bytes text.old ++ unit_line unit.now) }
+    ensures { AppendsText result text.old text.new (unit_line unit.now) }
 {
     let number = unit.number;
     let name = unit.name.as_str();
@@ -77,7 +84,7 @@ fn push_unit(text: &mut String, unit: &Unit) -> Result<(), AllocError>
 
 #[tactic(auto, unfolding(crate::specs::Sheets::moment_line))]
 fn push_moment(text: &mut String, date: Date, moment: u64) -> Result<(), AllocError>
-    ensures { OnOk result (string_bytes text.new ≡ string_bytes text.old ++ moment_line (parts_of date) moment) }
+    ensures { AppendsText result text.old text.new (moment_line (parts_of date) moment) }
 {
     push_date(text, date)?;
     push_time(text, moment)
@@ -85,7 +92,7 @@ fn push_moment(text: &mut String, date: Date, moment: u64) -> Result<(), AllocEr
 
 #[tactic(auto, unfolding(crate::specs::Sheets::date_part))]
 fn push_date(text: &mut String, date: Date) -> Result<(), AllocError>
-    ensures { OnOk result (string_bytes text.new ≡ string_bytes text.old ++ date_part (parts_of date)) }
+    ensures { AppendsText result text.old text.new (date_part (parts_of date)) }
 {
     let year = date.year.unsigned_abs();
     let month = date.month;
@@ -95,7 +102,7 @@ fn push_date(text: &mut String, date: Date) -> Result<(), AllocError>
 
 #[tactic(auto, unfolding(crate::specs::Sheets::time_part))]
 fn push_time(text: &mut String, moment: u64) -> Result<(), AllocError>
-    ensures { OnOk result (string_bytes text.new ≡ string_bytes text.old ++ time_part moment) }
+    ensures { AppendsText result text.old text.new (time_part moment) }
 {
     let hours = moment / 3_600_000 % 24;
     let minutes = moment / 60_000 % 60;
@@ -105,7 +112,7 @@ fn push_time(text: &mut String, moment: u64) -> Result<(), AllocError>
 }
 
 fn push_checked(text: &mut String, checked: bool) -> Result<(), AllocError>
-    ensures { OnOk result (string_bytes text.new ≡ string_bytes text.old ++ checked_line checked) }
+    ensures { AppendsText result text.old text.new (checked_line checked) }
 {
     if checked {
         text.push_str("Shares checked\n")
@@ -114,10 +121,10 @@ fn push_checked(text: &mut String, checked: bool) -> Result<(), AllocError>
     }
 }
 
-/// The area and the parcels.
+/// Writes the area and the parcels.
 #[tactic(auto, unfolding(crate::specs::Sheets::parcel_part))]
 fn push_parcel_part(text: &mut String, alloc: Global, parcels: &[Parcel]) -> Result<(), AllocError>
-    ensures { OnOk result (string_bytes text.new ≡ string_bytes text.old ++ parcel_part parcels.now) }
+    ensures { AppendsText result text.old text.new (parcel_part parcels.now) }
 {
     push_area(text, alloc, parcels)?;
     push_parcel_count(text, parcels)?;
@@ -126,7 +133,7 @@ fn push_parcel_part(text: &mut String, alloc: Global, parcels: &[Parcel]) -> Res
 
 #[tactic(auto, unfolding(crate::specs::Sheets::area_line))]
 fn push_area(text: &mut String, alloc: Global, parcels: &[Parcel]) -> Result<(), AllocError>
-    ensures { OnOk result (string_bytes text.new ≡ string_bytes text.old ++ area_line parcels.now) }
+    ensures { AppendsText result text.old text.new (area_line parcels.now) }
 {
     let area = square_metres(alloc, doubled_areas(parcels))?;
     let area = area.as_str();
@@ -135,14 +142,14 @@ fn push_area(text: &mut String, alloc: Global, parcels: &[Parcel]) -> Result<(),
 
 #[tactic(auto, unfolding(crate::specs::Sheets::parcel_count_line))]
 fn push_parcel_count(text: &mut String, parcels: &[Parcel]) -> Result<(), AllocError>
-    ensures { OnOk result (string_bytes text.new ≡ string_bytes text.old ++ parcel_count_line parcels.now) }
+    ensures { AppendsText result text.old text.new (parcel_count_line parcels.now) }
 {
     let count = parcels.len();
     write!(text, "Parcels {count}\n")
 }
 
 fn push_parcels(text: &mut String, alloc: Global, parcels: &[Parcel]) -> Result<(), AllocError>
-    ensures { OnOk result (string_bytes text.new ≡ string_bytes text.old ++ parcel_lines parcels.now) }
+    ensures { AppendsText result text.old text.new (parcel_lines parcels.now) }
 {
     for parcel in parcels {
         push_parcel(text, alloc, parcel)?;
@@ -152,7 +159,7 @@ fn push_parcels(text: &mut String, alloc: Global, parcels: &[Parcel]) -> Result<
 
 #[tactic(auto, unfolding(crate::specs::Sheets::parcel_line))]
 fn push_parcel(text: &mut String, alloc: Global, parcel: &Parcel) -> Result<(), AllocError>
-    ensures { OnOk result (string_bytes text.new ≡ string_bytes text.old ++ parcel_line parcel.now) }
+    ensures { AppendsText result text.old text.new (parcel_line parcel.now) }
 {
     let number = parcel.number;
     let area = square_metres(alloc, u128::from(parcel.outline.doubled_area()))?;
@@ -161,10 +168,10 @@ fn push_parcel(text: &mut String, alloc: Global, parcel: &Parcel) -> Result<(), 
     write!(text, "{number:>10}  {area:>20}  {label}\n")
 }
 
-/// The entries in sight.
+/// Writes the entries that the caller sees.
 #[tactic(auto, unfolding(crate::specs::Sheets::entry_part))]
 fn push_entry_part(text: &mut String, entries: &[NamedRrr]) -> Result<(), AllocError>
-    ensures { OnOk result (string_bytes text.new ≡ string_bytes text.old ++ entry_part entries.now) }
+    ensures { AppendsText result text.old text.new (entry_part entries.now) }
 {
     push_entry_count(text, entries)?;
     push_entries(text, entries)
@@ -172,14 +179,14 @@ fn push_entry_part(text: &mut String, entries: &[NamedRrr]) -> Result<(), AllocE
 
 #[tactic(auto, unfolding(crate::specs::Sheets::entry_count_line))]
 fn push_entry_count(text: &mut String, entries: &[NamedRrr]) -> Result<(), AllocError>
-    ensures { OnOk result (string_bytes text.new ≡ string_bytes text.old ++ entry_count_line entries.now) }
+    ensures { AppendsText result text.old text.new (entry_count_line entries.now) }
 {
     let count = entries.len();
     write!(text, "Entries {count}\n")
 }
 
 fn push_entries(text: &mut String, entries: &[NamedRrr]) -> Result<(), AllocError>
-    ensures { OnOk result (string_bytes text.new ≡ string_bytes text.old ++ entry_lines entries.now) }
+    ensures { AppendsText result text.old text.new (entry_lines entries.now) }
 {
     for entry in entries {
         push_entry(text, entry)?;
@@ -189,16 +196,16 @@ fn push_entries(text: &mut String, entries: &[NamedRrr]) -> Result<(), AllocErro
 
 #[tactic(auto, unfolding(crate::specs::Sheets::entry_line))]
 fn push_entry(text: &mut String, entry: &NamedRrr) -> Result<(), AllocError>
-    ensures { OnOk result (string_bytes text.new ≡ string_bytes text.old ++ entry_line entry.now) }
+    ensures { AppendsText result text.old text.new (entry_line entry.now) }
 {
     push_entry_start(text, entry)?;
     push_class_end(text, &entry.rrr.class)
 }
 
-/// Its number, its class and its party.
+/// Writes an entry's number, class and party.
 #[tactic(auto, unfolding(crate::specs::Sheets::entry_start))]
 fn push_entry_start(text: &mut String, entry: &NamedRrr) -> Result<(), AllocError>
-    ensures { OnOk result (string_bytes text.new ≡ string_bytes text.old ++ entry_start entry.now) }
+    ensures { AppendsText result text.old text.new (entry_start entry.now) }
 {
     let number = entry.rrr.number;
     let class = class_word(&entry.rrr.class);
@@ -207,9 +214,9 @@ fn push_entry_start(text: &mut String, entry: &NamedRrr) -> Result<(), AllocErro
     write!(text, "{number:>10}  {class:<14}  {party:>10} {name}: ")
 }
 
-/// What it says.
+/// Writes an entry's content.
 fn push_class_end(text: &mut String, class: &Class) -> Result<(), AllocError>
-    ensures { OnOk result (string_bytes text.new ≡ string_bytes text.old ++ class_end class.now) }
+    ensures { AppendsText result text.old text.new (class_end class.now) }
 {
     match class {
         Class::Right { share, .. } => write!(text, "{share}\n"),

@@ -1,4 +1,4 @@
-//! Trials of what stands between the wire and the keeper: requests and replies as bytes, and streams of them.
+//! Test cases for the HTTP layer: requests and replies as bytes, and streams of them.
 
 pub mod exchanges;
 pub mod failures;

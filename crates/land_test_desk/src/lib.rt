@@ -1,5 +1,6 @@
-//! Trials of what is read and written: `land_wire_json`, `land_wire`, `land_sheet` and `land_desk`. A trial is a public function that answers
-//! why it stops, if it does; the tests that call them are in `land_test_run_desk`. Nothing here has a contract: it is for tests alone.
+//! Test cases for `land_wire_json`, `land_wire`, `land_sheet` and `land_desk`. A test case is a public
+//! function that returns an error if it fails; the tests in `land_test_run_desk` call them. The crate has no
+//! contracts, since it only serves tests.
 #![tactic(auto)]
 
 pub mod desk;

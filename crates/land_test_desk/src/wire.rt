@@ -1,4 +1,4 @@
-//! Trials of routes, texts, bodies and sheets: that the calls succeed up to the limits, and worked examples.
+//! Test cases for routes, texts, bodies and sheets: calls succeed up to their limits, and worked examples.
 
 pub mod bodies;
 pub mod contents;

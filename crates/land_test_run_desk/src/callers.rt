@@ -1,4 +1,4 @@
-//! Callers at a port of this machine, by clocks that tests make.
+//! TCP clients on this host, with clocks of the test.
 use crate::conclusion::conclude;
 use crate::connections::served;
 use land_desk::service::callers::Callers;
@@ -14,7 +14,7 @@ use std::test::Fail;
 use std::time::Duration;
 use std::{io, time};
 
-/// A clock that goes on by so many seconds each time that it is read.
+/// A clock that advances by a number of seconds at each reading.
 #[derive(Drop)]
 struct Ticks {
     step: u64,
@@ -33,7 +33,7 @@ impl time::Clock for Ticks {
     }
 }
 
-/// What a caller brings: requests, each with so many bytes that are passed over; what it is told then, or its connection breaks off.
+/// The input of a client: requests, each with padding, and its reply, or `None` if the connection is dropped.
 struct Bringing {
     step: u64,
     requests: usize,
@@ -42,7 +42,7 @@ struct Bringing {
     told: Option<&'static [u8]>,
 }
 
-/// The parties are asked for. The head has less than 1024 bytes, so that with the body it is read in four pieces.
+/// Lists the parties. The head has less than 1024 bytes, so that with the body it is read in four chunks.
 const LIST: &[u8] =
     b"GET /parties HTTP/1.1\r\nRegister-Party: 1\r\nRegister-Role: stateAdministrator\r\nContent-Length: 3000\r\n\r\n";
 
@@ -52,7 +52,7 @@ const LISTED: &[u8] =
 const LISTED_TWICE: &[u8] =
     b"HTTP/1.1 200 OK\r\nContent-Type: application/json\r\nContent-Length: 15\r\n\r\n{\"numbers\":[1]}HTTP/1.1 200 OK\r\nContent-Type: application/json\r\nContent-Length: 15\r\n\r\n{\"numbers\":[1]}";
 
-/// A fault, whatever comes after it.
+/// A fault, which later input does not change.
 const FAULTY: &[u8] = b"HELLO\r\n\r\n";
 
 const FAULT: &[u8] =
@@ -66,7 +66,7 @@ const BRINGINGS: &[Bringing] = &[
         padding: 0,
         told: Some(ENROLLED),
     },
-    // The fourth piece is read 57 seconds after the first one.
+    // The fourth chunk is read 57 seconds after the first one.
     Bringing {
         step: 19,
         requests: 1,
@@ -90,7 +90,7 @@ const BRINGINGS: &[Bringing] = &[
         padding: 3000,
         told: Some(LISTED_TWICE),
     },
-    // The last reply comes, though more was brought than is read before it.
+    // The last reply is sent, though more input arrived than is read before it.
     Bringing {
         step: 0,
         requests: 1,
@@ -100,7 +100,7 @@ const BRINGINGS: &[Bringing] = &[
     },
 ];
 
-/// All that a caller brings.
+/// Returns the input of a client.
 fn brought(alloc: Global, row: &Bringing) -> Result<Vec<u8>, AllocError> {
     let mut bytes = Vec::new(alloc);
     for _request in 0..row.requests {
@@ -112,7 +112,8 @@ fn brought(alloc: Global, row: &Bringing) -> Result<Vec<u8>, AllocError> {
     Ok(bytes)
 }
 
-/// All that comes to a caller. Want of memory may end its connection with the request unread, which resets it.
+/// Returns the output that a client gets. If memory runs out, the server may close the connection with the
+/// request unread, which resets it.
 fn told_to(caller: &mut TcpStream, alloc: Global) -> Result<Vec<u8>, Stop> {
     let mut told = Vec::new(alloc);
     match caller.read_to_end(&mut told) {
@@ -121,7 +122,7 @@ fn told_to(caller: &mut TcpStream, alloc: Global) -> Result<Vec<u8>, Stop> {
     }
 }
 
-/// A caller of this process brings this, says that no more comes, and is served.
+/// Sends the input of a client of this process, shuts down its writing side, and serves it.
 fn call(rt: &HostRuntime, listener: TcpListener, row: &Bringing) -> Result<TcpStream, Stop> {
     let mut caller = TcpStream::connect(rt, listener.local_addr()?)?;
     caller.write_all(&brought(rt.alloc(), row)?)?;
@@ -136,7 +137,7 @@ fn call(rt: &HostRuntime, listener: TcpListener, row: &Bringing) -> Result<TcpSt
     Ok(caller)
 }
 
-/// A caller at a port of this machine is told what it is to be.
+/// Checks that a client on this host gets its reply.
 fn expect_call(rt: &HostRuntime, place: usize, row: &Bringing) -> Result<(), Stop> {
     let listener = TcpListener::bind(rt, "127.0.0.1:0")?;
     let mut caller = call(rt, listener, row)?;
@@ -147,7 +148,7 @@ fn expect_call(rt: &HostRuntime, place: usize, row: &Bringing) -> Result<(), Sto
     }
 }
 
-/// So are all callers.
+/// Checks all clients.
 fn loopback(rt: &HostRuntime) -> Result<(), Stop> {
     for (place, row) in BRINGINGS.iter().enumerate() {
         expect_call(rt, place, row)?;

@@ -1,10 +1,10 @@
-//! The machine's clock.
+//! The system clock.
 use land_desk::service::machine_clock::MachineClock;
 use land_keep::clock::Clock;
 use std::time::Duration;
 use std::{io, time};
 
-/// Between the years 2020 and 2100.
+/// Checks that the clock reads a time between the years 2020 and 2100.
 #[test]
 fn the_machine_has_a_clock(rt: HostRuntime) {
     let mut clock = MachineClock { machine: &rt };
@@ -12,7 +12,7 @@ fn the_machine_has_a_clock(rt: HostRuntime) {
     assert!(rt; 1_577_836_800_000 < reading && reading < 4_102_444_800_000);
 }
 
-/// A machine whose clock stands still, so long after 1970, or cannot be read.
+/// A clock that always reads the same duration since 1970, or cannot be read.
 #[derive(Clone, Copy)]
 enum Still {
     Milliseconds(u64),
@@ -40,21 +40,21 @@ impl time::Clock for Still {
     }
 }
 
-/// A machine, and what its clock reads.
+/// A clock, and its reading.
 struct Reading(Still, i64);
 
 const READINGS: &[Reading] = &[
     Reading(Still::Broken, 0),
     Reading(Still::Milliseconds(0), 0),
     Reading(Still::Milliseconds(1_795_540_511_204), 1_795_540_511_204),
-    // Parts of a millisecond are left out.
+    // Fractions of a millisecond are truncated.
     Reading(Still::Nanoseconds(999_999), 0),
     Reading(Still::Nanoseconds(1_000_000), 1),
     Reading(
         Still::Nanoseconds(1_795_540_511_204_999_999),
         1_795_540_511_204,
     ),
-    // The last moment that 64 bits hold, and the next one.
+    // The last moment that fits in 64 bits, and the next one.
     Reading(
         Still::Milliseconds(9_223_372_036_854_775_807),
         9_223_372_036_854_775_807,
@@ -62,7 +62,7 @@ const READINGS: &[Reading] = &[
     Reading(Still::Milliseconds(9_223_372_036_854_775_808), 0),
 ];
 
-/// What the clock of a machine reads.
+/// Returns the reading of a clock.
 fn reading_of(machine: &Still) -> i64 {
     let mut clock = MachineClock { machine };
     clock.read()

@@ -1,9 +1,9 @@
-//! How a test ends.
+//! The result of a test.
 use land_test_scenario::stop::Stop;
 use std::process::Abort;
 use std::test::Fail;
 
-/// Ends a test: by an assertion where something is not as the test has it, and by an `Err` where there was no memory, and only there.
+/// Ends a test: panics if a check failed, and returns an error only if memory ran out.
 pub fn conclude(rt: &impl Abort, outcome: Result<(), Stop>) -> Result<(), Fail> {
     match outcome {
         Ok(()) => Ok(()),

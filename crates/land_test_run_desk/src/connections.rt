@@ -1,4 +1,4 @@
-//! Connections that are served one after another.
+//! Connections that are served sequentially.
 use crate::conclusion::conclude;
 use land_desk::service::connections::Connections;
 use land_desk::service::serving::{ServiceFault, serve_connections};
@@ -10,7 +10,7 @@ use std::alloc::Global;
 use std::rt::HostRuntime;
 use std::test::Fail;
 
-/// Serves so many connections over a new register.
+/// Serves a number of connections with a new register.
 pub(crate) fn served<L: Connections>(
     alloc: Global,
     listener: &mut L,
@@ -21,7 +21,7 @@ pub(crate) fn served<L: Connections>(
     Ok(serve_connections(alloc, listener, connections, &mut keeper, &mut clock))
 }
 
-/// Serving so many connections ends so, and on each of these is told what it is to be.
+/// Checks that serving a number of connections has this result, and that each of them gets its replies.
 fn expect_served(
     alloc: Global,
     calls: &'static [Call],

@@ -1,9 +1,11 @@
-//! The tests of what is read and written: routes, bodies, sheets, requests and replies as bytes, streams, connections. Those of the wire
-//! and the desk are calls of trials in `land_test_desk`; connections and clocks are tried here. There is nothing else here: a crate that
-//! has tests is proved twice, and its program is compiled with all that it stands on.
+//! Tests of requests and replies: routes, bodies, sheets, requests and replies as bytes, streams,
+//! connections. The test cases of the wire and HTTP layers are in `land_test_desk`; those of connections and
+//! clocks are here. The crate has nothing else, because a crate with tests is proved twice, and its program
+//! is compiled with all its dependencies.
 //!
-//! Want of memory ends a test with an `Err`, so that it fails unless an allocation was refused; all else that is wrong fails an assertion.
-//! `.ci/oom-tests` runs these tests with each allocation refused in turn: a test may then end for want of memory, and no assertion may fail.
+//! A test returns an error only if memory ran out, so it fails unless an allocation failure was injected;
+//! each other failure panics. `.ci/oom-tests` runs these tests with each allocation failing in order: a test
+//! may then return an error, but must not panic.
 #![tactic(auto)]
 
 #[cfg(test)]

@@ -1,4 +1,4 @@
-//! Sizes that no other test reaches. `.ci/oom-tests` leaves them out, since they allocate too often.
+//! Sizes that only these tests reach. `.ci/oom-tests` leaves them out, since they allocate too often.
 use crate::conclusion::conclude;
 use land_test_desk::desk::{failures, long_streams};
 use std::test::Fail;

@@ -60,7 +60,7 @@ word_is_part act.Discharge = refl
 word_is_part act.Approve = refl
 word_is_part act.Refuse = refl
 
--- what is no part of a path is the word of no act
+-- bytes that are not a segment of a path are not the word of an act
 pub no_act : (bytes : List ℕ) → is_part bytes ≡ false → act_of bytes ≡ None
 no_act bytes e = by (act_of bytes) refl
   where

@@ -1,4 +1,4 @@
--- What the spans of a head say of its length and its connection.
+-- The spans of a head determine its length and its connection.
 use Rattle.std.proofs.Common.{◌≡◌, ◌≢◌, ℕ, ◌<◌, ◌≤◌, Bool, true, false, cond, List, [], ◌∷◌, length, take, map, refl, sym, ap, ◌∙◌, arith, length-take, Result, Err, codes}
 use Rattle.std.specs.Prelude.{nat_lt, if◌then◌else◌}
 use Rattle.std.proofs.lemmas.List.{length-map}
@@ -18,11 +18,11 @@ pub field_count : (bytes : List ℕ) (headers : List HeaderSpan) (spans : Reques
 field_count bytes headers spans h ok at =
     omega (arith, simp (length-map, length-take) at (ap length at.fields), ok.section.count_fits)
 
--- the fields as the spans show them
+-- the fields at the spans
 abbrev pub shown : List ℕ → List HeaderSpan → RequestSpans → List (List ℕ × List ℕ)
 shown bytes headers spans = map (header_bytes bytes) (take spans.headers headers)
 
--- the length by the count of fields and by the values of the two fields
+-- the length, from the count of fields and the values of the two fields
 abbrev pub frame_by : ℕ → List (List ℕ) → List (List ℕ) → Result ℕ FrameFault
 frame_by count encodings lengths =
     if nat_lt 64 count then Err fault.Head
@@ -72,7 +72,7 @@ stands head values occurrence.Absent is not_absent = absurd (not_absent refl)
 stands head values (occurrence.Once span) is not_absent = rw is.1 (omega arith)
 stands head values occurrence.Repeated is not_absent = omega (arith, is)
 
--- the three cases over the spans of a head
+-- the three cases of the spans of a head
 abbrev pub encodings : List ℕ → List HeaderSpan → RequestSpans → List (List ℕ)
 encodings bytes headers spans = values_named (codes "transfer-encoding") (shown bytes headers spans)
 

@@ -1,4 +1,4 @@
--- Facts on the items of a stream.
+-- Lemmas on the items of a stream.
 use Rattle.std.proofs.Common.{◌≡◌, ◌≢◌, ℕ, ◌+◌, ◌<◌, ◌≤◌, Bool, true, false, List, [], ◌∷◌, ◌++◌, length, take, drop, refl, sym, ap, ◌∙◌, subst, arith, append_assoc, length-append, length-take, length-drop, take-append-drop, inl, inr, Result, Ok, Err, Option, Some, None, IfSome}
 use Rattle.std.specs.Prelude.{◌⊎◌}
 use Rattle.std.specs.Io.KnownBytes.{IsAtEnd, prepend_known}
@@ -28,7 +28,7 @@ some_byte [] fault.BodyLong is not_cut = absurd is
 some_byte [] fault.Encoding is not_cut = absurd is
 some_byte [] fault.Cut is not_cut = absurd (not_cut refl)
 
--- what was found in the buffer stands at the front of the stream
+-- the head in the buffer is at the front of the stream
 pub head_of : (bytes more : List ℕ) (headers : List HeaderSpan) (spans : RequestSpans) (h : RequestHead)
     → IsRequestWithin bytes headers spans → IsRequestAt bytes headers spans h → length (print_request h) ≤ 8192
     → HasHead (bytes ++ more) h (drop spans.len bytes ++ more)
@@ -61,7 +61,7 @@ request_of bytes more headers spans n is =
     ∙ append_assoc body (drop (spans.len + n) bytes) more in
     (subst (λ (t : List ℕ). HasHead (bytes ++ more) h t) split head, is.1.3 ∙ ap Ok (sym long))
 
--- what is wrong after a whole head stands at the front of the stream
+-- a fault after a whole head is at the front of the stream
 pub fault_of : (bytes more : List ℕ) (headers : List HeaderSpan) (spans : RequestSpans) (h : RequestHead) (f : FrameFault)
     → IsRequestWithin bytes headers spans → IsRequestAt bytes headers spans h → length (print_request h) ≤ 8192
     → FailsAfter (drop spans.len bytes ++ more) (frame h) f → IsItem (bytes ++ more) (faulty f) []
@@ -69,7 +69,7 @@ fault_of bytes more headers spans h f ok at small fails =
     let head = head_of bytes more headers spans h ok at small in
     (refl, head_some (bytes ++ more) h _ head, inr (h, drop spans.len bytes ++ more, head, fails))
 
--- ---- a stream has one list of items and no other
+-- ---- a stream has exactly one list of items
 
 whole_window : (bytes : List ℕ) (h : RequestHead) (rest : List ℕ) → HasHead bytes h rest
     → ReadsRequest (window bytes) h (drop (length (print_request h)) (window bytes))
@@ -107,7 +107,7 @@ one_failure : (rest : List ℕ) (r : Result ℕ FrameFault) (f g : FrameFault) �
 one_failure rest (Err e) f g a b = a ∙ sym b
 one_failure rest (Ok n) f g a b = a.0 ∙ sym b.0
 
--- a whole body is no failure
+-- a complete body is not a fault
 no_failure : (body rest after : List ℕ) (r : Result ℕ FrameFault) (f : FrameFault) → r ≡ Ok (length body) → after ≡ body ++ rest
     → FailsAfter after r f → ⊥
 no_failure body rest after (Err e) f is split fails = absurd (cc)
@@ -118,7 +118,7 @@ no_failure body rest after (Ok n) f is split fails =
 ok_length : (m n : ℕ) → ◌≡◌ {A = Result ℕ FrameFault} (Ok m) (Ok n) → m ≡ n
 ok_length m n e = cc
 
--- an item and what is left after it
+-- an item and the bytes after it
 pub item_unique : (bytes : List ℕ) (a b : Item) (r q : List ℕ) → IsItem bytes a r → IsItem bytes b q → (a ≡ b) × (r ≡ q)
 item_unique bytes (request h x) (request k y) r q a b =
     let same = request_unique bytes h k (x ++ r) (y ++ q) a.0.reads b.0.reads in
@@ -156,7 +156,7 @@ tails_same : (c d : Bool) (xs ys : List Item) → c ≡ d → (c ≡ true → xs
 tails_same true d xs ys e p q k = p refl ∙ sym (q (sym e))
 tails_same false d xs ys e p q k = k refl (sym e)
 
--- a stream has one list of items and no other
+-- a stream has exactly one list of items
 pub items_unique : (bytes : List ℕ) (xs ys : List Item) → AreItems bytes xs → AreItems bytes ys → xs ≡ ys
 items_unique bytes [] [] a b = refl
 items_unique bytes [] (y ∷ ys) a b = absurd (no_item y b.0 (subst (λ (t : List ℕ). IsItem t y b.0) a b.1))
@@ -175,7 +175,7 @@ items_unique bytes (x ∷ xs) (y ∷ ys) a b =
     (λ e f. items_unique b.0 xs ys (subst (λ (t : List ℕ). AreItems t xs) heads.1 (a.3 e)) (b.3 f)) in
     λ i. heads.0 i ∷ tails i
 
--- what an early fault stands for
+-- the item of a fault before the end of a head
 pub front_is : (bytes : List ℕ) (f : FrameFault) (empty : Bool) → IsFault bytes f → (f ≡ fault.Cut → empty ≡ true → bytes ≡ [])
     → (empty ≡ false → 0 < length bytes) → IsFrontOf bytes (fault_front f empty)
 front_is bytes fault.Head empty is none some = (refl, some_byte bytes fault.Head is (λ e. absurd (cc)), inl is)
@@ -246,7 +246,7 @@ cut_known items new more (Some rest) headers spans o n e is good grown short =
     fault_of new rest headers spans h fault.Cut ok at here.1.2
     (subst (λ (r : Result ℕ FrameFault). FailsAfter (drop spans.len new ++ rest) r fault.Cut) (good h here.1.1) (refl, left))
 
--- the whole stream shows the request that the buffer shows
+-- the stream has the request that is in the buffer
 pub request_of_stream : (items : List ℕ) (known : Option (List ℕ)) (headers : List HeaderSpan) (spans : RequestSpans) (n : ℕ)
     → IsRequestIn items headers spans n → IfSome (prepend_known items known) (λ s. IsFrontOf s (front.Request spans n))
 request_of_stream items None headers spans n is = tt
@@ -258,9 +258,9 @@ request_of_stream items (Some rest) headers spans n is =
     let after : drop (spans.len + n) (items ++ rest) ≡ drop (spans.len + n) items ++ rest = drop-append-le (spans.len + n) items rest is.2 in
     (is.1.0, rw (body, after) (request_of items rest headers spans n is))
 
--- ---- what a buffer shows already
+-- ---- a buffer that contains a request already
 
--- so many bytes of a buffer that begins with a head begin with it too
+-- a prefix of a buffer that begins with a head begins with it too
 head_within : (items : List ℕ) (e : ℕ) (h : RequestHead) (rest : List ℕ) → HasHead items h rest → length (print_request h) ≤ e
     → ReadsRequest (take e items) h (drop (length (print_request h)) (take e items))
 head_within items e h rest has inside =
@@ -271,13 +271,13 @@ head_within items e h rest has inside =
 head_bound : (items : List ℕ) (h : RequestHead) (rest : List ℕ) → HasHead items h rest → length (print_request h) ≤ length items
 head_bound items h rest has = omega (arith, simp length-append at (ap length has.reads.1))
 
--- a look at the bytes of a buffer that begins with a head finds one
+-- parsing a buffer that begins with a head finds it
 pub not_open : (items : List ℕ) (e : ℕ) (h : RequestHead) (rest : List ℕ) → HasHead items h rest → (e ≡ 8192) ⊎ (e ≡ length items)
     → HasNoRequest (take e items) → ⊥
 not_open items e h rest has (inl full) none = none h _ (head_within items e h rest has (omega (arith, has.fits, full)))
 not_open items e h rest has (inr all) none = none h _ (head_within items e h rest has (omega (arith, head_bound items h rest has, all)))
 
--- a request that a buffer begins with lies in it whole
+-- a request at the front of a buffer lies in it completely
 pub item_fits : (items : List ℕ) (headers : List HeaderSpan) (spans : RequestSpans) (f : Found) (n : ℕ) (h : RequestHead) (body rest : List ℕ)
     → f ≡ found.Whole spans → IsHeadIn items headers f → IsItem items (request h body) rest
     → ((k : RequestHead) → IsRequestAt items headers spans k → Ok n ≡ frame k) → spans.len + n ≤ length items
@@ -289,12 +289,12 @@ item_fits items headers spans f n h body rest is known it good =
     let long : n ≡ length body = ok_length n (length body) (good k at ∙ ap frame (sym same.0) ∙ it.1) in
     omega (arith, at.len, ap (λ (x : RequestHead). length (print_request x)) same.0, long, simp length-append at (ap length it.0.reads.1))
 
--- ---- how much was read
+-- ---- the number of bytes read
 
 read_some : (bytes : List ℕ) (h : RequestHead) (rest : List ℕ) → ReadsRequest bytes h rest → 0 < length bytes
 read_some bytes h rest reads = omega (arith, head_bytes h reads.0, simp length-append at (ap length reads.1))
 
--- a piece that was read before, or nothing
+-- an earlier chunk, or none
 pub none_read : (bytes : List ℕ) → length bytes ≤ 1024 → IsJustRead bytes
 none_read bytes small = record {
   before = [];
@@ -305,7 +305,7 @@ none_read bytes small = record {
   short = omega arith;
 }
 
--- a piece behind bytes in which no head was found
+-- a chunk after bytes in which no head was found
 pub piece_read : (items new piece : List ℕ) (e : ℕ) → e ≡ length items → length items < 8192 → new ≡ items ++ piece → length piece ≤ 1024
     → IsOpen (take e items) → IsJustRead new
 piece_read items new piece e all short grown small begun = record {
@@ -317,7 +317,7 @@ piece_read items new piece e all short grown small begun = record {
   short = short;
 }
 
--- less than a piece stands behind a head that was not there before the last read
+-- less than a chunk follows a head that was completed by the last read
 pub head_ahead : (bytes : List ℕ) (headers : List HeaderSpan) (spans : RequestSpans) (o : Found) → o ≡ found.Whole spans → IsHeadIn bytes headers o
     → IsJustRead bytes → length bytes < spans.len + 1024
 head_ahead bytes headers spans o e is read =

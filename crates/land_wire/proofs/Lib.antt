@@ -1,4 +1,4 @@
--- Lemmas of what requests and replies say.
+-- Lemmas on requests and replies.
 pub mod ActNames
 pub mod FieldNames
 pub mod FrameLemmas

@@ -1,4 +1,4 @@
--- The items of bytes after which nothing comes.
+-- The items of bytes that are a complete stream.
 use Rattle.std.proofs.Common.{◌≡◌, ℕ, ◌+◌, ◌-◌, ◌<◌, ◌≤◌, true, false, List, [], ◌∷◌, ◌++◌, length, take, drop, refl, sym, subst, arith, append_assoc, append-nil, length-append, length-drop, inl, Result, Ok, Err, Some, IfSome}
 use Rattle.std.specs.Io.KnownBytes.{prepend_known}
 use Rattle.std.proofs.lemmas.List.{take_all}
@@ -69,7 +69,7 @@ request_front bytes headers spans n is =
 
 -- ---- the list of items
 
--- so many items stand before the rest, and whatever items the rest has come after them
+-- these items come before the rest, and the items of the rest follow them
 pub record Begins (bytes rest : List ℕ) (count : ℕ) : Type 0 where
   pub before : List Item
   pub many : length before ≡ count
@@ -102,7 +102,7 @@ ends_last bytes rest after count item begun is last = (
   omega (arith, length-append begun.before (item ∷ []), begun.many),
 )
 
--- the request that the bytes show, with the head that the spans show
+-- the request in the bytes, with the head at the spans
 pub request_item : (bytes : List ℕ) (headers : List HeaderSpan) (spans : RequestSpans) (n : ℕ) → (is : IsRequestIn bytes headers spans n)
     → IsItem bytes (request is.1.0 (take n (drop spans.len bytes))) (drop (spans.len + n) bytes)
 request_item bytes headers spans n is =
@@ -111,13 +111,13 @@ request_item bytes headers spans n is =
     subst (λ (t : List ℕ). IsItem t item (drop (spans.len + n) bytes)) (append-nil bytes)
     (subst (λ (t : List ℕ). IsItem (bytes ++ []) item t) (append-nil (drop (spans.len + n) bytes)) there)
 
--- a request takes a byte at least
+-- a request takes at least one byte
 pub request_shortens : (bytes : List ℕ) (headers : List HeaderSpan) (spans : RequestSpans) (n : ℕ) → IsRequestIn bytes headers spans n
     → length (drop (spans.len + n) bytes) < length bytes
 request_shortens bytes headers spans n is =
     omega (arith, length-drop (spans.len + n) bytes, head_bytes is.1.0 is.1.1.reads.0, is.1.1.len, is.2)
 
--- the rest after a request that is not the last, as the code cuts it
+-- the rest after a request that is not the last, as the code computes it
 pub next_begins : (bytes rest : List ℕ) (headers : List HeaderSpan) (spans : RequestSpans) (n count : ℕ)
     → Begins bytes rest count × (count + length rest ≤ length bytes) → (is : IsRequestIn rest headers spans n) → ends is.1.0 ≡ false
     → Begins bytes (take (length rest - (spans.len + n)) (drop (spans.len + n) rest)) (count + 1)

@@ -1,4 +1,4 @@
--- What methods and queries say of what is read.
+-- Effects of methods and queries on the reading.
 use Rattle.std.proofs.Common.{◌≡◌, ℕ, ℤ, pos, int_lt, List, [], ◌∷◌, take, drop, Bool, true, false, Option, Some, Result, Ok, Err, refl, sym, subst, codes, bytes_eq, IfOk, if◌then◌else◌, arith}
 use Rattle.std.specs.Prelude.{⊤, ◌≤ℤ◌}
 use Rattle.std.proofs.lemmas.Int.{ints}
@@ -23,7 +23,7 @@ use Rattle.land_wire_json.specs.Bodies.WireFaults.{◌>>=◌}
 use Rattle.land_wire_json.specs.declared.bodies.wire_fault.WireFault.{WireFault}
 use Rattle.land_wire_json.specs.declared.bodies.wire_fault.WireFault.TheVariants as fault
 
--- what is read has the property, if it is read
+-- the result has the property, if reading succeeds
 record Ensures {A : Type 0} (P : A → Type 0) (r : Result A WireFault) : Type 0 where
   if_ok : IfOk r P
 
@@ -34,7 +34,7 @@ bind (Err e) h = record { if_ok = tt }
 
 -- ---- bodies of reads
 
--- the request of a resource, once its method is allowed
+-- the request of a resource, if its method is allowed
 abbrev asked_by : Resource → Entries FieldValue → (query body : List ℕ) → Result Request WireFault
 asked_by named fields query body = caller_in fields >>= λ caller. ask_of named query body >>= λ asked. Ok (record { caller = caller; ask = asked })
 
@@ -58,7 +58,7 @@ bodies_do_not_count target fields body other = same_body (resource_at (path_of t
 abbrev DoesNothing : Request → Type 0
 DoesNothing request = is_done request.ask ≡ false
 
--- what holds of what is asked holds of the request
+-- a property of the ask is a property of the request
 asked_for : {P : Ask → Type 0} (caller : Caller) (asked : Result Ask WireFault) → Ensures P asked
     → Ensures (λ (request : Request). P request.ask) (asked >>= λ it. Ok (record { caller = caller; ask = it }))
 asked_for caller (Ok it) h = record { if_ok = h.if_ok }
@@ -88,7 +88,7 @@ gets_do_nothing target fields body = (got (resource_at (path_of target)) (query_
 abbrev IsPosted : (method : List ℕ) → Request → Type 0
 IsPosted method request = (is_done request.ask ≡ true) × (bytes_eq method (codes "POST") ≡ true)
 
--- no resource that is looked at allows another method than GET
+-- each resource that is read allows only GET
 abbrev permit_of : Bool → Result ⊤ WireFault
 permit_of b = if b then Ok tt else Err fault.Method
 
@@ -168,7 +168,7 @@ AsksMoment asked = IsStated (at_of asked)
 abbrev StatesMoment : Request → Type 0
 StatesMoment request = AsksMoment request.ask
 
--- what a moment that may be stated is asked for with
+-- the request with an optional moment
 looked_at-moment : (wrap : Option ℤ → Ask) (query : List ℕ) → ((at : Option ℤ) → at_of (wrap at) ≡ at)
     → Ensures AsksMoment (at_in query >>= λ at. Ok (wrap at))
 looked_at-moment wrap query keeps = wrapped wrap (at_in query) keeps (at_in-moment query)

@@ -1,4 +1,4 @@
--- The texts of replies, without the words of JSON.
+-- The texts of replies, as plain bytes.
 use Rattle.std.proofs.Common.{◌≡◌, ◌∙◌, ℕ, List, ◌++◌, refl, ap, codes, Some, decimal, pos, sym}
 use Rattle.land_core.specs.declared.object.Object.{Object}
 use Rattle.land_core.specs.declared.change.Done.{Done}
@@ -11,7 +11,7 @@ use Rattle.land_wire_json.specs.Texts.Values.{one_member}
 use Rattle.serde_json.proofs.OnLiterals.{serde_json_on_literals}
 use Rattle.serde_json.specs.Written.{compact_text}
 
--- a text that the reply has in plain words
+-- a text that the reply has as plain bytes
 pub told_plainly : (r : Reply) (plain text : List ℕ) → reply_text r ≡ Some plain → text ≡ plain → reply_text r ≡ Some text
 told_plainly r plain text law e = law ∙ ap Some (sym e)
 

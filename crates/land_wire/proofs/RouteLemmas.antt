@@ -1,4 +1,4 @@
--- What matchit's walk does on rows that begin with words of which none begins another.
+-- The walk of matchit on rows that begin with words, if none of the words begins another one.
 use Rattle.std.proofs.Common.{◌≡◌, ◌<◌, ℕ, zero, suc, ◌-◌, List, [], ◌∷◌, ◌++◌, length, drop, Option, Some, None, refl, sym, ap, ◌∙◌, arith, true, false, cond, Bool, not, ◌==◌, ◌&&◌, ltb, nat_eq, codes, bytes_eq}
 use Rattle.std.proofs.lemmas.Bool.Decides.{nat_tests}
 use Rattle.std.specs.Cmp.Lexicographic.{pointwise}
@@ -65,7 +65,7 @@ one_param K c p rs fixed catches =
 
 -- ---- words
 
--- the rows with a word in front
+-- the rows with a word before them
 abbrev pub fronted : {K : Type 0} → List ℕ → RowsOf K → RowsOf K
 fronted w [] = []
 fronted w ((t, k) ∷ rest) = (w ++ t, k) ∷ fronted w rest
@@ -77,7 +77,7 @@ abbrev pub spread : {K : Type 0} → Groups K → RowsOf K
 spread [] = []
 spread ((w, rows) ∷ gs) = fronted w rows ++ spread gs
 
--- the words that go on with this byte, without it
+-- the words that continue with this byte, without it
 abbrev advance : {K : Type 0} → ℕ → Groups K → Groups K
 advance b [] = []
 advance b (([], rows) ∷ gs) = advance b gs
@@ -88,7 +88,7 @@ abbrev pub pick : {K : Type 0} → Groups K → List ℕ → Option K
 pick [] p = None
 pick ((w, rows) ∷ gs) p = where_after (after w p) (λ rest. seek 0 rows rest) (pick gs p)
 
--- neither begins the other
+-- neither word begins the other
 abbrev differ : List ℕ → List ℕ → Bool
 differ [] v = false
 differ (x ∷ w) [] = false
@@ -102,13 +102,13 @@ abbrev pub are_apart : {K : Type 0} → Groups K → Bool
 are_apart [] = true
 are_apart ((w, rows) ∷ gs) = differs w gs && are_apart gs
 
--- no word is empty
+-- each word has a byte
 abbrev are_long : {K : Type 0} → Groups K → Bool
 are_long [] = true
 are_long (([], rows) ∷ gs) = false
 are_long ((x ∷ w, rows) ∷ gs) = are_long gs
 
--- the words are of bytes
+-- the words consist of bytes
 abbrev is_text : List ℕ → Bool
 is_text [] = true
 is_text (x ∷ w) = ltb x 256 && is_text w
@@ -152,7 +152,7 @@ step-spread K b ((x ∷ w, rows) ∷ gs) long =
 not_above : (x token : ℕ) → ltb x 256 ≡ true → (token < 256 → ⊥) → (x == token) ≡ false
 not_above x token below above = grind (arith, nat_tests)
 
--- no word goes on with a token that is no byte
+-- words continue only with tokens that are bytes
 none_advance : (K : Type 0) (token : ℕ) (gs : Groups K) → (token < 256 → ⊥) → are_texts gs ≡ true → advance token gs ≡ []
 none_advance K token [] above texts = refl
 none_advance K token (([], rows) ∷ gs) above texts = none_advance K token gs above texts
@@ -244,7 +244,7 @@ by_byte K b p gs long texts onward =
     ∙ ap (λ r. seek 0 r p) (step-spread K b gs long)
     ∙ onward ∙ sym (pick-advance K b p gs long)
 
--- words of which none begins another: the path goes on by the one that begins it
+-- if none of the words begins another one, the path continues by the one that begins it
 pub seek_by_words : (K : Type 0) (p : List ℕ) (gs : Groups K) → are_apart gs ≡ true → are_texts gs ≡ true → seek 0 (spread gs) p ≡ pick gs p
 seek_by_words K p [] apart texts = seek_none K 0 p
 seek_by_words K p (([], rows) ∷ []) apart texts = ap (λ r. seek 0 r p) (fronted-nil K rows)
@@ -258,7 +258,7 @@ seek_by_words K (b ∷ p) ((x ∷ w, rows) ∷ gs) apart texts =
     by_byte K b p ((x ∷ w, rows) ∷ gs) long texts
     (seek_by_words K p (advance b ((x ∷ w, rows) ∷ gs)) (apart-advance K b ((x ∷ w, rows) ∷ gs) apart) (texts-advance K b ((x ∷ w, rows) ∷ gs) texts))
 
--- ---- parts
+-- ---- segments
 
 -- a parameter at the end
 pub last_param : (K : Type 0) (k : K) (p : List ℕ) → AreBytes p → seek 0 ((256 ∷ [], k) ∷ []) p ≡ cond (is_part p) (Some k) None
@@ -272,7 +272,7 @@ last_param K k (b ∷ p) bytes =
     by true = simp (seek_none K 0 p)
     by false = simp (seek_none K 0 p, one_less (length p), seek_all K (([], k) ∷ []) p)
 
--- fixed words to the end
+-- fixed words up to the end
 last_word : (K : Type 0) (k : K) (w p : List ℕ) → is_text w ≡ true → seek 0 ((w, k) ∷ []) p ≡ cond (bytes_eq p w) (Some k) None
 unfolding seek
 last_word K k [] [] text = refl
@@ -291,7 +291,7 @@ last_word K k (x ∷ w) (c ∷ p) text =
 
 -- ---- a parameter with a word after it
 
--- the segment of a path ends with a slash where there is one
+-- the segment of a path ends at its slash, if it has one
 ends : (b : ℕ) (q : List ℕ) → (b == 47) ≡ false → pointwise nat_eq (47 ∷ []) (drop (length (segment q)) (b ∷ segment q)) ≡ has_slash q
 ends b [] e = let other : (47 == b) ≡ false = grind arith in rw other refl
 ends b (c ∷ q) e = by (c == 47) refl (λ other. ends c q other)
@@ -309,7 +309,7 @@ longer (c ∷ q) e = by (c == 47)
     by true = refl
     by false = grind (arith, nat_tests)
 
--- a segment can be cut before its slash where something stands there
+-- a segment can be split before its slash, if bytes come before it
 cuts_slash : (b : ℕ) (q : List ℕ) → cuts (segment (b ∷ q)) (47 ∷ []) ≡ (not (b == 47) && has_slash q)
 cuts_slash b q = by (b == 47) refl
   where
@@ -321,7 +321,7 @@ cuts_slash b q = by (b == 47) refl
     by true here = refl
     by false here = simp (one_less (length (segment q)), ends b q here) (cut (has_slash q) refl here)
 
--- a walk that passes the part
+-- a walk that passes the segment
 past_part : (K : Type 0) (rs : RowsOf K) (q : List ℕ) → seek {K = K} (length (before_slash q)) rs q ≡ seek 0 rs (from_slash q)
 unfolding seek
 past_part K rs [] = refl
@@ -341,7 +341,7 @@ part_length (b ∷ q) e = by (b == 47) e (part_length q)
     by true h e = refl
     by false h e = ap suc (e h)
 
--- the rows behind a parameter: a word, or the end
+-- the rows after a parameter: a word, or the end
 abbrev word_or_end : {K : Type 0} → K → K → RowsOf K
 word_or_end s v = (codes "/sheet", s) ∷ ([], v) ∷ []
 

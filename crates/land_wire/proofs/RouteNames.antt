@@ -1,4 +1,4 @@
--- The function of routes against the plain words.
+-- The route function agrees with the plain rule.
 use Rattle.std.proofs.Common.{◌≡◌, ℕ, List, [], ◌∷◌, ◌++◌, Option, Some, None, option_map, refl, sym, ap, subst, ◌∙◌, true, false, cond, Bool, not, ◌==◌, ◌&&◌, codes, bytes_eq, append-nil}
 use Rattle.std.proofs.lemmas.Slice.Eq.{bytes_eq-Decides}
 use Rattle.std.proofs.lemmas.Bool.{and_parts, not-true}
@@ -11,7 +11,7 @@ use Rattle.land_wire.specs.Routes.{Names, Resource, act, after, before_slash, fr
 use Rattle.land_wire.specs.Routes.ActWords.{act_of, act_word}
 use Rattle.land_wire.specs.declared.routes.act_word.ActWord.{ActWord}
 
--- ---- a part with a word after it
+-- ---- a segment with a word after it
 
 slash_within : (p q : List ℕ) → has_slash (p ++ 47 ∷ q) ≡ true
 slash_within [] q = refl
@@ -56,7 +56,7 @@ none_before (b ∷ q) = by (b == 47) refl (none_before q)
     by true e h = refl
     by false e h = rw (e, h) refl
 
--- ---- from the plain words
+-- ---- from the plain rule
 
 pub named_found : (path : List ℕ) (r : Resource) → Names path r → route_of path ≡ Some r
 named_found path (list kind.Party) h = rw h refl
@@ -77,7 +77,7 @@ named_found path (sheet part) h =
     rw (h.0, no_part part (codes "sheet"), front_is part (codes "sheet") no_slash, back_is part (codes "sheet") no_slash, p.0) refl
 named_found path (act word) h = rw (h, word_found (act_word word) word refl) refl
 
--- ---- to the plain words
+-- ---- to the plain rule
 
 back : (o : Option (List ℕ)) (g : List ℕ → Option Resource) (y : Option Resource) (r : Resource) (P : Type 0)
     → ((rest : List ℕ) → o ≡ Some rest → g rest ≡ Some r → P) → (y ≡ Some r → P) → where_after o g y ≡ Some r → P

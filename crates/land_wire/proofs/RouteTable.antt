@@ -1,4 +1,4 @@
--- The table of routes against the plain words.
+-- The route table agrees with the plain rule.
 use Rattle.std.proofs.Common.{◌≡◌, ◌+◌, ℕ, List, [], ◌∷◌, ◌++◌, length, drop, Option, Some, None, refl, ap, ◌∙◌, arith, true, false, cond, Bool, not, ◌==◌, ◌&&◌, codes, bytes_eq}
 use Rattle.std.proofs.lemmas.Bool.Decides.{nat_tests}
 use Rattle.land_core.specs.declared.kind.Kind.{Kind}
@@ -43,7 +43,7 @@ groups =
     ∷ (list_path kind.Party, below kind.Party) ∷ (list_path kind.Rrr, below kind.Rrr) ∷ (list_path kind.Source, below kind.Source)
     ∷ (list_path kind.Unit, below_unit) ∷ []
 
--- ---- what stands after a word
+-- ---- the bytes after a word
 
 pub same_byte : (x b : ℕ) → (x == b) ≡ true → b ≡ x
 same_byte x b e = grind (arith, nat_tests)

@@ -1,4 +1,4 @@
--- A text tells its reply.
+-- A text determines its reply.
 use Rattle.std.proofs.Common.{◌≡◌, ◌≤◌, ℕ, ℤ, List, [], true, codes, Some, refl, sym, ap, ◌∙◌, arith}
 use Rattle.land_core.specs.declared.change.Done.{Done}
 use Rattle.land_keep.specs.declared.reply.Reply.{Reply}
@@ -16,7 +16,7 @@ use Rattle.serde_json.specs.Data.{Data, null, Members, no_members, member, depth
 use Rattle.serde_json.specs.Read.{max_depth}
 use Rattle.serde_json.specs.Written.{compact_text}
 
--- what a reply says, where it is no sheet
+-- the content of a reply, if it is not a sheet
 abbrev told_data : Reply → Data
 told_data (reply.Object it) = one_member (codes "object") (object_data it)
 told_data (reply.Numbers numbers) = one_member (codes "numbers") (numbers_data numbers)
@@ -58,7 +58,7 @@ told_depth (reply.Fault fault) = omega arith
 told_depth (reply.Refused refusal) = omega arith
 told_depth (reply.Store fault) = omega arith
 
--- ---- the first letters of their words are apart
+-- ---- the first letters of their words differ
 
 abbrev first_key : Members → List ℕ
 first_key no_members = []

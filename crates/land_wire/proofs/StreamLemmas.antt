@@ -1,4 +1,4 @@
--- Facts on the window of a stream, and on how many fields fit in it.
+-- Lemmas on the window of a stream, and on the number of fields in it.
 use Rattle.std.proofs.Common.{◌≡◌, ℕ, ◌-◌, ◌*◌, ◌<◌, ◌≤◌, suc, zero, List, [], ◌∷◌, ◌++◌, length, take, drop, refl, sym, ap, ◌∙◌, subst, arith, append-nil, length-drop, length-append, length-take, Option, Some, None, IfSome}
 use Rattle.std.specs.Prelude.{map}
 use Rattle.httparse.specs.Spans.{IsWithin, IsHeaderWithin, IsRequestWithin, IsRequestAt, span_bytes, header_bytes}
@@ -13,7 +13,7 @@ use Rattle.std.proofs.lemmas.List.Elements.{recursion_from_All}
 use Rattle.std.proofs.lemmas.List.{take-append-drop, take-append-le, take-take, take_all}
 use Rattle.httparse.specs.Grammar.{Field, IsField, LineEnd, crlf, lf, print_end, print_field, RequestHead, IsRequestHead, print_request, ReadsRequest}
 use Rattle.httparse.proofs.GrammarLemmas.{ReadsRequest-append}
-use Rattle.land_wire.specs.Framing.Stream.{window, IsOpen, IsNever, IsFault, IsHeadIn}
+use Rattle.land_wire.specs.Framing.Stream.{field_room, window, IsOpen, IsNever, IsFault, IsHeadIn}
 use Rattle.land_wire.proofs.TargetLemmas.{never_goes_on}
 use Rattle.land_wire.specs.declared.framing.head.Found.TheVariants as found
 use Rattle.land_wire.specs.declared.framing.frame_fault.FrameFault.TheVariants as fault
@@ -33,7 +33,7 @@ drop_front front more zero fits = refl
 drop_front [] more (suc n) fits = absurd (omega arith)
 drop_front (x ∷ front) more (suc n) fits = drop_front front more n (omega arith)
 
--- what spans cover in a front, they cover in the whole
+-- spans in a prefix cover the same bytes in the whole
 slice_front : (front more : List ℕ) (s : Span) (n : ℕ) → n ≤ length front → IsWithin n s
     → span_bytes (front ++ more) s ≡ span_bytes front s
 slice_front front more s n fits ok =
@@ -92,7 +92,7 @@ head_in items e headers spans small ok =
       ),
     )
 
--- the window of the stream goes on from what the buffer has of it
+-- the window of the stream extends the window of the buffer
 pub window_goes_on : (items rest : List ℕ) (e : ℕ) → e ≤ 8192 → e ≤ length items
     → window (items ++ rest) ≡ take e items ++ drop e (window (items ++ rest))
 window_goes_on items rest e small inside =
@@ -124,7 +124,7 @@ unfolding print_request
 few_fields h ok = simp length-append (omega (arith, flat_len h.fields (recursion_from_All IsField h.fields ok.fields)))
 
 pub no_overflow : (w front rest : List ℕ) (h : RequestHead) (room : ℕ) → w ≡ front ++ rest → length w ≤ 8192
-    → ReadsRequest (front ++ 10 ∷ []) h [] → 2731 ≤ room → room < length h.fields → ⊥
+    → ReadsRequest (front ++ 10 ∷ []) h [] → field_room ≤ room → room < length h.fields → ⊥
 no_overflow w front rest h room e small reads big over =
     omega (arith, few_fields h reads.0, simp length-append at (ap length e), simp length-append at (ap length reads.1))
 

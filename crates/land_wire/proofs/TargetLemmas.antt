@@ -1,4 +1,4 @@
--- The scan finds exactly the texts that end in a target, and a text that is none for ever stays so.
+-- The scan finds exactly the bytes that end in a target, and bytes that are not a prefix of a head stay so.
 use Rattle.std.proofs.Common.{◌≡◌, ℕ, Bool, true, false, ◌==◌, cond, List, [], ◌∷◌, ◌++◌, refl, sym, ap, ◌∙◌, subst, arith, append_assoc, append-nil, inl, inr}
 use Rattle.std.specs.Prelude.{◌⊎◌, ◌↔◌}
 use Rattle.std.proofs.lemmas.List.Elements.{All-head, All-tail, All-cons, All-nil}
@@ -46,7 +46,7 @@ blank_by false false false bytes e = absurd (elsewhere bytes e)
 abbrev MethodThen : List ℕ → Type 0
 MethodThen bytes = (m : List ℕ) × (u : List ℕ) × AllPass is_token_byte m × AllPass is_uri_byte u × (bytes ≡ m ++ 32 ∷ u)
 
--- what the bytes are that lead from a place to a target
+-- the bytes that lead from a scan state to a target
 abbrev Leads : Place → List ℕ → Type 0
 Leads place.Blank bytes = EndsInTarget bytes
 Leads place.Return bytes = (rest : List ℕ) × (bytes ≡ 10 ∷ rest) × EndsInTarget rest
@@ -145,9 +145,9 @@ place_is_target bytes = (
   λ h. subst (λ (t : List ℕ). place_after place.Blank t ≡ place.Target) (sym h.5) (to_blank h.0 h.1 h.2 h.3 h.4),
 )
 
--- ---- what stays so, whatever follows
+-- ---- facts that hold for any continuation
 
--- one of the two fronts is a front of the other
+-- one of two prefixes is a prefix of the other
 pub fronts : (a b c d : List ℕ) → a ++ b ≡ c ++ d
     → ((x : List ℕ) × (a ≡ c ++ x) × (d ≡ x ++ b)) ⊎ ((x : List ℕ) × (c ≡ a ++ x))
 fronts [] b c d e = inr (c, refl)
@@ -166,7 +166,7 @@ all_front test (x ∷ a) b all =
     All-cons (λ v. test v ≡ true) x a (All-head (λ v. test v ≡ true) x (a ++ b) all)
     (all_front test a b (All-tail (λ v. test v ≡ true) x (a ++ b) all))
 
--- a head whose first bytes are these
+-- a head that begins with these bytes
 abbrev some_head : List LineEnd → List ℕ → RequestHead
 some_head blank method = record { blank = blank; method = method; target = 47 ∷ []; minor = 0; line_end = lf; fields = []; last = lf }
 
@@ -210,7 +210,7 @@ stays_out b more never h =
           (some_reads h.0 h.1 (b ++ (k.0 ++ some_tail)) h.3 (sym (append_assoc b k.0 some_tail) ∙ ap (λ (t : List ℕ). t ++ some_tail) (sym k.1)))
     ]
 
--- no longer text is a head, nor ends in a target
+-- longer bytes are not a head, and do not end in a target
 pub never_goes_on : (b more : List ℕ) → IsNever b → IsNever (b ++ more)
 never_goes_on b more never = (
   λ later h rest reads. never.0 (more ++ later) h rest (subst (λ (t : List ℕ). ReadsRequest t h rest) (append_assoc b more later) reads),
@@ -223,7 +223,7 @@ never_none b never h rest reads = never [] h rest (subst (λ (t : List ℕ). Rea
 pub open_in_target : (b : List ℕ) → NeverHasRequest b → EndsInTarget b → IsOpen b
 open_in_target b never ends = (never_none b never, inr ends)
 
--- ---- a text is one of three
+-- ---- each text is one of three
 
 pub open_not_never : (b : List ℕ) → IsOpen b → IsNever b → ⊥
 open_not_never b begun never = elim begun.1 as (λ _. ⊥) [

@@ -1,4 +1,4 @@
--- Each request that is read keeps the limits of its fields.
+-- Each request that was read is within the limits of its fields.
 use Rattle.std.proofs.Common.{◌≡◌, ℕ, List, true, Result, Ok, Err, refl, IfOk}
 use Rattle.land_core.specs.Acts.{is_well_formed, is_well_formed_ask, is_well_formed_request}
 use Rattle.land_core.specs.declared.act.Act.{Act}
@@ -26,23 +26,23 @@ use Rattle.land_wire_json.specs.declared.bodies.content_kind.ContentKind.TheVari
 use Rattle.land_wire_json.specs.declared.bodies.wire_fault.WireFault.{WireFault}
 use Rattle.serde_json.specs.Data.{Data}
 
--- what is read has the property, if it is read
+-- the result has the property, if reading succeeds
 record Ensures {A : Type 0} (P : A → Type 0) (r : Result A WireFault) : Type 0 where
   if_ok : IfOk r P
 
--- what holds of each value that comes next holds of the whole
+-- a property of each next value is a property of the whole
 bind : {A B : Type 0} {P : B → Type 0} (r : Result A WireFault) {next : A → Result B WireFault}
     → ((a : A) → Ensures P (next a)) → Ensures P (r >>= next)
 bind (Ok a) h = h a
 bind (Err e) h = record { if_ok = tt }
 
--- the same, by what holds of the value before
+-- likewise, from a property of the value before
 bind_with : {A B : Type 0} {Q : A → Type 0} {P : B → Type 0} (r : Result A WireFault) {next : A → Result B WireFault}
     → Ensures Q r → ((a : A) → Q a → Ensures P (next a)) → Ensures P (r >>= next)
 bind_with (Ok a) q h = h a q.if_ok
 bind_with (Err e) q h = record { if_ok = tt }
 
--- what is read is wrapped: by a law on what is read
+-- the value is wrapped, by a law on the reading
 wrapped : {A B : Type 0} {P : B → Type 0} (wrap : A → B) (r : Result A WireFault)
     → IfOk r (λ a. P (wrap a)) → Ensures P (r >>= λ a. Ok (wrap a))
 wrapped wrap (Ok a) h = record { if_ok = h }
@@ -101,7 +101,7 @@ read-well_formed law method target asking body =
 pub reading-well_formed : BodiesAreWellFormed → ReadingsAreWellFormed
 reading-well_formed law method target asking body = (read-well_formed law method target asking body).if_ok
 
--- what holds of the wanted value holds of a value that is it
+-- a property of the wanted value is a property of an equal value
 pub of_given : (P : Request → Type 0) (found wanted : Result Request WireFault) → Gives (λ it. it) found wanted → IfOk wanted P → IfOk found P
 of_given P (Ok it) wanted is h = rw is at h
 of_given P (Err fault) wanted is h = tt

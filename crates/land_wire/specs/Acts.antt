@@ -1,4 +1,4 @@
--- Acts, by their words in paths and the JSON of their bodies.
+-- Acts, from their words in paths and the JSON of their bodies.
 use Rattle.std.specs.Prelude.{ℕ, List, Result, Ok}
 use Rattle.land_core.specs.declared.act.Act.{Act}
 use Rattle.land_core.specs.declared.act.Act.TheVariants as act
@@ -6,7 +6,8 @@ use Rattle.land_wire.specs.declared.routes.act_word.ActWord.{ActWord}
 use Rattle.land_wire.specs.declared.routes.act_word.ActWord.TheVariants as word
 use Rattle.land_wire_json.specs.Bodies.Fields.{value_in}
 use Rattle.land_wire_json.specs.Bodies.Mutations.{decision_of, lodging_of}
-use Rattle.land_wire_json.specs.Bodies.Parties.{enrol_of, group_of, regroup_of, grant_of, mandate_of, withdrawal_of}
+use Rattle.land_wire_json.specs.Bodies.Parties.{enrol_of, group_of, regroup_of, grant_of, mandate_of}
+use Rattle.land_wire_json.specs.Bodies.Parties.{withdrawal_of}
 use Rattle.land_wire_json.specs.Bodies.Units.{unit_of, burden_of, lift_of}
 use Rattle.land_wire_json.specs.Bodies.WireFaults.{◌>>=◌}
 use Rattle.land_wire_json.specs.declared.bodies.content_kind.ContentKind.{ContentKind}
@@ -14,11 +15,11 @@ use Rattle.land_wire_json.specs.declared.bodies.content_kind.ContentKind.TheVari
 use Rattle.land_wire_json.specs.declared.bodies.wire_fault.WireFault.{WireFault}
 use Rattle.serde_json.specs.Data.{Data}
 
--- a mutation that is lodged
+-- the lodging of a mutation
 abbrev pub lodged : ContentKind → Data → Result Act WireFault
 lodged kind value = lodging_of kind value >>= λ it. Ok (act.Lodge it)
 
--- what the word of an act asks for: five words lodge a mutation each, and every other has an act of its own
+-- the act of a word: five words lodge a mutation each, and each other word has its own act
 abbrev pub act_of : ActWord → Data → Result Act WireFault
 act_of word.Enrol value = enrol_of value >>= λ it. Ok (act.Enrol it)
 act_of word.Group value = group_of value >>= λ it. Ok (act.Group it)
@@ -38,6 +39,6 @@ act_of word.Discharge value = lodged content.Discharge value
 act_of word.Approve value = decision_of value >>= λ it. Ok (act.Approve it)
 act_of word.Refuse value = decision_of value >>= λ it. Ok (act.Refuse it)
 
--- the body of an act: JSON, else fault 130, and then its fields
+-- the act of a body: fault 130 if the body is not JSON, then the faults of its fields
 abbrev pub act_in : ActWord → (body : List ℕ) → Result Act WireFault
 act_in which body = value_in body >>= λ value. act_of which value

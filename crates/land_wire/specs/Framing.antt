@@ -1,6 +1,7 @@
--- Definitions of streams and the items in them.
+-- Definitions of streams and their items.
 pub mod Frame
 pub mod FrameFaults
 pub mod Items
+pub mod Reads
 pub mod Stream
 pub mod Target

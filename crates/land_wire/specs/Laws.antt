@@ -1,5 +1,6 @@
--- Laws of the edge, each over the definitions alone.
-use Rattle.std.specs.Prelude.{◌≡◌, ℕ, ℤ, pos, Bool, true, false, List, map, codes, bytes_eq, Option, Some, None, IfOk, Result}
+-- Laws of requests and replies, each stated with definitions only.
+use Rattle.std.specs.Prelude.{◌≡◌, ℕ, ℤ, pos, Bool, true, false, List, map, codes, bytes_eq, Option, Some}
+use Rattle.std.specs.Prelude.{None, IfOk, Result}
 use Rattle.http_header.specs.FieldValue.{FieldValue, plain_value}
 use Rattle.http_header.specs.HeaderMap.{Entries, get_all}
 use Rattle.http_header.specs.Token.{lowercase}
@@ -20,38 +21,40 @@ use Rattle.land_wire.specs.ReplyLimits.{IsReplyWithin}
 use Rattle.land_wire_json.specs.Texts.Objects.{object_text}
 use Rattle.land_wire_json.specs.declared.bodies.wire_fault.WireFault.{WireFault}
 
--- each request that is read keeps the limits of its fields
+-- each request that was read is within the limits of its fields
 abbrev pub ReadingsAreWellFormed : Type 0
 ReadingsAreWellFormed =
     (method target : List ℕ) (asking : Result Caller WireFault) (body : List ℕ)
     → IfOk (reading_by method target asking body) (λ request. is_well_formed_request request ≡ true)
 
--- the body of a GET is not looked at
+-- the body of a GET is ignored
 abbrev pub BodiesOfReadsDoNotCount : Type 0
 BodiesOfReadsDoNotCount =
     (target : List ℕ) (fields : Entries FieldValue) (body other : List ℕ)
     → reading (codes "GET") target fields body ≡ reading (codes "GET") target fields other
 
--- something is to be done
+-- the ask requests an act
 abbrev pub is_done : Ask → Bool
 is_done (ask.View kind number at) = false
 is_done (ask.List kind at) = false
 is_done (ask.Sheet unit at) = false
 is_done (ask.Do wanted) = true
 
--- a GET that is read asks for no act
+-- a request with GET does not request an act
 abbrev pub GetsDoNothing : Type 0
 GetsDoNothing =
     (target : List ℕ) (fields : Entries FieldValue) (body : List ℕ)
     → IfOk (reading (codes "GET") target fields body) (λ request. is_done request.ask ≡ false)
 
--- what is read by any other method is a POST, and asks for an act
+-- each other method that is accepted is POST, and requests an act
 abbrev pub OtherMethodsAskForActs : Type 0
 OtherMethodsAskForActs =
-    (method target : List ℕ) (fields : Entries FieldValue) (body : List ℕ) → bytes_eq method (codes "GET") ≡ false
-    → IfOk (reading method target fields body) (λ request. (is_done request.ask ≡ true) × (bytes_eq method (codes "POST") ≡ true))
+    (method target : List ℕ) (fields : Entries FieldValue) (body : List ℕ)
+    → bytes_eq method (codes "GET") ≡ false
+    → IfOk (reading method target fields body)
+    (λ request. (is_done request.ask ≡ true) × (bytes_eq method (codes "POST") ≡ true))
 
--- the moment that a query states lies between 0 and the last one
+-- the moment of a query, if there is one, is from 0 to the last moment
 abbrev pub IsStated : Option ℤ → Type 0
 IsStated None = Unit {0}
 IsStated (Some moment) = IsMoment moment
@@ -59,19 +62,19 @@ IsStated (Some moment) = IsMoment moment
 abbrev pub StatedMomentsAreMoments : Type 0
 StatedMomentsAreMoments = (query : List ℕ) → IfOk (at_in query) IsStated
 
--- and so does the one that a request asks for, if it states one
+-- likewise the moment of a request
 abbrev pub AskedMomentsAreMoments : Type 0
 AskedMomentsAreMoments =
     (method target : List ℕ) (asking : Result Caller WireFault) (body : List ℕ)
     → IfOk (reading_by method target asking body) (λ request. IsStated (at_of request.ask))
 
--- in the header map of a head's fields a name has the values of the fields with that name in any letter case
+-- a header map has for a name the values of the fields with that name, compared without case
 abbrev pub NamesAreInAnyCase : Type 0
 NamesAreInAnyCase =
     (fields : List (List ℕ × List ℕ)) (name : List ℕ)
     → get_all (field_map fields) (lowercase name) ≡ map plain_value (values_named name fields)
 
--- the replies of one number
+-- the texts of replies that contain one number
 abbrev pub ShortTexts : Type 0
 ShortTexts =
     (n : ℕ) → (reply_text (reply.Denied n) ≡ Some (short_text (codes "denied") n))
@@ -82,16 +85,17 @@ ShortTexts =
 abbrev pub NumbersTexts : Type 0
 NumbersTexts = (numbers : List ℕ) → reply_text (reply.Numbers numbers) ≡ Some (numbers_text numbers)
 
--- stamps are moments, so none is negative
+-- stamps are moments, so they are not negative
 abbrev pub DoneTexts : Type 0
 DoneTexts =
     (made : List ℕ) (n stamp : ℕ)
-    → reply_text (reply.Done (record { number = n; made = made; stamp = pos stamp })) ≡ Some (done_text made n stamp)
+    → reply_text (reply.Done (record { number = n; made = made; stamp = pos stamp }))
+    ≡ Some (done_text made n stamp)
 
--- an object is written as its text says
+-- the text of an object's reply contains the object's text
 abbrev pub ShownTexts : Type 0
 ShownTexts = (it : Object) → reply_text (reply.Object it) ≡ Some (shown_text (object_text it))
 
--- replies within their limits that have one text are one reply
+-- a text determines its reply, if the reply is within its limits
 abbrev pub RepliesAreTold : Type 0
 RepliesAreTold = (a b : Reply) → IsReplyWithin a → IsReplyWithin b → reply_text a ≡ reply_text b → a ≡ b

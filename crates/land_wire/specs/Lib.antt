@@ -1,4 +1,4 @@
--- Definitions of what requests and replies say.
+-- Definitions of requests and replies.
 pub mod Acts
 pub mod Fields
 pub mod Framing

@@ -1,4 +1,4 @@
--- The reading of a request: a function of method, target, fields and body.
+-- Reads a request: a function of method, target, header fields and body.
 use Rattle.std.specs.Prelude.{ℕ, List, Result, Ok, Err, if◌then◌else◌, ⊤}
 use Rattle.http_header.specs.FieldValue.{FieldValue}
 use Rattle.http_header.specs.HeaderMap.{Entries}
@@ -16,15 +16,15 @@ use Rattle.land_wire_json.specs.Bodies.WireFaults.{◌>>=◌, or_fault}
 use Rattle.land_wire_json.specs.declared.bodies.wire_fault.WireFault.{WireFault}
 use Rattle.land_wire_json.specs.declared.bodies.wire_fault.WireFault.TheVariants as fault
 
--- what a path names; a path that names nothing is fault 136
+-- the resource of a path; fault 136 if the path has none
 abbrev pub resource_at : (path : List ℕ) → Result Resource WireFault
 resource_at path = or_fault (route_of path) fault.NoRoute
 
--- any other method than the resource's one is fault 137
+-- fault 137 if the method is not the resource's
 abbrev pub allowed : Resource → (method : List ℕ) → Result ⊤ WireFault
 allowed named method = if allows named method then Ok tt else Err fault.Method
 
--- what is asked for: the path's number, then the query, then the body, which counts for an act alone
+-- the ask: the number in the path, then the query, then the body, which only acts have
 abbrev pub ask_of : Resource → (query body : List ℕ) → Result Ask WireFault
 ask_of (list kind) query body = do
   at ← at_in query
@@ -42,8 +42,9 @@ ask_of (act word) query body = do
   wanted ← act_in word body
   Ok (ask.Do wanted)
 
--- the request, or the first fault in this order: the route, its method, the caller's fields, what is asked
-unfoldable pub parts_reading : (method path query : List ℕ) → Result Caller WireFault → (body : List ℕ) → Result Request WireFault
+-- the request, or its first fault in this order: the route, the method, the caller's fields, the ask
+unfoldable pub parts_reading : (method path query : List ℕ) → Result Caller WireFault → (body : List ℕ)
+    → Result Request WireFault
 parts_reading method path query asking body = do
   resource ← resource_at path
   permit ← allowed resource method
@@ -51,10 +52,12 @@ parts_reading method path query asking body = do
   asked ← ask_of resource query body
   Ok (record { caller = caller; ask = asked })
 
--- the same of a target, which is a path and a query
-abbrev pub reading_by : (method target : List ℕ) → Result Caller WireFault → (body : List ℕ) → Result Request WireFault
+-- likewise for a target, which is a path and a query
+abbrev pub reading_by : (method target : List ℕ) → Result Caller WireFault → (body : List ℕ)
+    → Result Request WireFault
 reading_by method target asking body = parts_reading method (path_of target) (query_of target) asking body
 
--- the same of a head's fields, which say who asks
-abbrev pub reading : (method target : List ℕ) → Entries FieldValue → (body : List ℕ) → Result Request WireFault
+-- likewise for the fields of a head, which contain the caller
+abbrev pub reading : (method target : List ℕ) → Entries FieldValue → (body : List ℕ)
+    → Result Request WireFault
 reading method target fields body = reading_by method target (caller_in fields) body

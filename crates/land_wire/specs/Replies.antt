@@ -1,4 +1,4 @@
--- The texts of replies: compact JSON, the keys of each object in the order of their bytes.
+-- The texts of replies: compact JSON, the keys of each object in byte order.
 use Rattle.std.specs.Prelude.{ℕ, Bool, true, false, List, ◌++◌, map, codes, decimal, ◌≤◌, Option, Some, None}
 use Rattle.std.specs.Option.{option_map}
 use Rattle.land_core.specs.declared.change.Done.{Done}
@@ -16,7 +16,7 @@ done_data done =
     (member (codes "number") (number_data done.number)
     (member (codes "stamp") (number (of_integer done.stamp)) no_members)))
 
--- a title sheet is no JSON; every other reply is
+-- the reply is a title sheet, the only one that is not JSON
 abbrev pub is_sheet : Reply → Bool
 is_sheet (reply.Object it) = false
 is_sheet (reply.Numbers numbers) = false
@@ -37,7 +37,7 @@ reply_data (reply.Fault fault) = Some (one_member (codes "fault") (number_data f
 reply_data (reply.Refused refusal) = Some (one_member (codes "refused") (number_data refusal))
 reply_data (reply.Store fault) = Some (one_member (codes "store") (number_data fault))
 
--- what is written: the text of the reply's JSON
+-- the text of the reply's JSON
 unfoldable pub reply_text : Reply → Option (List ℕ)
 reply_text reply = option_map compact_text (reply_data reply)
 
@@ -47,7 +47,7 @@ IsStoreFault fault = (501 ≤ fault) × (fault ≤ 503)
 
 -- ---- texts
 
--- one number under a word
+-- an object with one number
 abbrev pub short_text : List ℕ → ℕ → List ℕ
 short_text word n = codes "{\"" ++ (word ++ (codes "\":" ++ (decimal n ++ codes "}")))
 
@@ -59,6 +59,6 @@ done_text made n stamp =
     codes "{\"made\":[" ++ (with_commas (map decimal made) ++ (codes "],\"number\":" ++ (decimal n
     ++ (codes ",\"stamp\":" ++ (decimal stamp ++ codes "}")))))
 
--- an object under a word; `text` is that of the object
+-- an object with the text of an object
 abbrev pub shown_text : List ℕ → List ℕ
 shown_text text = codes "{\"object\":" ++ (text ++ codes "}")

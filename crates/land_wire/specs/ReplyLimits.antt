@@ -1,4 +1,4 @@
--- The limits within which a text tells its reply.
+-- The limits within which a text determines its reply.
 use Rattle.std.specs.List.{AllByRecursion}
 use Rattle.land_core.specs.declared.change.Done.{Done}
 use Rattle.land_keep.specs.declared.reply.Reply.{Reply}
@@ -10,7 +10,7 @@ pub record IsDoneWithin (done : Done) : Type 0 where
   pub made : AllByRecursion IsShort done.made
   pub stamp : IsShortMoment done.stamp
 
--- a title sheet is no JSON, so it has no such text
+-- a title sheet is not JSON, so it is excluded
 abbrev pub IsReplyWithin : Reply → Type 0
 IsReplyWithin (reply.Object it) = IsObjectWithin it
 IsReplyWithin (reply.Numbers numbers) = AllByRecursion IsShort numbers

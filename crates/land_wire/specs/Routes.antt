@@ -1,10 +1,11 @@
--- Routes: what the paths of targets name, and by which method. The words are fixed, and one part of a path is free: it is
+-- Routes: the resource of a path, and its method. Words are fixed, and one segment of a path is free: it is
 -- not empty and has no `/`.
 pub mod ActWords
 pub mod Laws
 pub mod Table
 pub mod Targets
-use Rattle.std.specs.Prelude.{◌≡◌, ℕ, ◌==◌, ◌&&◌, Bool, true, false, not, List, [], ◌∷◌, ◌++◌, codes, bytes_eq, Option, Some, None, option_map, if◌then◌else◌}
+use Rattle.std.specs.Prelude.{◌≡◌, ℕ, ◌==◌, ◌&&◌, Bool, true, false, not, List, [], ◌∷◌, ◌++◌, codes}
+use Rattle.std.specs.Prelude.{bytes_eq, Option, Some, None, option_map, if◌then◌else◌}
 use Rattle.land_core.specs.declared.kind.Kind.{Kind}
 use Rattle.land_core.specs.declared.kind.Kind.TheVariants as kind
 use Rattle.land_wire.specs.Routes.ActWords.{act_of, act_word}
@@ -12,8 +13,8 @@ use Rattle.land_wire.specs.declared.routes.act_word.ActWord.{ActWord}
 use Rattle.land_wire.specs.declared.routes.route.Route.{Route}
 use Rattle.land_wire.specs.declared.routes.route.Route.TheVariants as route
 
--- what a path names: all objects of a kind, one of them by the part that has its number, a unit's title sheet by the part
--- that has the unit's, or an act
+-- the resource of a path: all objects of a kind, one of them by its number's segment, a unit's title sheet by
+-- the number's segment, or an act
 pub data Resource : Type 0 where
   list : Kind → Resource
   view : Kind → List ℕ → Resource
@@ -37,24 +38,24 @@ abbrev pub has_slash : List ℕ → Bool
 has_slash [] = false
 has_slash (b ∷ bytes) = if b == 47 then true else has_slash bytes
 
--- a part of a path is not empty and has no `/`
+-- a segment is not empty and has no `/`
 abbrev pub is_part : List ℕ → Bool
 is_part bytes = not (is_empty bytes) && not (has_slash bytes)
 
--- the rule itself: a path names a resource where it is the resource's fixed words with its part between them
+-- the rule: a path identifies a resource if it is the resource's fixed words with its segment between them
 abbrev pub Names : List ℕ → Resource → Type 0
 Names path (list k) = path ≡ list_path k
 Names path (view k part) = (path ≡ list_path k ++ 47 ∷ part) × (is_part part ≡ true)
 Names path (sheet part) = (path ≡ codes "/units/" ++ (part ++ codes "/sheet")) × (is_part part ≡ true)
 Names path (act word) = path ≡ codes "/acts/" ++ act_word word
 
--- what stands after some words at the front of a path
+-- the rest of a path after a prefix, if the path begins with it
 abbrev pub after : List ℕ → List ℕ → Option (List ℕ)
 after [] path = Some path
 after (x ∷ front) [] = None
 after (x ∷ front) (b ∷ path) = if x == b then after front path else None
 
--- what stands before the first `/`, and what from it on
+-- the bytes before the first `/`, and the bytes from it on
 abbrev pub before_slash : List ℕ → List ℕ
 before_slash [] = []
 before_slash (b ∷ path) = if b == 47 then [] else b ∷ before_slash path
@@ -63,18 +64,19 @@ abbrev pub from_slash : List ℕ → List ℕ
 from_slash [] = []
 from_slash (b ∷ path) = if b == 47 then b ∷ path else from_slash path
 
--- what is found in what stands after some words, or else something other
+-- continues with the rest if the prefix matched, and otherwise takes the other result
 abbrev pub where_after : {A : Type 0} → Option (List ℕ) → (List ℕ → Option A) → Option A → Option A
 where_after None found other = other
 where_after (Some rest) found other = found rest
 
--- a title sheet, after `/units/`: a part, and `/sheet`
+-- a title sheet, after `/units/`: a segment, and `/sheet`
 abbrev pub sheet_of : List ℕ → Option Resource
 sheet_of rest =
-    if not (is_empty (before_slash rest)) && bytes_eq (from_slash rest) (codes "/sheet") then Some (sheet (before_slash rest))
+    if not (is_empty (before_slash rest)) && bytes_eq (from_slash rest) (codes "/sheet")
+    then Some (sheet (before_slash rest))
     else None
 
--- units alone have sheets
+-- only units have sheets
 abbrev pub other_of : Kind → List ℕ → Option Resource
 other_of kind.Unit rest = sheet_of rest
 other_of kind.Party rest = None
@@ -83,20 +85,20 @@ other_of kind.Rrr rest = None
 other_of kind.Source rest = None
 other_of kind.Mutation rest = None
 
--- after the path of a kind's list and a `/` stands the part of a view, or what else the kind has
+-- after the path of a kind's list and a `/`: the segment of a view, or a suffix that the kind has
 abbrev pub one_of : Kind → List ℕ → Option Resource
 one_of k rest = if is_part rest then Some (view k rest) else other_of k rest
 
--- after the path of a kind's list stands nothing, or a `/` and more
+-- after the path of a kind's list: the end, or a `/` and more
 abbrev pub under : Kind → List ℕ → Option Resource
 under k [] = Some (list k)
 under k (b ∷ rest) = if 47 == b then one_of k rest else None
 
--- after `/acts/` stands the word of an act
+-- after `/acts/`: the word of an act
 abbrev pub named_act : List ℕ → Option Resource
 named_act rest = option_map act (act_of rest)
 
--- the same as a function: what a path names, or nothing
+-- the same rule as a function: the resource of a path, or none
 abbrev pub route_of : List ℕ → Option Resource
 route_of path =
     where_after (after (codes "/acts/") path) named_act
@@ -108,20 +110,20 @@ route_of path =
     (where_after (after (list_path kind.Unit) path) (under kind.Unit)
     None))))))
 
--- what the code's route names
+-- the resource of the code's route
 abbrev pub resource : Route → Resource
 resource (route.List k) = list k
 resource (route.View k part) = view k part.now
 resource (route.Sheet part) = sheet part.now
 resource (route.Act word) = act word
 
--- lists, objects and title sheets are looked at, and acts are done
+-- GET reads lists, objects and title sheets, and POST performs acts
 abbrev pub method_of : Resource → List ℕ
 method_of (list k) = codes "GET"
 method_of (view k part) = codes "GET"
 method_of (sheet part) = codes "GET"
 method_of (act word) = codes "POST"
 
--- a resource allows its one method, and letter case counts
+-- a resource allows exactly its own method; methods are case-sensitive
 abbrev pub allows : Resource → List ℕ → Bool
 allows named method = bytes_eq method (method_of named)

@@ -1,4 +1,4 @@
-//! Acts, by their words in paths and the JSON of their bodies.
+//! Reads acts, from their words in paths and the JSON of their bodies.
 ghost use Rattle.std.specs.Prelude.{◌≡◌};
 ghost use Rattle.land_wire.specs.Acts.{act_in, act_of, lodged};
 ghost use Rattle.land_wire_json.specs.Bodies.WireFaults.{Gives};
@@ -17,7 +17,7 @@ use land_wire_json::bodies::wire_fault::WireFault;
 use serde_json::Value;
 use std::alloc::Global;
 
-/// Reads the body of an act. 130: it is no JSON. Then the first fault of its fields, as `act_of` says.
+/// Reads the body of an act. Errors: 130 if it is not JSON; then the faults of its fields, as in `act_of`.
 pub fn read_act(alloc: Global, word: ActWord, body: &[u8]) -> Result<Act, WireFault>
     ensures { Gives (λ it. it) result (act_in word body.now) }
 {
@@ -25,8 +25,10 @@ pub fn read_act(alloc: Global, word: ActWord, body: &[u8]) -> Result<Act, WireFa
     act_of(alloc, word, &value)
 }
 
-/// The act that a word and the JSON of a body ask for, or the first fault in it: 131 to 134, 101 to 103 of a share and
-/// 110 to 120 of an outline, as the reader of its body says. 501: there was no memory.
+/// Reads the act of a word from the JSON of a body.
+///
+/// Errors: the first fault of the body: 131 to 134, 101 to 103 of a share, 110 to 120 of an outline; 501 if
+/// out of memory.
 pub fn act_of(alloc: Global, word: ActWord, value: &Value) -> Result<Act, WireFault>
     ensures { Gives (λ it. it) result (act_of word (view value.now)) }
 {

@@ -1,12 +1,11 @@
-//! The fields of a head: a header map, and who asks by it or by the head itself.
-ghost use Rattle.std.specs.Prelude.{◌≡◌, OnOk, OnErr, All, length, map};
+//! Header fields: builds a header map, and reads the caller from it or from the head itself.
+ghost use Rattle.std.specs.Prelude.{◌≡◌, OnOk, OnErr};
 ghost use Rattle.std.specs.Result.{IsErrOf};
 ghost use Rattle.http_header.specs.FieldName.{IsFieldName};
 ghost use Rattle.http_header.specs.FieldValue.{IsFieldValue};
 ghost use Rattle.http_header.specs.HeaderMap.{RefusesAppend, get_all};
 ghost use Rattle.http_header.specs.Token.{lowercase};
-ghost use Rattle.httparse.specs.Spans.{IsHeaderWithin, header_bytes};
-ghost use Rattle.land_wire.specs.Fields.{caller_in, field_map, only_value, party_in, role_in, with_field};
+ghost use Rattle.land_wire.specs.Fields.{AreWithin, caller_in, fields_at, only_value, party_in, role_in, with_field};
 ghost use Rattle.land_wire_json.specs.Bodies.WireFaults.{seen_by};
 
 use crate::framing::named::{Occurrence, look_up};
@@ -21,20 +20,20 @@ use land_wire_json::bodies::wire_fault::WireFault;
 use land_wire_json::bodies::words::role_of;
 use std::alloc::Global;
 
-/// Why a field is not taken.
+/// The reason that a field was not added.
 #[derive(Clone, Copy, Debug, PartialEq, Eq)]
 pub enum FieldFault {
-    /// Its name is no token (RFC 9110, section 5.1) of at most 65_535 bytes.
+    /// The name is not a token (RFC 9110, section 5.1) of at most 65_535 bytes.
     Name,
-    /// Its value has a byte that no value holds (RFC 9110, section 5.5).
+    /// The value has a byte that is not allowed in values (RFC 9110, section 5.5).
     Value,
-    /// The map holds no more names or values.
+    /// The map has no capacity for more names or values.
     Full,
-    /// There was no memory.
+    /// Out of memory.
     NoMemory,
 }
 
-/// Adds a field of a head to a header map. After a fault the map is as before.
+/// Appends a field of a head to a header map. After an error the map is unchanged.
 pub fn append_field(
     alloc: Global,
     fields: &mut HeaderMap,
@@ -64,9 +63,11 @@ pub fn append_field(
     }
 }
 
-/// Who asks, by the fields `Register-Party` and `Register-Role`, whose names are in any letter case: a party's
-/// number, else 132, and the word of a role, else 134. Either field absent or more than once is fault 131. The party
-/// comes first.
+/// Reads the caller from the fields `Register-Party` and `Register-Role`. Names of fields are compared
+/// without case.
+///
+/// Errors: 131 if a field is absent or repeated, 132 if the party is not a number, 134 if the role is
+/// unknown. The faults of the party come first.
 pub fn read_caller(fields: &HeaderMap) -> Result<Caller, WireFault>
     ensures { result ≡ caller_in fields.now }
 {
@@ -75,24 +76,27 @@ pub fn read_caller(fields: &HeaderMap) -> Result<Caller, WireFault>
     Ok(Caller { party, role })
 }
 
-/// The number in the field `Register-Party`: else fault 131, where it is absent or stands more than once, or 132.
+/// Reads the party in the field `Register-Party`. Errors: 131 if it is absent or repeated; 132 if it is not a
+/// number.
 pub fn read_party(fields: &HeaderMap) -> Result<u64, WireFault>
     ensures { result ≡ party_in fields.now }
 {
     read_number(only_value(fields, "register-party")?)
 }
 
-/// The role in the field `Register-Role`: else fault 131, where it is absent or stands more than once, or 134.
+/// Reads the role in the field `Register-Role`. Errors: 131 if it is absent or repeated; 134 if it is not a
+/// role.
 pub fn read_role(fields: &HeaderMap) -> Result<Role, WireFault>
     ensures { result ≡ role_in fields.now }
 {
     role_of(only_value(fields, "register-role")?)
 }
 
-/// Who asks, by the fields at these spans of a head, as `read_caller` reads them in the map of those fields: the same faults, and no map.
+/// Reads the caller from the fields at these spans of a head, with the errors of `read_caller`. It builds no
+/// map.
 pub fn caller_at(head: &[u8], fields: &[HeaderSpan]) -> Result<Caller, WireFault>
-    requires { All (IsHeaderWithin (length head.now)) fields.now }
-    ensures { result ≡ caller_in (field_map (map (header_bytes head.now) fields.now)) }
+    requires { AreWithin head.now fields.now }
+    ensures { result ≡ caller_in (fields_at head.now fields.now) }
 {
     Ok(Caller {
         party: party_at(head, fields)?,
@@ -101,22 +105,23 @@ pub fn caller_at(head: &[u8], fields: &[HeaderSpan]) -> Result<Caller, WireFault
 }
 
 fn party_at(head: &[u8], fields: &[HeaderSpan]) -> Result<u64, WireFault>
-    requires { All (IsHeaderWithin (length head.now)) fields.now }
-    ensures { result ≡ party_in (field_map (map (header_bytes head.now) fields.now)) }
+    requires { AreWithin head.now fields.now }
+    ensures { result ≡ party_in (fields_at head.now fields.now) }
 {
     read_number(value_at(head, fields, "register-party")?)
 }
 
 fn role_at(head: &[u8], fields: &[HeaderSpan]) -> Result<Role, WireFault>
-    requires { All (IsHeaderWithin (length head.now)) fields.now }
-    ensures { result ≡ role_in (field_map (map (header_bytes head.now) fields.now)) }
+    requires { AreWithin head.now fields.now }
+    ensures { result ≡ role_in (fields_at head.now fields.now) }
 {
     role_of(value_at(head, fields, "register-role")?)
 }
 
 fn value_at<'h>(head: &'h [u8], fields: &[HeaderSpan], name: &str) -> Result<&'h [u8], WireFault>
-    requires { All (IsHeaderWithin (length head.now)) fields.now }
-    ensures { seen_by (λ value. value.now) result ≡ only_value (get_all (field_map (map (header_bytes head.now) fields.now)) (lowercase name.now)) }
+    requires { AreWithin head.now fields.now }
+    ensures { seen_by (λ value. value.now) result
+        ≡ only_value (get_all (fields_at head.now fields.now) (lowercase name.now)) }
 {
     match look_up(head, fields, name) {
         Occurrence::Once(value) => Ok(value.of(head)),

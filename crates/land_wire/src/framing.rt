@@ -1,4 +1,4 @@
-//! The items of a stream of bytes: requests, as RFC 9112 frames them, and faults of framing.
+//! Splits a stream of bytes into items: requests, as RFC 9112 frames them, and framing faults.
 
 pub mod connection;
 pub mod frame_fault;

@@ -1,36 +1,40 @@
-//! Laws, each stated over the definitions alone.
-ghost use Rattle.land_wire.specs.Laws.{ReadingsAreWellFormed, BodiesOfReadsDoNotCount, GetsDoNothing, OtherMethodsAskForActs, StatedMomentsAreMoments, AskedMomentsAreMoments, NamesAreInAnyCase, ShortTexts, NumbersTexts, DoneTexts, ShownTexts, RepliesAreTold};
+//! Laws, each stated with definitions only.
+ghost use Rattle.land_wire.specs.Laws.{BodiesOfReadsDoNotCount, GetsDoNothing, OtherMethodsAskForActs};
+ghost use Rattle.land_wire.specs.Laws.{ReadingsAreWellFormed};
+ghost use Rattle.land_wire.specs.Laws.{AskedMomentsAreMoments, NamesAreInAnyCase, StatedMomentsAreMoments};
+ghost use Rattle.land_wire.specs.Laws.{DoneTexts, NumbersTexts, RepliesAreTold, ShortTexts, ShownTexts};
 
-/// Each request that is read keeps the limits of its fields.
+/// Each request that was read is within the limits of its fields.
 pub fn readings_are_well_formed()
     ensures { ReadingsAreWellFormed }
 {
     land_wire_json::bodies::laws::readings_are_well_formed();
 }
 
-/// The body of a GET is not looked at.
+/// The body of a GET is ignored.
 pub fn bodies_of_reads_do_not_count()
     ensures { BodiesOfReadsDoNotCount }
 {}
 
-/// A request that is read has the method GET or POST: a GET asks for no act, and a POST for nothing else.
+/// A request that was read has the method GET or POST: only a POST requests an act, and it requests nothing
+/// else.
 pub fn posts_are_acts()
     ensures gets { GetsDoNothing }
     ensures others { OtherMethodsAskForActs }
 {}
 
-/// The moment that a query states is one that there is, and so is the one that a request asks for.
+/// The moment in a query is valid, and so is the moment of a request.
 pub fn stated_moments_are_moments()
     ensures queries { StatedMomentsAreMoments }
     ensures requests { AskedMomentsAreMoments }
 {}
 
-/// A name of a field is found in any letter case.
+/// Names of fields are compared without case.
 pub fn names_are_in_any_case()
     ensures { NamesAreInAnyCase }
 {}
 
-/// The texts of replies of one number.
+/// The texts of replies that contain one number.
 pub fn short_replies_have_plain_texts()
     ensures { ShortTexts }
 {}
@@ -40,17 +44,17 @@ pub fn lists_have_plain_texts()
     ensures { NumbersTexts }
 {}
 
-/// The texts of what is told of an act that was done.
+/// The texts of receipts of acts.
 pub fn done_replies_have_plain_texts()
     ensures { DoneTexts }
 {}
 
-/// A reply that shows an object tells that object's text.
+/// The text of a reply with an object contains the text of that object.
 pub fn objects_have_plain_texts()
     ensures { ShownTexts }
 {}
 
-/// Two replies within their limits that have one text are one reply.
+/// A text determines its reply, if the reply is within its limits.
 pub fn texts_tell_replies()
     ensures { RepliesAreTold }
 {

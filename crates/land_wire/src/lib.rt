@@ -1,4 +1,4 @@
-//! How a request is read, and how the text of a reply is written.
+//! Reads requests, and writes the texts of replies.
 #![tactic(auto)]
 
 pub mod act;

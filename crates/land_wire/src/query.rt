@@ -1,4 +1,4 @@
-//! The queries of targets.
+//! Reads the queries of request targets.
 ghost use Rattle.std.specs.Prelude.{◌≡◌};
 ghost use Rattle.land_wire.specs.Queries.{at_in, no_query, stated};
 
@@ -6,8 +6,9 @@ use crate::numbers::read_moment;
 use land_wire_json::bodies::wire_fault::WireFault;
 use land_wire_json::bodies::words::is_word;
 
-/// The moment of a read, in milliseconds since 1970 UTC: none without a query, else the one that follows `at=`. 131:
-/// the query does not begin with `at=`. 132: what follows is no moment.
+/// Reads the requested time, in Unix milliseconds: `None` without a query, otherwise the moment after `at=`.
+///
+/// Errors: 131 if the query does not begin with `at=`; 132 if the rest is not a moment.
 pub fn read_at(query: &[u8]) -> Result<Option<i64>, WireFault>
     ensures { result ≡ at_in query.now }
 {
@@ -29,7 +30,7 @@ fn stated(query: &[u8]) -> Result<Option<i64>, WireFault>
     }
 }
 
-/// An act has no query. 131: there is one.
+/// Checks that an act has no query. Errors: 131 if it has one.
 pub fn check_no_query(query: &[u8]) -> Result<(), WireFault>
     ensures { result ≡ no_query query.now }
 {

@@ -1,4 +1,4 @@
-//! Requests, from the parts of their messages.
+//! Reads requests from the parts of their messages.
 ghost use Rattle.std.specs.Prelude.{◌≡◌, [], IfOk, true};
 ghost use Rattle.land_core.specs.Acts.{is_well_formed_request};
 ghost use Rattle.land_keep.specs.Machine.{at_of};
@@ -25,7 +25,7 @@ use land_wire_json::bodies::wire_fault::WireFault;
 use matchit::Router;
 use std::alloc::Global;
 
-/// Reads a request as `read_routed` does, by a router that it makes. 501: there was no memory, for the router either.
+/// Reads a request as `read_routed` does, with its own router and with the same errors.
 pub fn read_request(
     alloc: Global,
     method: &[u8],
@@ -42,10 +42,12 @@ pub fn read_request(
     read_routed(alloc, &router, method, target, caller, body)
 }
 
-/// Reads a request of its method, target and body, and of who asks by the fields `Register-Party` and `Register-Role` or their fault, by a
-/// router that `routes` made. The first fault is answered, in this order: 136 no such route, 137 another method, the fields (131, 132, 134),
-/// 132 the number in the path, the query (131, 132), and the faults of an act's body: 130 no JSON, then those of its fields. The body of a
-/// GET is not looked at. 501: there was no memory.
+/// Reads a request from its method, target and body, and from the caller in the fields `Register-Party` and
+/// `Register-Role`, or the fault of these fields. `router` comes from `routes`. The body of a GET is ignored.
+///
+/// Errors: the first fault in this order: 136 if the path has no route, 137 for another method, the fault of
+/// the fields (131, 132, 134), 132 for the number in the path, the query (131, 132), the body of an act (130
+/// if it is not JSON, then the faults of its fields); 501 if out of memory.
 pub fn read_routed(
     alloc: Global,
     router: &Router<Goal>,

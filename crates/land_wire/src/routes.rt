@@ -1,4 +1,4 @@
-//! What targets name: the routes of the register, found by `matchit`.
+//! Routes of the register, from the paths of request targets; `matchit` finds them.
 
 pub mod act_word;
 pub mod laws;

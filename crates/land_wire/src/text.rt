@@ -1,6 +1,7 @@
-//! The texts of replies: numbers are written as they stand, objects and what is told of acts field by field.
+//! Writes the texts of replies as compact JSON.
 ghost use Rattle.std.specs.Prelude.{◌≡◌, ◌++◌, IfOk, OnOk, Some, codes, decimal, false, map, string_bytes};
-ghost use Rattle.land_wire.specs.Replies.{IsStoreFault, done_data, is_sheet, numbers_text, reply_text, short_text};
+ghost use Rattle.land_wire.specs.Replies.{IsStoreFault, done_data, is_sheet, numbers_text, reply_text};
+ghost use Rattle.land_wire.specs.Replies.{short_text};
 ghost use Rattle.land_wire_json.specs.Texts.Objects.{object_data};
 ghost use Rattle.land_wire_json.specs.Texts.Values.{after_comma, one_member};
 ghost use Rattle.land_keep.specs.declared.reply.Reply.TheVariants as reply;
@@ -14,7 +15,7 @@ use land_wire_json::texts::fields::{Field, Shown, new_text, text_of, write_objec
 use land_wire_json::texts::object::write_as_shown;
 use std::alloc::{AllocError, Global};
 
-/// The text of a reply that is no title sheet: compact JSON, keys in the order of their bytes.
+/// Writes the text of a reply: compact JSON, keys in byte order. The reply is not a title sheet.
 pub fn reply_text(alloc: Global, reply: &Reply) -> Result<String, AllocError>
     requires { is_sheet reply.now ≡ false }
     ensures { IfOk result (λ text. reply_text reply.now ≡ Some (string_bytes text)) }
@@ -31,17 +32,17 @@ pub fn reply_text(alloc: Global, reply: &Reply) -> Result<String, AllocError>
     }
 }
 
-/// The text of one number under a word.
+/// Writes an object with one number.
 fn short_text(alloc: Global, word: &str, number: u64) -> Result<String, AllocError>
     ensures { IfOk result (λ text. string_bytes text ≡ short_text word.now number) }
 {
     format!(in alloc; "{{\"{word}\":{number}}}")
 }
 
-/// So many bytes hold a number of the register and a comma.
+/// The length in bytes of a number of the register and a comma, at most.
 const DIGITS_ROOM: usize = 11;
 
-/// The text of a list of numbers.
+/// Writes a list of numbers.
 fn numbers_text(alloc: Global, numbers: &[u64]) -> Result<String, AllocError>
     ensures { IfOk result (λ text. string_bytes text ≡ numbers_text numbers.now) }
 {
@@ -56,9 +57,10 @@ fn numbers_text(alloc: Global, numbers: &[u64]) -> Result<String, AllocError>
     Ok(text)
 }
 
-/// Writes numbers behind others, each after a comma.
+/// Appends numbers, each after a comma.
 fn push_later(text: &mut String, numbers: &[u64]) -> Result<(), AllocError>
-    ensures { OnOk result (string_bytes text.new ≡ string_bytes text.old ++ after_comma (map decimal numbers.now)) }
+    ensures { OnOk result (string_bytes text.new
+        ≡ string_bytes text.old ++ after_comma (map decimal numbers.now)) }
 {
     for number in numbers {
         text.push_str(",")?;
@@ -67,14 +69,14 @@ fn push_later(text: &mut String, numbers: &[u64]) -> Result<(), AllocError>
     Ok(())
 }
 
-/// Whether a reply is a title sheet, whose text is no JSON.
+/// Checks whether a reply is a title sheet, the only reply that is not JSON.
 pub fn is_sheet(reply: &Reply) -> bool
     ensures { result ≡ is_sheet reply.now }
 {
     matches!(reply, Reply::Sheet(_))
 }
 
-/// The text of a reply that tells the store fault 501, 502 or 503, without memory.
+/// Returns the text of the store fault 501, 502 or 503 without allocating.
 pub fn store_text(number: u16) -> &'static str
     requires { IsStoreFault number }
     ensures { reply_text (reply.Store number) ≡ Some result.now }
@@ -86,9 +88,10 @@ pub fn store_text(number: u16) -> &'static str
     }
 }
 
-/// The text of an object, under its word.
+/// Writes the text of an object's reply.
 fn object_text(alloc: Global, object: &Object) -> Result<String, AllocError>
-    ensures { IfOk result (λ text. string_bytes text ≡ compact_text (one_member (codes "object") (object_data object.now))) }
+    ensures { IfOk result (λ text. string_bytes text
+        ≡ compact_text (one_member (codes "object") (object_data object.now))) }
 {
     let mut out = new_text(alloc)?;
     out.begin_object()?;
@@ -98,7 +101,7 @@ fn object_text(alloc: Global, object: &Object) -> Result<String, AllocError>
     Ok(text_of(out))
 }
 
-/// The text of what is told of an act that was done.
+/// Writes the receipt of an act.
 fn done_text(alloc: Global, done: &Done) -> Result<String, AllocError>
     ensures { IfOk result (λ text. string_bytes text ≡ compact_text (done_data done.now)) }
 {

@@ -1,8 +1,8 @@
-//! Words among bytes.
+//! Compares bytes with words.
 ghost use Rattle.std.specs.Prelude.{◌≡◌};
 ghost use Rattle.std.specs.Str.{str_eq_ignore_ascii_case};
 
-/// Whether the bytes differ from those of a word in letter case at most. The names of fields are looked up so.
+/// Checks whether the bytes equal a word without case, as names of fields are compared.
 pub fn is_word_in_any_case(bytes: &[u8], word: &str) -> bool
     ensures { result ≡ str_eq_ignore_ascii_case bytes.now word.now }
 {

@@ -1,4 +1,4 @@
--- Compact texts are read as what they were written for.
+-- Reading a compact text returns the JSON that was written.
 use Rattle.std.proofs.Common.{◌≡◌, ◌≤◌, ◌<◌, ◌^◌, ℕ, suc, max, List, [], Bool, true, false, ◌&&◌, nat_lt, Some, option_map, refl, sym, ap, ap₂, ◌∙◌, arith, append-nil}
 use Rattle.std.proofs.lemmas.Bool.Decides.{nat_tests}
 use Rattle.std.specs.Ordering.{nat_cmp, match_ordering}
@@ -22,7 +22,7 @@ use Rattle.serde_json.specs.Written.{compact_text, outline, items_outline, membe
 below : (n : ℕ) → nat_lt n (2 ^ 64) ≡ true → n < 2 ^ 64
 below n e = grind (arith, nat_tests)
 
--- ---- keys that rise
+-- ---- increasing keys
 
 abbrev joined : Members → Members → Members
 joined no_members ms = ms
@@ -36,7 +36,7 @@ joined_none : (found : Members) → found ≡ joined found no_members
 joined_none no_members = refl
 joined_none (member l e rest) = ap (member l e) (joined_none rest)
 
--- the key comes after each of these
+-- the key comes after each of these keys
 abbrev after_all : List ℕ → Members → Bool
 after_all k no_members = true
 after_all k (member l e ms) = is_after k l && after_all k ms
@@ -74,7 +74,7 @@ put_last k d (member l x rest) e =
     let p = and_parts (is_after k l) (after_all k rest) e in
     goes_last (slice_cmp nat_cmp k l) _ _ _ p.0 ∙ ap (member l x) (put_last k d rest p.1)
 
--- ---- what was written is read
+-- ---- reading what was written
 
 mutual
   of_outline : (d : Data) → is_exact d ≡ true → of_json (outline d) ≡ Some d

@@ -1,4 +1,4 @@
--- The text of a content is read as that content.
+-- Reading the text of a content returns that content.
 use Rattle.std.proofs.Common.{◌≡◌, ◌≤◌, ◌^◌, ℕ, suc, List, [], ◌∷◌, true, false, ◌&&◌, not, nat_le, nat_lt, length, map, Option, Some, None, Result, Ok, Err, refl, ap, ◌∙◌, arith}
 use Rattle.std.proofs.lemmas.Bool.Decides.{nat_tests}
 use Rattle.std.specs.List.{AllByRecursion, list_all}
@@ -46,7 +46,7 @@ use Rattle.serde_json.specs.Data.{Data, depth, items_depth}
 use Rattle.serde_json.specs.Read.{max_depth}
 use Rattle.serde_json.specs.View.{items_of}
 
--- ---- limits, each by itself
+-- ---- limits, one at a time
 
 record Mortgaged (it : Mortgage) : Type 0 where
   unit : is_number it.unit ≡ true
@@ -112,7 +112,7 @@ transferred it e =
     let q = and_parts (is_number it.unit) (is_number it.right) p.0 in
     record { unit = q.0; right = q.1; receiver = p.1 }
 
--- ---- the JSON of a content is exact, and shallow
+-- ---- the JSON of a content is exact, and its depth is small
 
 fits : (n : ℕ) → is_number n ≡ true → nat_lt n (2 ^ 64) ≡ true
 fits n e = let p = and_parts (nat_le 1 n) (nat_le n 1000000000) e in grind (arith, nat_tests, p.1)

@@ -1,4 +1,4 @@
--- Texts of what mutations ask for, without the words of JSON.
+-- Texts of contents of mutations, as plain bytes.
 use Rattle.std.proofs.Common.{◌≡◌, ◌∙◌, ℕ, List, [], ◌∷◌, ◌++◌, map, true, false, Option, Some, None, refl, ap, codes, decimal}
 use Rattle.land_core.specs.declared.content.Content.{Content}
 use Rattle.land_core.specs.declared.content.Content.TheVariants as content

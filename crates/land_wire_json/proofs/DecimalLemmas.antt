@@ -1,4 +1,4 @@
--- Numbers of at most 18 digits fit 64 bits.
+-- Numbers of at most 18 digits fit in 64 bits.
 use Rattle.std.proofs.Common.{◌≡◌, ℕ, ◌+◌, ◌-◌, ◌*◌, ◌<◌, ◌≤◌, ◌^◌, suc, zero, true, List, [], ◌∷◌, length, take, get_or, ap, arith, length-take}
 use Rattle.std.specs.List.{list_all}
 use Rattle.std.specs.Char.{is_ascii_digit, digit_value}

@@ -1,4 +1,4 @@
--- The JSON of objects and contents within their limits is exact, and not deep.
+-- The JSON of objects and contents within their limits is exact, and its depth is small.
 use Rattle.std.proofs.Common.{◌≡◌, ◌≤◌, ◌^◌, ℕ, ℤ, pos, negsuc, List, [], ◌∷◌, true, nat_lt, map, Option, Some, None, refl, arith}
 use Rattle.std.proofs.lemmas.Bool.Decides.{nat_tests}
 use Rattle.std.specs.List.{AllByRecursion}

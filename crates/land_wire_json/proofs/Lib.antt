@@ -1,4 +1,4 @@
--- Lemmas of the register in JSON.
+-- Lemmas of the register's JSON.
 pub mod CompactTexts
 pub mod ContentReading
 pub mod ContentTexts

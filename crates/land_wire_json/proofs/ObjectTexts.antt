@@ -1,4 +1,4 @@
--- Texts of objects, without the words of JSON.
+-- Texts of objects, as plain bytes.
 use Rattle.std.proofs.Common.{◌≡◌, ℕ, List, ◌++◌, Bool, true, false, refl, ap, codes, decimal, pos}
 use Rattle.land_core.specs.Words.{act_word, source_word, state_word}
 use Rattle.land_core.specs.declared.content.Content.{Content}

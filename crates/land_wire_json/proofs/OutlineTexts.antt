@@ -1,4 +1,4 @@
--- Outlines are written as they are printed.
+-- Outlines are written in their canonical form.
 use Rattle.std.proofs.Common.{suc, ◌<◌, ◌^◌, arith, ◌≡◌, ℕ, List, [], ◌∷◌, ◌++◌, take, refl, ap, ap₂, codes, ◌∙◌}
 use Rattle.std.specs.Fmt.{signed_decimal}
 use Rattle.std.specs.List.{AllByRecursion}

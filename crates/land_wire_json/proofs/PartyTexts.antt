@@ -1,4 +1,4 @@
--- Texts of lists and of parties, without the words of JSON.
+-- Texts of lists and of parties, as plain bytes.
 use Rattle.std.proofs.Common.{◌≡◌, ℕ, List, [], ◌∷◌, ◌++◌, map, refl, ap, codes, append_assoc, ◌∙◌, false, true, decimal}
 use Rattle.land_core.specs.Words.{party_word}
 use Rattle.land_core.specs.declared.kind.PartyKind.{PartyKind}

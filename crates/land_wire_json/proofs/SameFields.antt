@@ -1,4 +1,4 @@
--- What stands in JSON: equal data have equal words, shares, outlines and lists.
+-- Equal JSON has equal words, shares, outlines and lists.
 use Rattle.std.proofs.Common.{◌≡◌, ◌<◌, ◌^◌, ◌+◌, ◌*◌, ◌==◌, ℕ, ℤ, pos, negsuc, zero, suc, List, [], ◌∷◌, ◌++◌, Bool, true, false, map, length, decimal, refl, sym, ap, ◌∙◌, arith, append_assoc}
 use Rattle.std.proofs.lemmas.Bool.Decides.{nat_tests}
 use Rattle.std.proofs.lemmas.Fmt.{decimal_is_IsNumeral, decimal_injective}
@@ -39,7 +39,7 @@ nth_length n no_members = 0
 nth_length zero (member k d ms) = length k
 nth_length (suc n) (member k d ms) = nth_length n ms
 
--- the value of a member of an object, by its place
+-- the value of an object's member, by its position
 abbrev pub at : ℕ → Data → Data
 at n d = nth n (fields_in d)
 
@@ -119,7 +119,7 @@ same_list data_of P one (x ∷ xs) (y ∷ ys) h k e =
 pub same_numbers : (ms ns : List ℕ) → AllByRecursion IsShort ms → AllByRecursion IsShort ns → items_of (map number_data ms) ≡ items_of (map number_data ns) → ms ≡ ns
 same_numbers = same_list number_data IsShort (λ m n h k e. ap number_in e)
 
--- ---- words: here their lengths tell them apart
+-- ---- words: their lengths differ
 
 pub same_word : {X : Type 0} (word : X → List ℕ) (back : ℕ → X) → ((x : X) → back (length (word x)) ≡ x) → (x y : X) → word x ≡ word y → x ≡ y
 same_word word back told x y e = sym (told x) ∙ ap (λ (w : List ℕ). back (length w)) e ∙ told y

@@ -1,4 +1,4 @@
--- A text tells its object, and its content.
+-- A text determines its object, and its content.
 use Rattle.std.proofs.Common.{◌≡◌, ◌≤◌, ℕ, ℤ, List, [], ◌∷◌, Bool, true, ◌==◌, cond, length, Option, Some, None, refl, sym, ap, ◌∙◌, arith}
 use Rattle.std.specs.List.{AllByRecursion}
 use Rattle.std.specs.Prelude.{⊤}
@@ -54,7 +54,7 @@ use Rattle.serde_json.specs.Data.{Data, Members, no_members, member, depth}
 use Rattle.serde_json.specs.Read.{read, max_depth}
 use Rattle.serde_json.specs.Written.{compact_text}
 
--- exact JSON that is not too deep is told by its text
+-- a compact text determines its JSON, if the JSON is exact and not too deep
 same_some : (a b : Data) → Some a ≡ Some b → a ≡ b
 same_some a b e = cc
 
@@ -107,7 +107,7 @@ state_told state.Lodged = refl
 state_told state.Approved = refl
 state_told state.Refused = refl
 
--- ---- what mutations ask for
+-- ---- contents of mutations
 
 abbrev transfer_of : ℕ → ℕ → ℕ → Ratio → Transfer
 transfer_of x0 x1 x2 x3 = record { unit = x0; right = x1; receiver = x2; share = x3 }
@@ -453,7 +453,7 @@ object_lengths (shown.Rrr it) = 565
 object_lengths (shown.Source it) = 465
 object_lengths (shown.Mutation it) = 376
 
--- with the keys of a mortgage as those of the other entries
+-- the keys of a mortgage differ from those of the other entries
 abbrev entry_lengths : ℕ → ℕ
 entry_lengths n = cond (n == 658) 565 n
 

@@ -1,4 +1,4 @@
--- The text of a share is read as that share.
+-- Reading the text of a share returns that share.
 use Rattle.std.proofs.Common.{◌≡◌, ◌≤◌, ◌<◌, ◌+◌, ℕ, suc, List, [], ◌∷◌, ◌++◌, true, false, ◌==◌, nat_le, length, take, drop, Some, Ok, decimal, refl, ap, ap₂, ◌∙◌, arith, append_assoc}
 use Rattle.std.proofs.Math.Seq.{take-append_seam}
 use Rattle.std.proofs.lemmas.Bool.Decides.{nat_tests}

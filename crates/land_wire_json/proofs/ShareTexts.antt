@@ -1,4 +1,4 @@
--- Shares are written as they are printed.
+-- Shares are written in their canonical form.
 use Rattle.std.proofs.Common.{suc, ◌<◌, ◌≤◌, ◌^◌, arith, length, get_or, ◌≡◌, ℕ, List, [], ◌∷◌, ◌++◌, refl, ap, codes, ◌∙◌, decimal}
 use Rattle.std.specs.Int.{IsInRange}
 use Rattle.std.proofs.lemmas.Fmt.{decimal_is_IsNumeral}

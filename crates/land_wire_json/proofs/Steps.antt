@@ -1,4 +1,4 @@
--- Steps of a sequence, and what they write.
+-- Steps of a sequence of writes, and the tokens that they write.
 use Rattle.std.proofs.Common.{◌≡◌, ℕ, List, [], ◌∷◌, ◌++◌, Option, Some, None, refl, ap, append_assoc, ◌∙◌}
 use Rattle.std.specs.Prelude.{Result, OnOk}
 use Rattle.std.proofs.lemmas.Result.{on_ok_weaker}
@@ -9,7 +9,7 @@ use Rattle.land_wire_json.specs.declared.texts.fields.Field.{Field}
 use Rattle.land_wire_json.specs.Texts.Subdivisions.{name_members}
 use Rattle.serde_json.specs.Written.{members_outline}
 
--- what the last step does, where it is done, and what follows from that
+-- the effect of the last step, if it succeeds, and its consequence
 pub then : {A E P Q : Type 0} (r : Result A E) → OnOk r P → (P → Q) → OnOk r Q
 then r h f = on_ok_weaker r f h
 
@@ -18,7 +18,7 @@ pub part_ends : (name : Option (List ℕ)) → unit_tokens name ++ end_object �
 part_ends None = refl
 part_ends (Some name) = refl
 
--- fields, and what stands behind them
+-- fields, and the tokens after them
 pub joined : (fields : List Field) (rest : List Token) → fields_tokens fields ++ rest ≡ fields_before fields rest
 joined [] rest = refl
 joined (field ∷ fields) rest =

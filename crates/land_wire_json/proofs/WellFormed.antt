@@ -1,4 +1,4 @@
--- What is read keeps the limits of its fields.
+-- Values that were read are within the limits of their fields.
 use Rattle.std.proofs.Common.{◌≡◌, ℕ, List, [], ◌∷◌, Bool, true, false, Option, Some, None, Result, Ok, Err, refl, ap, suc, length, nat_le, ◌&&◌, if◌then◌else◌, codes, bytes_eq, IfOk}
 use Rattle.std.specs.List.{list_all}
 use Rattle.std.proofs.lemmas.Bool.{and_parts}
@@ -32,23 +32,23 @@ use Rattle.land_wire_json.specs.declared.bodies.wire_fault.WireFault.TheVariants
 use Rattle.serde_json.specs.Data.{Data, Num, unsigned, negative, float, Items, no_items, item}
 use Rattle.serde_json.specs.Find.{get, as_array, as_number, as_str}
 
--- what is read has the property, if it is read
+-- the result has the property, if reading succeeds
 record Ensures {A : Type 0} (P : A → Type 0) (r : Result A WireFault) : Type 0 where
   if_ok : IfOk r P
 
--- what holds of each value that comes next holds of the whole
+-- a property of each next value is a property of the whole
 bind : {A B : Type 0} {P : B → Type 0} (r : Result A WireFault) {next : A → Result B WireFault}
     → ((a : A) → Ensures P (next a)) → Ensures P (r >>= next)
 bind (Ok a) h = h a
 bind (Err e) h = record { if_ok = tt }
 
--- the same, by what holds of the value before
+-- likewise, from a property of the value before
 bind_with : {A B : Type 0} {Q : A → Type 0} {P : B → Type 0} (r : Result A WireFault) {next : A → Result B WireFault}
     → Ensures Q r → ((a : A) → Q a → Ensures P (next a)) → Ensures P (r >>= next)
 bind_with (Ok a) q h = h a q.if_ok
 bind_with (Err e) q h = record { if_ok = tt }
 
--- a value that is looked at has what was looked for
+-- a value that passed a test has the property tested
 abbrev allowed : {A : Type 0} → Bool → A → WireFault → Result A WireFault
 allowed b a f = if b then Ok a else Err f
 
@@ -94,7 +94,7 @@ items_at-counted least most key value =
     bind (field_at key value) (λ found. bind (or_fault (as_array found) fault.Field) (λ items.
     by_test (λ items. is_between least most (item_count items) ≡ true) (is_between least most (item_count items)) items fault.Field (λ h. h)))
 
--- as many as there are items, each with the property
+-- the count of items, each with the property
 record AreRead {A : Type 0} (p : A → Bool) (count : ℕ) (xs : List A) : Type 0 where
   same_count : length xs ≡ count
   each : list_all p xs ≡ true
@@ -107,7 +107,7 @@ each_of-all p read h (item value items) =
     bind_with (each_of read items) (each_of-all p read h items) (λ rest are.
     record { if_ok = record { same_count = ap suc are.same_count; each = rw (is, are.each) refl } }))
 
--- the length of a list between bounds, and each with the property
+-- a list whose length is between bounds, each item with the property
 record AreBetween {A : Type 0} (p : A → Bool) (least most : ℕ) (xs : List A) : Type 0 where
   count : is_between least most (length xs) ≡ true
   each : list_all p xs ≡ true
@@ -219,7 +219,7 @@ right_of-numbered value =
     bind_with (number_at (codes "party") value) (number_at-number (codes "party") value) (λ party is.
     bind (type_in value) (λ type. bind (share_at (codes "share") value) (λ share. record { if_ok = is }))))
 
--- rights with an ownership among them
+-- rights that include an ownership
 record AreOwned (rights : List NewRight) : Type 0 where
   between : AreBetween is_of_party 1 64 rights
   owner : have_owner rights ≡ true
@@ -300,7 +300,7 @@ subdivision_of-well_formed value =
     bind_with (rest_of value) (rest_of-between value) (λ rest are.
     record { if_ok = rw (unit_is, parcel_is, labelled, are.count, are.each) refl })))))
 
--- numbers of objects that rise
+-- increasing numbers of objects
 record AreRising (least most : ℕ) (numbers : List ℕ) : Type 0 where
   count : is_between least most (length numbers) ≡ true
   rise : are_rising numbers ≡ true

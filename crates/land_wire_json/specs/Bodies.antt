@@ -1,4 +1,4 @@
--- Definitions of how bodies and contents are read.
+-- Definitions of how request bodies and contents are read.
 pub mod Decimals
 pub mod Fields
 pub mod Laws

@@ -1,3 +1,3 @@
--- Definitions of the register in JSON: what objects and contents say, and how bodies are read.
+-- Definitions of the register's JSON: the texts of objects and contents, and how request bodies are read.
 pub mod Bodies
 pub mod Texts

@@ -1,4 +1,4 @@
--- Definitions of what objects and contents say.
+-- Definitions of the JSON texts of objects and contents.
 pub mod Exact
 pub mod Fields
 pub mod Laws

@@ -1,4 +1,4 @@
-//! How the bodies of acts are read, and the contents of mutations.
+//! Reads the bodies of acts, and the contents of mutations.
 
 pub mod content;
 pub mod content_kind;

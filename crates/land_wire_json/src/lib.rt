@@ -1,4 +1,4 @@
-//! The register in JSON: the texts of objects and of what mutations ask for, and how the bodies of acts are read.
+//! The register in JSON: writes the texts of objects and of contents, and reads the bodies of acts.
 #![tactic(auto)]
 
 pub mod bodies;

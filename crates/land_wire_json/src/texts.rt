@@ -1,4 +1,4 @@
-//! Objects, and what mutations ask for, in JSON and as texts.
+//! Writes objects and contents as JSON.
 
 pub mod fields;
 pub mod laws;

@@ -1,7 +1,7 @@
--- What is left of what a caller sees.
+-- The remaining rows of a caller's list.
 use Rattle.std.specs.Prelude.{ℕ, List, drop}
 use Rattle.land_sheet.specs.declared.extracts.seen.Seen.{Seen}
 
--- the numbers whose rows are still to be given, ascending
+-- the numbers whose rows were not returned yet, increasing
 abbrev pub left_of : {K : Type 0} → Seen K → List ℕ
 left_of it = drop it.given it.numbers.now

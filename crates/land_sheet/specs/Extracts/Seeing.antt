@@ -1,4 +1,4 @@
--- What a caller sees of a kind at a moment, as rows that are given one at a time.
+-- The objects of a kind that a caller sees at a moment, as rows that are returned one at a time.
 use Rattle.std.specs.Prelude.{◌≡◌, Bool, ℕ, List, [], ◌∷◌, Option, Some, None, IsSome, Result, Ok, Err}
 use Rattle.std.specs.Option.{option_map}
 use Rattle.std.specs.List.{AllByRecursion}
@@ -10,22 +10,22 @@ use Rattle.land_keep.specs.Named.{named}
 use Rattle.land_keep.specs.declared.named.NamedObject.{NamedObject}
 use Rattle.land_keep.specs.declared.store_fault.StoreFault.{StoreFault}
 
--- what is listed of what stands under a number; of what does not stand there is none
+-- the listed object with a number, if it exists
 abbrev pub told_at : Register → Kind → (number : ℕ) → Option NamedObject
 told_at r k number = option_map (named r) (object_at r k number)
 
--- an object stands under each of these numbers
+-- each of these numbers has an object
 abbrev pub AllStand : Register → Kind → List ℕ → Type 0
 AllStand r k numbers = AllByRecursion (λ number. IsSome (object_at r k number)) numbers
 
--- where numbers are left what stands under the first of them is given; where none is left nothing is
+-- if numbers remain, the row of the first one is returned, and otherwise none
 abbrev pub Gives : Register → Kind → (left : List ℕ) → Option NamedObject → Type 0
 Gives r k [] None = Unit {0}
 Gives r k [] (Some row) = ⊥
 Gives r k (number ∷ numbers) None = ⊥
 Gives r k (number ∷ numbers) (Some row) = told_at r k number ≡ Some row
 
--- a row leaves the numbers behind the first; where there is none, or a fault, nothing is left
+-- a row removes the first remaining number; the end or a fault removes all of them
 abbrev pub Leaves : (before : List ℕ) → Result (Option NamedObject) StoreFault → (after : List ℕ) → Type 0
 Leaves [] (Ok None) after = after ≡ []
 Leaves [] (Ok (Some row)) after = ⊥
@@ -34,7 +34,8 @@ Leaves (number ∷ numbers) (Ok None) after = after ≡ []
 Leaves (number ∷ numbers) (Ok (Some row)) after = after ≡ numbers
 Leaves (number ∷ numbers) (Err fault) after = after ≡ []
 
--- the keeper is asked only where numbers are left, and its faults go as they do
-abbrev pub ClosesAt : (left : List ℕ) → (before after : Bool) → Result (Option NamedObject) StoreFault → Type 0
+-- the keeper is called only if numbers remain, and its faults close it as usual
+abbrev pub ClosesAt : (left : List ℕ) → (before after : Bool) → Result (Option NamedObject) StoreFault
+    → Type 0
 ClosesAt [] before after result = after ≡ before
 ClosesAt (number ∷ numbers) before after result = Closes before after result

@@ -1,4 +1,4 @@
--- What is written of an extract, and what its result tells.
+-- The bytes written of an extract, and the meaning of its result.
 use Rattle.std.specs.Prelude.{◌≡◌, ◌⊎◌, ℕ, List, [], Option, Result, Ok, Err}
 use Rattle.std.specs.Io.KnownBytes.{Appends}
 use Rattle.std.specs.List.{flat_map}
@@ -12,32 +12,36 @@ use Rattle.land_sheet.specs.Rows.{object_row}
 use Rattle.land_sheet.specs.declared.extracts.list.Listed.{Listed}
 use Rattle.land_streams.specs.Writing.{IsFront, IsWhole}
 
--- the rows of some objects as they are listed, one after another
+-- the rows of listed objects in order
 abbrev pub rows_of : List NamedObject → List ℕ
 rows_of objects = flat_map (λ it. object_row it.object it.name) objects
 
--- a text is written behind so many bytes: whole, or, where the writer or the store fails, its first bytes
-abbrev pub IsPut : (text : List ℕ) → (before : ℕ) → (old new : Option (List ℕ)) → Result ℕ ExtractFault → Type 0
+-- a text is written after this number of bytes: all of it, or only a prefix if the writer or the store fails
+abbrev pub IsPut : (text : List ℕ) → (before : ℕ) → (old new : Option (List ℕ))
+    → Result ℕ ExtractFault → Type 0
 IsPut text before old new (Ok after) = IsWhole text before after old new
 IsPut text before old new (Err (Write after)) = IsFront text before after old new
 IsPut text before old new (Err (Store fault after)) = IsFront text before after old new
 IsPut text before old new (Err (Denied rule)) = ⊥
 IsPut text before old new (Err (Fault number)) = ⊥
 
--- a list is given
+-- the reply is a list
 abbrev pub Lists : Reply → Type 0
 Lists r = (numbers : List ℕ) × (r ≡ reply.Numbers numbers)
 
--- A list that is denied, or asked for at a moment to come, writes nothing. Where it is given, its extract is written and counted: whole,
--- or its first bytes where the writer or the store fails. A store that fails before the list is known has nothing written.
-abbrev pub IsExtracted : (list : Reply) → (extract : List ℕ) → (old new : Option (List ℕ)) → Result ℕ ExtractFault → Type 0
+-- If the list is denied, or requested for a future moment, nothing is written. Otherwise its extract is
+-- written and counted: all of it, or only a prefix if the writer or the store fails. If the store fails
+-- before the list is read, nothing is written.
+abbrev pub IsExtracted : (list : Reply) → (extract : List ℕ) → (old new : Option (List ℕ))
+    → Result ℕ ExtractFault → Type 0
 IsExtracted list extract old new (Ok written) = Lists list × IsWhole extract 0 written old new
 IsExtracted list extract old new (Err (Write written)) = Lists list × IsFront extract 0 written old new
-IsExtracted list extract old new (Err (Store fault written)) = (Lists list ⊎ (written ≡ 0)) × IsFront extract 0 written old new
+IsExtracted list extract old new (Err (Store fault written)) =
+    (Lists list ⊎ (written ≡ 0)) × IsFront extract 0 written old new
 IsExtracted list extract old new (Err (Denied rule)) = (list ≡ reply.Denied rule) × Appends old new []
 IsExtracted list extract old new (Err (Fault number)) = (list ≡ reply.Fault number) × Appends old new []
 
--- the numbers of a list that is given, or why none is
+-- the numbers of the list, or its denial or fault
 abbrev pub IsListed : (list : Reply) → Result Listed ExtractFault → Type 0
 IsListed list (Ok it) = list ≡ reply.Numbers it.numbers
 IsListed list (Err (Denied rule)) = list ≡ reply.Denied rule
@@ -45,7 +49,7 @@ IsListed list (Err (Fault number)) = list ≡ reply.Fault number
 IsListed list (Err (Store fault written)) = written ≡ 0
 IsListed list (Err (Write written)) = ⊥
 
--- what a result tells of the store
+-- the store's part of a result
 abbrev pub of_store : {T : Type 0} → Result T ExtractFault → Result (Unit {0}) StoreFault
 of_store (Ok it) = Ok tt
 of_store (Err (Denied rule)) = Ok tt

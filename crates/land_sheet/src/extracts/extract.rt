@@ -1,9 +1,9 @@
-//! Extracts, written part by part.
-ghost use Rattle.std.specs.Prelude.{◌≡◌, false, unwrap_or};
-ghost use Rattle.land_keep.specs.Keeping.{Closes, IsLive};
-ghost use Rattle.land_keep.specs.Machine.{now_of};
-ghost use Rattle.land_keep.specs.Timeline.{register_at};
+//! Writes extracts part by part.
+ghost use Rattle.std.specs.Prelude.{◌≡◌, false};
+ghost use Rattle.land_keep.specs.Keepers.{WasHonest};
+ghost use Rattle.land_keep.specs.Keeping.{Closes};
 ghost use Rattle.land_sheet.specs.Extracts.{extract_of, list_reply, rows_at};
+ghost use Rattle.land_sheet.specs.Extracts.Timelines.{LeavesTimeline, keeper_register, time_of};
 ghost use Rattle.land_sheet.specs.Extracts.Writing.{IsExtracted, IsPut, of_store, rows_of};
 
 use crate::extracts::fault::ExtractFault;
@@ -19,9 +19,11 @@ use land_streams::put::put;
 use std::alloc::Global;
 use std::io::Write;
 
-/// Writes the extract of a kind: the names of its columns, then a row for each object that the caller sees at a moment, in ascending
-/// order, now where no moment is named. The rows of a part are made whole before they are written. The result is the number of bytes
-/// written. Nothing in the register changes. A keeper whose store fails is closed from then on.
+/// Writes the extract of a kind: the names of its columns, then a row for each object that the caller sees at
+/// a moment, by increasing number. Without `at` the moment is now.
+///
+/// Returns the number of bytes written. The register does not change. The rows of a part are built before
+/// they are written. If the store fails, the keeper stays closed.
 pub fn extract_to<K: Keeper, W: Write>(
     alloc: Global,
     keeper: &mut K,
@@ -31,11 +33,12 @@ pub fn extract_to<K: Keeper, W: Write>(
     at: Option<i64>,
     writer: &mut W,
 ) -> Result<u64, ExtractFault>
-    ensures extracted { K.honest keeper.new → IsExtracted (list_reply clock caller kind at (K.timeline keeper.old))
-        (extract_of (register_at (K.timeline keeper.old) (unwrap_or at (now_of clock (K.timeline keeper.old)))) caller kind)
+    ensures extracted { K.honest keeper.new → IsExtracted
+        (list_reply clock caller kind at (K.timeline keeper.old))
+        (extract_of (keeper_register K.Keeper keeper.old (time_of K.Keeper keeper.old clock at)) caller kind)
         (W.contents writer.old) (W.contents writer.new) result }
-    ensures was { K.honest keeper.new → K.honest keeper.old }
-    ensures same { IsLive (K.honest keeper.new) (K.closed keeper.new) → K.timeline keeper.new ≡ K.timeline keeper.old }
+    ensures was { WasHonest K.Keeper keeper.old keeper.new }
+    ensures same { LeavesTimeline K.Keeper keeper.old keeper.new }
     ensures closes { Closes (K.closed keeper.old) (K.closed keeper.new) (of_store result) }
 {
     let listed = list(alloc, keeper, clock, caller, kind, at)?;
@@ -49,8 +52,8 @@ pub fn extract_to<K: Keeper, W: Write>(
     }
 }
 
-/// Writes the rows of the objects of a kind that stand at a moment under these numbers, behind so many bytes, and says how many are
-/// written then. The objects are read part by part, so that no more memory is held than a part takes.
+/// Writes the rows of the objects with these numbers at a moment, after `before` bytes, and returns the total
+/// number of bytes written. Reads the objects part by part, so that memory is bounded by the size of a part.
 fn write_parts<K: Keeper, W: Write>(
     alloc: Global,
     keeper: &mut K,
@@ -61,10 +64,11 @@ fn write_parts<K: Keeper, W: Write>(
     before: u64,
 ) -> Result<u64, ExtractFault>
     requires { K.closed keeper.old ≡ false }
-    ensures put { K.honest keeper.new → IsPut (rows_at (register_at (K.timeline keeper.old) at) kind numbers.now) before
+    ensures put { K.honest keeper.new
+        → IsPut (rows_at (keeper_register K.Keeper keeper.old at) kind numbers.now) before
         (W.contents writer.old) (W.contents writer.new) result }
-    ensures was { K.honest keeper.new → K.honest keeper.old }
-    ensures same { IsLive (K.honest keeper.new) (K.closed keeper.new) → K.timeline keeper.new ≡ K.timeline keeper.old }
+    ensures was { WasHonest K.Keeper keeper.old keeper.new }
+    ensures same { LeavesTimeline K.Keeper keeper.old keeper.new }
     ensures closes { Closes (K.closed keeper.old) (K.closed keeper.new) (of_store result) }
 {
     let mut written = before;
@@ -80,7 +84,8 @@ fn write_parts<K: Keeper, W: Write>(
     Ok(written)
 }
 
-/// Writes the rows of some objects behind so many bytes, made whole first, and says how many are written then.
+/// Writes the rows of objects after `before` bytes, and returns the total number of bytes written. The rows
+/// are built before they are written.
 fn write_rows<W: Write>(
     alloc: Global,
     rows: &[NamedObject],

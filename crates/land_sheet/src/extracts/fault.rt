@@ -1,31 +1,31 @@
-//! Why an extract ends before its last row.
+//! The errors of an extract.
 ghost use Rattle.std.specs.Prelude.{◌≡◌};
 
 use land_keep::store_fault::StoreFault;
 use std::alloc::AllocError;
 
-/// Why an extract is not written, or not to its end. The register is as it was.
+/// The reason that an extract was not written, or not completely. The register is unchanged.
 #[derive(Clone, Copy, Debug, PartialEq, Eq)]
 pub enum ExtractFault {
-    /// The policy denies the list: the least rule that does. Nothing was written.
+    /// The policy denies the list: the number of the first rule that does. Nothing was written.
     Denied(u8),
-    /// 135: the moment is still to come. Nothing was written.
+    /// 135: the moment is in the future. Nothing was written.
     Fault(u16),
-    /// The writer failed, or took 0 bytes, or more bytes than 64 bits count would have been written.
+    /// The writer failed, or accepted 0 bytes, or the count of bytes would exceed 64 bits.
     Write {
-        /// How many bytes of the extract were written.
+        /// The number of bytes written.
         written: u64,
     },
-    /// The store failed, or there was no memory.
+    /// The store failed, or out of memory.
     Store {
-        /// How it failed.
+        /// The store's error.
         fault: StoreFault,
-        /// How many bytes of the extract were written.
+        /// The number of bytes written.
         written: u64,
     },
 }
 
-/// A store that fails before anything is written.
+/// The store failed before anything was written.
 impl From<StoreFault> for ExtractFault {
     ghost use Rattle.land_sheet.specs.declared.extracts.fault.ExtractFault.TheVariants.{Store};
 
@@ -36,7 +36,7 @@ impl From<StoreFault> for ExtractFault {
     }
 }
 
-/// Want of memory before anything is written.
+/// Memory ran out before anything was written.
 impl From<AllocError> for ExtractFault {
     ghost use Rattle.land_keep.specs.declared.store_fault.StoreFault.TheVariants.{NoMemory};
     ghost use Rattle.land_sheet.specs.declared.extracts.fault.ExtractFault.TheVariants.{Store};

@@ -1,11 +1,11 @@
-//! The list of which an extract is made.
-ghost use Rattle.std.specs.Prelude.{◌≡◌, IfOk, unwrap_or};
-ghost use Rattle.land_keep.specs.Keeping.{Closes, IsLive};
-ghost use Rattle.land_keep.specs.Machine.{now_of};
+//! The list of objects in an extract.
+ghost use Rattle.std.specs.Prelude.{◌≡◌, IfOk};
+ghost use Rattle.land_keep.specs.Keepers.{WasHonest};
+ghost use Rattle.land_keep.specs.Keeping.{Closes};
 ghost use Rattle.land_keep.specs.Moments.{now_after};
-ghost use Rattle.land_keep.specs.Timeline.{register_at};
 ghost use Rattle.land_rules.specs.Rules.{seen_of};
 ghost use Rattle.land_sheet.specs.Extracts.{list_reply};
+ghost use Rattle.land_sheet.specs.Extracts.Timelines.{LeavesTimeline, keeper_register, time_of};
 ghost use Rattle.land_sheet.specs.Extracts.Writing.{IsListed, of_store};
 
 use crate::extracts::fault::ExtractFault;
@@ -19,23 +19,24 @@ use land_keep::store_fault::StoreFault;
 use land_rules::verdict::Verdict;
 use std::alloc::Global;
 
-/// What a list gives, and the moment at which it was asked for.
+/// A list with its requested time.
 #[derive(Debug, Drop)]
 pub(crate) struct Listed {
-    /// The numbers of the objects that are seen, ascending.
+    /// The numbers of the objects that the caller sees, increasing.
     pub(crate) numbers: NumberList,
-    /// The moment, in milliseconds since 1970 UTC.
+    /// The moment, in Unix milliseconds.
     pub(crate) at: i64,
 }
 
-/// Now, for a read, by the clock and the last stamp.
+/// Returns the time of a read that requests none: the clock's, but not before the last stamp.
 fn now_at(clock: i64, last: i64) -> i64
     ensures { result ≡ now_after clock last }
 {
     clock.max(0).min(LAST_MOMENT).max(last)
 }
 
-/// The list of a kind, as the register machine replies it, with the moment that is asked for.
+/// Returns the list of a kind with its requested time, as the model replies it. Errors: the first rule that
+/// denies the list; 135 if the moment is in the future; the store's errors.
 pub(crate) fn list<K: Keeper>(
     alloc: Global,
     keeper: &mut K,
@@ -44,11 +45,13 @@ pub(crate) fn list<K: Keeper>(
     kind: Kind,
     at: Option<i64>,
 ) -> Result<Listed, ExtractFault>
-    ensures listed { K.honest keeper.new → IsListed (list_reply clock caller kind at (K.timeline keeper.old)) result }
-    ensures moment { K.honest keeper.new → IfOk result (λ it. it.at ≡ unwrap_or at (now_of clock (K.timeline keeper.old))) }
-    ensures seen { K.honest keeper.new → IfOk result (λ it. it.numbers ≡ seen_of (register_at (K.timeline keeper.old) it.at) caller kind) }
-    ensures was { K.honest keeper.new → K.honest keeper.old }
-    ensures same { IsLive (K.honest keeper.new) (K.closed keeper.new) → K.timeline keeper.new ≡ K.timeline keeper.old }
+    ensures listed { K.honest keeper.new
+        → IsListed (list_reply clock caller kind at (K.timeline keeper.old)) result }
+    ensures moment { K.honest keeper.new → IfOk result (λ it. it.at ≡ time_of K.Keeper keeper.old clock at) }
+    ensures seen { K.honest keeper.new
+        → IfOk result (λ it. it.numbers ≡ seen_of (keeper_register K.Keeper keeper.old it.at) caller kind) }
+    ensures was { WasHonest K.Keeper keeper.old keeper.new }
+    ensures same { LeavesTimeline K.Keeper keeper.old keeper.new }
     ensures closes { Closes (K.closed keeper.old) (K.closed keeper.new) (of_store result) }
 {
     if keeper.is_closed() {

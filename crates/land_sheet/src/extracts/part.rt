@@ -1,21 +1,23 @@
-//! How many numbers of a list are read together.
+//! The size of the parts in which a list is read.
 ghost use Rattle.std.specs.Prelude.{◌<◌, ◌≤◌, ◌+◌, ◌*◌, ◌-◌, length, slice_index};
 
-/// How many objects are read together, and so held in memory, at most.
+/// The maximum number of objects that are read, and so held in memory, at a time.
 const MOST: usize = 256;
 
-/// A part is read as a range of numbers. It ends where less than one number in so many of the range would be asked for, so that a list
-/// with large gaps, as a party may see it, is not paid for with reading all that lies between.
+/// The maximum average gap between the numbers of a part. A part is read as a range of numbers, so a list
+/// with large gaps, as a party may see it, would otherwise require reading all objects between.
 const ONE_IN: u64 = 16;
 
-/// Returns the end of the part that starts at the index `begin` of an ascending list of numbers. The part has at most 256 numbers, on
-/// average at least one in 16 of its range; it is as long as these limits and the list allow.
+/// Returns the end of the part that starts at the index `begin` of an increasing list of numbers. The part
+/// has at most 256 numbers, on average at least one in 16 of its range; it is as long as these limits and the
+/// list allow.
 pub(crate) fn part_end(numbers: &[u64], begin: usize) -> usize
     requires { begin < length numbers.now }
     ensures further { begin < result }
     ensures inside { result ≤ length numbers.now }
     ensures few { result ≤ begin + 256 }
-    ensures dense { slice_index numbers.now (result - 1) ≤ slice_index numbers.now begin + 16 * (result - begin) }
+    ensures dense { slice_index numbers.now (result - 1)
+        ≤ slice_index numbers.now begin + 16 * (result - begin) }
 {
     let first = numbers[begin];
     let most = numbers.len().min(begin.saturating_add(MOST));

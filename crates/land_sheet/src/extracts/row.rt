@@ -1,8 +1,9 @@
-//! The row of an object.
+//! Reads an object for its row.
 ghost use Rattle.std.specs.Prelude.{◌≡◌, IfOk};
-ghost use Rattle.land_keep.specs.Keeping.{Closes, IsLive};
-ghost use Rattle.land_keep.specs.Timeline.{register_at};
+ghost use Rattle.land_keep.specs.Keepers.{WasHonest};
+ghost use Rattle.land_keep.specs.Keeping.{Closes};
 ghost use Rattle.land_sheet.specs.Extracts.Seeing.{told_at};
+ghost use Rattle.land_sheet.specs.Extracts.Timelines.{LeavesTimeline, keeper_register};
 
 use land_core::kind::Kind;
 use land_keep::keeper::Keeper;
@@ -10,7 +11,7 @@ use land_keep::named::NamedObject;
 use land_keep::store_fault::StoreFault;
 use std::alloc::Global;
 
-/// The object that stands under a number at a moment, as it is listed, or `None` where none stands.
+/// Reads the object with a number at a moment, or returns `None` if it does not exist.
 pub(crate) fn row_of<K: Keeper>(
     alloc: Global,
     keeper: &mut K,
@@ -18,9 +19,10 @@ pub(crate) fn row_of<K: Keeper>(
     number: u64,
     at: i64,
 ) -> Result<Option<NamedObject>, StoreFault>
-    ensures value { K.honest keeper.new → IfOk result (λ row. row ≡ told_at (register_at (K.timeline keeper.old) at) kind number) }
-    ensures was { K.honest keeper.new → K.honest keeper.old }
-    ensures same { IsLive (K.honest keeper.new) (K.closed keeper.new) → K.timeline keeper.new ≡ K.timeline keeper.old }
+    ensures value { K.honest keeper.new
+        → IfOk result (λ row. row ≡ told_at (keeper_register K.Keeper keeper.old at) kind number) }
+    ensures was { WasHonest K.Keeper keeper.old keeper.new }
+    ensures same { LeavesTimeline K.Keeper keeper.old keeper.new }
     ensures closes { Closes (K.closed keeper.old) (K.closed keeper.new) result }
 {
     let found = keeper.objects(alloc, kind, &[number], at)?;

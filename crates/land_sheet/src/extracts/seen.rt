@@ -1,10 +1,11 @@
-//! What a caller sees of a kind at a moment, row by row.
+//! Reads the objects that a caller sees, row by row.
 ghost use Rattle.std.specs.Prelude.{◌≡◌, IfOk};
-ghost use Rattle.land_keep.specs.Keeping.{Closes, IsLive};
-ghost use Rattle.land_keep.specs.Timeline.{register_at};
+ghost use Rattle.land_keep.specs.Keepers.{WasHonest};
+ghost use Rattle.land_keep.specs.Keeping.{Closes};
 ghost use Rattle.land_rules.specs.Rules.{seen_of};
 ghost use Rattle.land_sheet.specs.Extracts.Left.{left_of};
 ghost use Rattle.land_sheet.specs.Extracts.Seeing.{AllStand, ClosesAt, Gives, Leaves};
+ghost use Rattle.land_sheet.specs.Extracts.Timelines.{LeavesTimeline, keeper_register};
 
 use crate::extracts::row::row_of;
 use land_core::caller::Caller;
@@ -15,8 +16,8 @@ use land_keep::named::NamedObject;
 use land_keep::store_fault::StoreFault;
 use std::alloc::Global;
 
-/// The rows of what a caller sees of a kind at a moment, given one at a time in ascending order. It borrows the keeper, and
-/// `into_keeper` gives it back. It may be let go at any row: it owns no memory, so that whoever lent the keeper knows it again.
+/// An iterator over the rows that a caller sees of a kind at a moment, by increasing number. It borrows the
+/// keeper; `into_keeper` returns it. It may be dropped at any row, since it owns nothing.
 #[derive(Drop)]
 pub struct Seen<'a, K: Keeper> {
     alloc: Global,
@@ -27,8 +28,8 @@ pub struct Seen<'a, K: Keeper> {
     at: i64,
 }
 
-/// What a caller sees of a kind at a moment: the numbers of objects that stand, ascending, of which `each_seen` gives the rows. Nothing
-/// in the register changes, whether there are numbers or a fault. A keeper whose store fails is closed from then on.
+/// Returns the numbers of the objects that a caller sees of a kind at a moment, increasing. `each_seen`
+/// returns their rows. The register does not change. If the store fails, the keeper stays closed.
 pub fn numbers_seen<K: Keeper>(
     alloc: Global,
     keeper: &mut K,
@@ -36,16 +37,19 @@ pub fn numbers_seen<K: Keeper>(
     kind: Kind,
     at: i64,
 ) -> Result<NumberList, StoreFault>
-    ensures seen { K.honest keeper.new → IfOk result (λ it. it ≡ seen_of (register_at (K.timeline keeper.old) at) caller kind) }
-    ensures stand { K.honest keeper.new → IfOk result (λ it. AllStand (register_at (K.timeline keeper.old) at) kind it) }
-    ensures was { K.honest keeper.new → K.honest keeper.old }
-    ensures same { IsLive (K.honest keeper.new) (K.closed keeper.new) → K.timeline keeper.new ≡ K.timeline keeper.old }
+    ensures seen { K.honest keeper.new
+        → IfOk result (λ it. it ≡ seen_of (keeper_register K.Keeper keeper.old at) caller kind) }
+    ensures stand { K.honest keeper.new
+        → IfOk result (λ it. AllStand (keeper_register K.Keeper keeper.old at) kind it) }
+    ensures was { WasHonest K.Keeper keeper.old keeper.new }
+    ensures same { LeavesTimeline K.Keeper keeper.old keeper.new }
     ensures closes { Closes (K.closed keeper.old) (K.closed keeper.new) result }
 {
     keeper.sight(alloc, caller, kind, at)
 }
 
-/// The rows of the objects of a kind under these numbers at a moment, to be given one at a time. Nothing is asked of the keeper yet.
+/// Returns an iterator over the rows of the objects with these numbers at a moment. It does not call the
+/// keeper yet.
 pub fn each_seen<'a, K: Keeper>(
     alloc: Global,
     keeper: &'a mut K,
@@ -70,15 +74,19 @@ pub fn each_seen<'a, K: Keeper>(
 }
 
 impl<'a, K: Keeper> Seen<'a, K> {
-    /// The row of the next object, or `None` once all are given. After an error it is `None` from then on.
+    /// Returns the row of the next object, or `None` after the last one. After an error it returns `None`.
     pub fn next(&mut self) -> Result<Option<NamedObject>, StoreFault>
-        ensures gives { K.honest self.new.keeper.now → AllStand (register_at (K.timeline self.old.keeper.now) self.old.at) self.old.kind (left_of self.old)
-            → IfOk result (Gives (register_at (K.timeline self.old.keeper.now) self.old.at) self.old.kind (left_of self.old)) }
+        ensures gives { K.honest self.new.keeper.now
+            → AllStand (keeper_register K.Keeper self.old.keeper.now self.old.at) self.old.kind
+            (left_of self.old)
+            → IfOk result
+            (Gives (keeper_register K.Keeper self.old.keeper.now self.old.at) self.old.kind (left_of self.old)) }
         ensures leaves { Leaves (left_of self.old) result (left_of self.new) }
         ensures asked { (self.new.kind ≡ self.old.kind) × (self.new.at ≡ self.old.at) }
-        ensures was { K.honest self.new.keeper.now → K.honest self.old.keeper.now }
-        ensures same { IsLive (K.honest self.new.keeper.now) (K.closed self.new.keeper.now) → K.timeline self.new.keeper.now ≡ K.timeline self.old.keeper.now }
-        ensures closes { ClosesAt (left_of self.old) (K.closed self.old.keeper.now) (K.closed self.new.keeper.now) result }
+        ensures was { WasHonest K.Keeper self.old.keeper.now self.new.keeper.now }
+        ensures same { LeavesTimeline K.Keeper self.old.keeper.now self.new.keeper.now }
+        ensures closes { ClosesAt (left_of self.old) (K.closed self.old.keeper.now)
+            (K.closed self.new.keeper.now) result }
         ensures same_reference { self.new.keeper.ghost_name ≡ self.old.keeper.ghost_name }
     {
         let count = self.numbers.len();
@@ -94,7 +102,7 @@ impl<'a, K: Keeper> Seen<'a, K> {
         made
     }
 
-    /// The keeper, given back.
+    /// Returns the borrowed keeper.
     pub fn into_keeper(self) -> &'a mut K
         ensures same { result.now ≡ self.entry.keeper.now }
         ensures same_reference { result.ghost_name ≡ self.entry.keeper.ghost_name }

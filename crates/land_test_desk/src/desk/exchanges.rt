@@ -1,24 +1,24 @@
-//! Requests and replies as bytes, over a new register.
+//! Requests and replies as bytes, with a new register.
 use crate::desk::office::is_answered;
 use land_test_scenario::first::{ANNA_IS_ENROLLED, ENROL_ANNA};
 use land_test_scenario::stop::{Stop, expect};
 use std::alloc::Global;
 
-/// How many items are answered, the input, and the output.
+/// The number of items that get a reply, the input, and the output.
 struct Exchange(u64, &'static [u8], &'static [u8]);
 
-/// The reply to the office that lists the parties of a new register.
+/// The reply to the operator that lists the parties of a new register.
 const LISTED: &[u8] =
     b"HTTP/1.1 200 OK\r\nContent-Type: application/json\r\nContent-Length: 15\r\n\r\n{\"numbers\":[1]}";
 
-/// The same, after which the connection ends.
+/// The same, after which the connection closes.
 const LISTED_LAST: &[u8] =
     b"HTTP/1.1 200 OK\r\nContent-Type: application/json\r\nContent-Length: 15\r\nConnection: close\r\n\r\n{\"numbers\":[1]}";
 
 const EXCHANGES: &[Exchange] = &[
-    // Nothing is asked.
+    // An empty input.
     Exchange(0, b"", b""),
-    // The same twice: the second is another party.
+    // The same enrolment twice: the second creates another party.
     Exchange(
         2,
         b"POST /acts/enrol HTTP/1.1\r\nRegister-Party: 1\r\nRegister-Role: stateAdministrator\r\nContent-Length: 38\r\n\r\n{\"kind\":\"naturalPerson\",\"name\":\"Anna\"}POST /acts/enrol HTTP/1.1\r\nRegister-Party: 1\r\nRegister-Role: stateAdministrator\r\nContent-Length: 38\r\n\r\n{\"kind\":\"naturalPerson\",\"name\":\"Anna\"}",
@@ -30,7 +30,7 @@ const EXCHANGES: &[Exchange] = &[
         b"POST /acts/enrol HTTP/1.1\r\nRegister-Party: 1\r\nRegister-Role: stateAdministrator\r\nContent-Length: 38\r\n\r\n{\"kind\":\"naturalPerson\",\"name\":\"Anna\"}POST /acts/enrol HTTP/1.1\r\nRegister-Party: 1\r\nRegister-Role: stateAdministrator\r\nContent-Length: 38\r\n\r\n{\"kind\":\"naturalPerson\",\"name\":\"Anna\"",
         b"HTTP/1.1 200 OK\r\nContent-Type: application/json\r\nContent-Length: 36\r\n\r\n{\"made\":[2],\"number\":2,\"stamp\":1000}HTTP/1.1 400 Bad Request\r\nContent-Type: application/json\r\nContent-Length: 13\r\nConnection: close\r\n\r\n{\"fault\":144}",
     ),
-    // An empty line after the last body is the beginning of a request.
+    // An empty line after the last body begins another request.
     Exchange(
         2,
         b"GET /parties HTTP/1.1\r\nRegister-Party: 1\r\nRegister-Role: stateAdministrator\r\n\r\n\r\n",
@@ -41,13 +41,13 @@ const EXCHANGES: &[Exchange] = &[
         b"POST /acts/enrol HTTP/1.1\r\nRegister-Party: 9\r\nRegister-Role: stateAdministrator\r\nContent-Length: 38\r\n\r\n{\"kind\":\"naturalPerson\",\"name\":\"Anna\"}",
         b"HTTP/1.1 403 Forbidden\r\nContent-Type: application/json\r\nContent-Length: 12\r\n\r\n{\"denied\":1}",
     ),
-    // What comes after a fault of framing is not answered.
+    // Input after a framing fault gets no reply.
     Exchange(
         1,
         b"POST /acts/enrol HTTP/1.1\r\nTransfer-Encoding: chunked\r\n\r\nGET /parties HTTP/1.1\r\nRegister-Party: 1\r\nRegister-Role: stateAdministrator\r\n\r\n",
         b"HTTP/1.1 400 Bad Request\r\nContent-Type: application/json\r\nContent-Length: 13\r\nConnection: close\r\n\r\n{\"fault\":143}",
     ),
-    // What comes after another fault is.
+    // Input after any other fault gets a reply.
     Exchange(
         2,
         b"POST /acts/enrol HTTP/1.1\r\nRegister-Party: 1\r\nRegister-Role: stateAdministrator\r\nContent-Length: 1\r\n\r\n{GET /parties HTTP/1.1\r\nRegister-Party: 1\r\nRegister-Role: stateAdministrator\r\n\r\n",
@@ -59,31 +59,31 @@ const EXCHANGES: &[Exchange] = &[
         b"HEAD /parties HTTP/1.1\r\nRegister-Party: 1\r\nRegister-Role: stateAdministrator\r\n\r\nGET /parties HTTP/1.1\r\nRegister-Party: 1\r\nRegister-Role: stateAdministrator\r\n\r\n",
         b"HTTP/1.1 400 Bad Request\r\nContent-Type: application/json\r\nContent-Length: 13\r\n\r\nHTTP/1.1 200 OK\r\nContent-Type: application/json\r\nContent-Length: 15\r\n\r\n{\"numbers\":[1]}",
     ),
-    // A cut HEAD is no whole request, so the body of the reply is written.
+    // A truncated HEAD is not a whole request, so the reply has a body.
     Exchange(
         1,
         b"HEAD /parties HTTP/1.1\r\n",
         b"HTTP/1.1 400 Bad Request\r\nContent-Type: application/json\r\nContent-Length: 13\r\nConnection: close\r\n\r\n{\"fault\":144}",
     ),
-    // Fields stand in any case and order.
+    // Fields in any case and order.
     Exchange(
         1,
         b"POST /acts/enrol HTTP/1.1\r\nhost: land\r\ncontent-length:\t 038 \t\r\nREGISTER-ROLE:stateAdministrator\r\nregister-PARTY:   0000000000001\t\r\n\r\n{\"kind\":\"naturalPerson\",\"name\":\"Anna\"}",
         ANNA_IS_ENROLLED,
     ),
-    // Empty lines, also between requests, and lines that end in a line feed alone.
+    // Empty lines, also between requests, and lines that end with only a line feed.
     Exchange(
         2,
         b"\r\n\nGET /parties HTTP/1.1\nRegister-Party: 1\nRegister-Role: stateAdministrator\n\n\r\n\nGET / HTTP/1.1\n\n",
         b"HTTP/1.1 200 OK\r\nContent-Type: application/json\r\nContent-Length: 15\r\n\r\n{\"numbers\":[1]}HTTP/1.1 400 Bad Request\r\nContent-Type: application/json\r\nContent-Length: 13\r\n\r\n{\"fault\":136}",
     ),
-    // The body of a GET is passed over, whatever it is.
+    // The body of a GET is discarded.
     Exchange(
         2,
         b"GET /parties HTTP/1.1\r\nRegister-Party: 1\r\nRegister-Role: stateAdministrator\r\nContent-Length: 3\r\n\r\n{]?GET /units HTTP/1.1\r\nRegister-Party: 1\r\nRegister-Role: stateAdministrator\r\n\r\n",
         b"HTTP/1.1 200 OK\r\nContent-Type: application/json\r\nContent-Length: 15\r\n\r\n{\"numbers\":[1]}HTTP/1.1 200 OK\r\nContent-Type: application/json\r\nContent-Length: 14\r\n\r\n{\"numbers\":[]}",
     ),
-    // The connection ends where it is asked, and what comes after is not answered.
+    // The connection closes on request, and input after that gets no reply.
     Exchange(
         1,
         b"GET /parties HTTP/1.1\r\nRegister-Party: 1\r\nRegister-Role: stateAdministrator\r\n\r\n",
@@ -119,7 +119,7 @@ const EXCHANGES: &[Exchange] = &[
         b"GET /parties HTTP/1.1\r\nRegister-Party: 1\r\nRegister-Role: stateAdministrator\r\nConnection: closed\r\n\r\n",
         LISTED,
     ),
-    // A fault is told so too.
+    // Likewise after a fault.
     Exchange(
         1,
         b"GET / HTTP/1.0\r\n\r\nGET / HTTP/1.1\r\n\r\n",
@@ -127,7 +127,7 @@ const EXCHANGES: &[Exchange] = &[
     ),
 ];
 
-/// Requests and their replies, byte for byte.
+/// Checks requests and their replies byte for byte.
 pub fn requests_and_replies_as_bytes(alloc: Global) -> Result<(), Stop> {
     for (place, row) in EXCHANGES.iter().enumerate() {
         let is_answered = is_answered(alloc, row.1, 50, row.0, row.2)?;
@@ -136,7 +136,7 @@ pub fn requests_and_replies_as_bytes(alloc: Global) -> Result<(), Stop> {
     Ok(())
 }
 
-/// The first enrolment, which is the same in whatever pieces its bytes come.
+/// Checks that the first enrolment is the same in chunks of any size.
 pub fn the_first_run(alloc: Global) -> Result<(), Stop> {
     let lengths = (ENROL_ANNA.len(), ANNA_IS_ENROLLED.len());
     expect(lengths == (141, 107), "lengths", 0)?;

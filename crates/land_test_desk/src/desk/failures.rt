@@ -12,7 +12,7 @@ use land_test_scenario::talk::Told::{Fault, Shown};
 use land_test_scenario::talk::{ENROL, OFFICE, Row, Talk};
 use std::alloc::Global;
 
-/// Two parties are enrolled, and between them comes what changes nothing.
+/// Two parties are enrolled, with a request between them that changes nothing.
 const ROWS: &[Row] = &[
     Row(
         "POST /acts/enrol",
@@ -29,7 +29,7 @@ const ROWS: &[Row] = &[
     ),
 ];
 
-/// The stamp of the last change once so many rows were answered.
+/// Returns the stamp of the last change after this number of rows.
 fn last_after(rows: usize) -> i64 {
     match rows {
         0 => 0,
@@ -38,14 +38,14 @@ fn last_after(rows: usize) -> i64 {
     }
 }
 
-/// How serving ended, and the stamp of the last change then.
+/// The result of serving, and the stamp of the last change.
 #[derive(Clone, Copy)]
 struct Left {
     served: Result<Served, DeskFault>,
     last: i64,
 }
 
-/// Serves the rows, which come one byte at a time, of which so many can be read.
+/// Serves the rows one byte at a time, with a limited number of reads.
 fn serve_rows(alloc: Global, talk: &Talk, reads: u64, sink: &mut Sink) -> Result<Left, Stop> {
     let mut keeper = PlainKeeper::new(alloc)?;
     let mut office = Office::of(&mut keeper);
@@ -64,12 +64,12 @@ fn serve_rows(alloc: Global, talk: &Talk, reads: u64, sink: &mut Sink) -> Result
     })
 }
 
-/// How many rows have their input within so many bytes.
+/// Returns the number of rows whose input is within this number of bytes.
 fn rows_within(talk: &Talk, bytes: usize) -> usize {
     talk.marks.iter().filter(|mark| mark.asked <= bytes).count()
 }
 
-/// Where the output of so many rows ends.
+/// Returns the end of the output of these rows.
 fn end_of(talk: &Talk, rows: usize) -> usize {
     match talk.marks.iter().take(rows).last() {
         Some(mark) => mark.told,
@@ -77,7 +77,8 @@ fn end_of(talk: &Talk, rows: usize) -> usize {
     }
 }
 
-/// Whether a reader that fails after so many bytes leaves what was read whole answered and done, and nothing else.
+/// Checks that a reader that fails after this number of bytes has only the whole requests answered and
+/// executed.
 fn is_unread(alloc: Global, talk: &Talk, bytes: usize) -> Result<bool, Stop> {
     let mut sink = open_sink(alloc, talk.output.len())?;
     let left = serve_rows(alloc, talk, bytes as u64, &mut sink)?;
@@ -91,7 +92,7 @@ fn is_unread(alloc: Global, talk: &Talk, bytes: usize) -> Result<bool, Stop> {
     )
 }
 
-/// A reader may fail after each byte of the stream, the last one too: what was read whole is answered and done.
+/// Checks readers that fail after each byte of the stream, including the last one.
 pub fn readers_fail_at_each_byte(alloc: Global) -> Result<(), Stop> {
     let mut talk = Talk::new(alloc)?;
     talk.ask_all("rows", ROWS)?;
@@ -101,7 +102,8 @@ pub fn readers_fail_at_each_byte(alloc: Global) -> Result<(), Stop> {
     Ok(())
 }
 
-/// Whether a writer that takes so many bytes, one at a time, has them and no others, and what was begun to be told stands.
+/// Checks that a writer that accepts this number of bytes, one at a time, has exactly those, and that each
+/// change whose reply was begun is durable.
 fn is_unwritten(alloc: Global, talk: &Talk, bytes: usize, fails: bool) -> Result<bool, Stop> {
     let mut sink = open_sink(alloc, talk.output.len())?;
     sink.piece = 1;
@@ -113,7 +115,7 @@ fn is_unwritten(alloc: Global, talk: &Talk, bytes: usize, fails: bool) -> Result
         .iter()
         .filter(|mark| mark.told <= sink.taken.len())
         .count();
-    // A reply of 501 that does not go out looks the same to the writer.
+    // An unsent reply of 501 looks the same to the writer.
     if left.last < last_after(whole.saturating_add(1)) {
         return Err(Stop::Memory);
     }
@@ -125,7 +127,7 @@ fn is_unwritten(alloc: Global, talk: &Talk, bytes: usize, fails: bool) -> Result
     )
 }
 
-/// A writer may fail, or take nothing, after each byte of what is told but the last: it has what was told before.
+/// Checks writers that fail, or accept nothing, after each byte of the output except the last.
 pub fn writers_fail_at_each_byte(alloc: Global) -> Result<(), Stop> {
     let mut talk = Talk::new(alloc)?;
     talk.ask_all("rows", ROWS)?;
@@ -137,7 +139,7 @@ pub fn writers_fail_at_each_byte(alloc: Global) -> Result<(), Stop> {
     Ok(())
 }
 
-/// How often a writer takes three bytes of eight, and what comes of it.
+/// The number of times that a writer accepts three bytes of eight, and the result.
 struct Sending {
     writes: usize,
     sent: Result<(), usize>,
@@ -177,7 +179,7 @@ fn is_sent(alloc: Global, row: &Sending, fails: bool) -> Result<bool, Stop> {
     )
 }
 
-/// Bytes are sent, or so many of them are, where a writer fails or takes none.
+/// Checks that bytes are sent, or only a prefix of them if a writer fails or accepts none.
 pub fn bytes_are_sent(alloc: Global) -> Result<(), Stop> {
     for (place, row) in SENDINGS.iter().enumerate() {
         for fails in [false, true] {
@@ -187,7 +189,7 @@ pub fn bytes_are_sent(alloc: Global) -> Result<(), Stop> {
     Ok(())
 }
 
-/// Lengths past 64 KiB and past a mebibyte.
+/// Lengths above 64 KiB and above one mebibyte.
 const LONG_LENGTHS: &[usize] = &[65_537, 1_048_577];
 
 fn is_long_piece_sent(alloc: Global, length: usize) -> Result<bool, Stop> {
@@ -211,7 +213,7 @@ fn is_long_piece_sent(alloc: Global, length: usize) -> Result<bool, Stop> {
     )
 }
 
-/// A long piece is written whole.
+/// Checks that a long text is written completely.
 pub fn long_pieces_are_sent(alloc: Global) -> Result<(), Stop> {
     for length in LONG_LENGTHS {
         expect(is_long_piece_sent(alloc, *length)?, "length", *length)?;

@@ -1,4 +1,4 @@
-//! Requests after which the connection ends: the reader is not asked again.
+//! Requests after which the connection closes: the reader is not called again.
 use crate::desk::office::{Office, is_want_of_memory, open_sink};
 use land_desk::serve::Served;
 use land_keep::plain_keeper::PlainKeeper;
@@ -7,17 +7,17 @@ use land_test_scenario::stop::{Stop, expect};
 use land_test_scenario::talk::{Talk, Told};
 use std::alloc::Global;
 
-/// What comes in one piece, and the fault that is told of it, after which the connection ends.
+/// Input in one chunk, and its fault, after which the connection closes.
 struct Last(&'static [u8], u16);
 
-/// Requests after which the connection is to end, and what is no head.
+/// Requests that close the connection, and bytes that are not a head.
 const LAST: &[Last] = &[
     Last(b"GET / HTTP/1.0\r\n\r\n", 136),
     Last(b"GET / HTTP/1.1\r\nConnection: close\r\n\r\n", 136),
     Last(b"GET /a\x01", 140),
 ];
 
-/// Whether it is served, and the reader was asked once for it.
+/// Checks that the item is served, and that the reader is called only once for it.
 fn is_served_by_one_read(alloc: Global, row: &Last) -> Result<bool, Stop> {
     let mut talk = Talk::new(alloc)?;
     talk.tell(Told::Fault(row.1), true)?;
@@ -40,7 +40,7 @@ fn is_served_by_one_read(alloc: Global, row: &Last) -> Result<bool, Stop> {
     )
 }
 
-/// A reader is not asked after the last reply.
+/// Checks that a reader is not called after the last reply.
 pub fn a_reader_is_not_asked_after_the_last_reply(alloc: Global) -> Result<(), Stop> {
     for (place, row) in LAST.iter().enumerate() {
         expect(is_served_by_one_read(alloc, row)?, "last", place)?;

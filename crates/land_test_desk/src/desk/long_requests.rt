@@ -1,10 +1,10 @@
-//! Requests at the limits of their sizes, over a new register.
+//! Requests at the limits of their sizes, with a new register.
 use crate::desk::office::is_told;
 use land_test_scenario::stop::{Stop, expect};
 use land_test_scenario::talk::Told;
 use std::alloc::{AllocError, Global};
 
-/// A request with a part that stands many times in its middle, and what is told of it.
+/// A request with a part that is repeated in its middle, and its reply.
 struct Long {
     front: &'static [u8],
     filler: &'static [u8],
@@ -40,7 +40,7 @@ const LONG: &[Long] = &[
         told: Told::Fault(133),
         ends: false,
     },
-    // A head has at most 8192 bytes, the empty lines before it among them.
+    // A head has at most 8192 bytes, with the empty lines before it.
     Long {
         front: b"GET /parties HTTP/1.1\r\nRegister-Party: 1\r\nRegister-Role: stateAdministrator\r\nA: ",
         filler: b"x",
@@ -73,7 +73,7 @@ const LONG: &[Long] = &[
         told: Told::Fault(141),
         ends: true,
     },
-    // No whole head, in fewer bytes and in as many.
+    // An incomplete head, below 8192 bytes and at 8192 bytes.
     Long {
         front: b"",
         filler: b"X",
@@ -107,7 +107,7 @@ const LONG: &[Long] = &[
         told: Told::Fault(140),
         ends: true,
     },
-    // Only a whole head has too many.
+    // Only a whole head has too many fields.
     Long {
         front: b"GET /parties HTTP/1.1\r\nRegister-Party: 1\r\nRegister-Role: stateAdministrator\r\n",
         filler: b"a:b\r\n",
@@ -135,7 +135,7 @@ const LONG: &[Long] = &[
     },
 ];
 
-/// A text of a front, a middle that stands so many times, and a back.
+/// Returns a prefix, a repeated middle, and a suffix.
 pub fn joined(
     alloc: Global,
     front: &[u8],
@@ -157,7 +157,7 @@ fn is_long_told(alloc: Global, row: &Long) -> Result<bool, Stop> {
     is_told(alloc, &input, row.told, row.ends)
 }
 
-/// Requests have limits.
+/// Checks the limits of requests.
 pub fn requests_have_limits(alloc: Global) -> Result<(), Stop> {
     for (place, row) in LONG.iter().enumerate() {
         expect(is_long_told(alloc, row)?, "row", place)?;
@@ -165,7 +165,7 @@ pub fn requests_have_limits(alloc: Global) -> Result<(), Stop> {
     Ok(())
 }
 
-/// How deep arrays stand in arrays, and the fault of such a body: 127 levels are JSON, 128 and more are none.
+/// The depth of nested arrays, and the fault of such a body: 127 levels are JSON, 128 and more are not.
 struct Deep {
     front: &'static [u8],
     depth: usize,
@@ -190,7 +190,7 @@ const DEEP: &[Deep] = &[
     },
 ];
 
-/// A request whose body has arrays so deep.
+/// Returns a request whose body has arrays nested to this depth.
 fn nested(alloc: Global, row: &Deep) -> Result<Vec<u8>, AllocError> {
     let mut input = joined(alloc, row.front, b"[", row.depth, b"")?;
     for _ in 0..row.depth {
@@ -204,7 +204,7 @@ fn is_deep_told(alloc: Global, row: &Deep) -> Result<bool, Stop> {
     is_told(alloc, &input, Told::Fault(row.fault), false)
 }
 
-/// Arrays may stand in arrays so deep, and no deeper.
+/// Checks that arrays may be nested to this depth, and not deeper.
 pub fn bodies_are_so_deep(alloc: Global) -> Result<(), Stop> {
     for row in DEEP {
         expect(is_deep_told(alloc, row)?, "depth", row.depth)?;

@@ -1,4 +1,4 @@
-//! Streams of a thousand and of twenty thousand requests in one input, and one whose bytes come one by one.
+//! Streams of a thousand and of twenty thousand requests in one input, and one that arrives byte by byte.
 use crate::desk::office::{Office, is_answered};
 use land_keep::plain_keeper::PlainKeeper;
 use land_test_scenario::scenario::STEPS;
@@ -7,7 +7,8 @@ use land_test_scenario::talk::{Talk, Told};
 use std::alloc::{AllocError, Global};
 use std::fmt::Write;
 
-/// The number of parties that are enrolled, each with a hundred requests: the enrolment, a list, and 98 that name no route.
+/// The number of parties to enrol, each with a hundred requests: the enrolment, a list, and 98 without a
+/// route.
 const PARTIES: u64 = 10;
 
 /// The same for the longest stream.
@@ -21,7 +22,7 @@ const LIST: &[u8] =
 
 const NO_ROUTE: &[u8] = b"GET / HTTP/1.1\r\n\r\n";
 
-/// A party is enrolled: party 2 at 1000, the next ones each a moment later.
+/// Appends the enrolment of a party: party 2 at 1000, each next one a millisecond later.
 fn ask_enrolment(talk: &mut Talk, text: &mut String, party: u64) -> Result<(), AllocError> {
     let stamp = party.saturating_add(998);
     text.clear();
@@ -33,7 +34,7 @@ fn ask_enrolment(talk: &mut Talk, text: &mut String, party: u64) -> Result<(), A
     talk.tell_text(text.as_str())
 }
 
-/// The parties up to this one are listed.
+/// Appends the list of the parties up to this one.
 fn ask_list(talk: &mut Talk, text: &mut String, party: u64) -> Result<(), AllocError> {
     text.clear();
     text.push_str("{\"numbers\":[1")?;
@@ -55,7 +56,7 @@ fn ask_a_hundred(talk: &mut Talk, text: &mut String, party: u64) -> Result<(), A
     Ok(())
 }
 
-/// Whether the requests of these parties get their replies.
+/// Checks that the requests of these parties get their replies.
 fn are_hundreds_answered(alloc: Global, parties: u64) -> Result<bool, Stop> {
     let mut talk = Talk::new(alloc)?;
     let mut text = String::with_capacity(alloc, 256)?;
@@ -66,18 +67,19 @@ fn are_hundreds_answered(alloc: Global, parties: u64) -> Result<bool, Stop> {
     is_answered(alloc, &talk.input, 65536, replies, talk.output.as_bytes())
 }
 
-/// A thousand requests in one input are answered.
+/// Checks a thousand requests in one input.
 pub fn a_thousand_requests_are_answered(alloc: Global) -> Result<(), Stop> {
     expect(are_hundreds_answered(alloc, PARTIES)?, "a thousand", 0)
 }
 
-/// Twenty thousand requests in one input are answered.
+/// Checks twenty thousand requests in one input.
 pub fn twenty_thousand_requests_are_answered(alloc: Global) -> Result<(), Stop> {
     let answered = are_hundreds_answered(alloc, MANY_PARTIES)?;
     expect(answered, "twenty thousand", 0)
 }
 
-/// The name and the place of the first of ten steps that is answered otherwise where bytes come one by one.
+/// Returns the name and the index of the first of ten requests whose reply differs if bytes arrive one at a
+/// time.
 fn wrong_byte_by_byte(alloc: Global) -> Result<Option<(&'static str, usize)>, Stop> {
     let mut talk = Talk::new(alloc)?;
     for (place, step) in STEPS.iter().take(10).enumerate() {
@@ -88,7 +90,7 @@ fn wrong_byte_by_byte(alloc: Global) -> Result<Option<(&'static str, usize)>, St
     office.first_wrong(alloc, &talk, 1)
 }
 
-/// The bytes of requests may come one by one.
+/// Checks requests that arrive byte by byte.
 pub fn bytes_come_one_by_one(alloc: Global) -> Result<(), Stop> {
     match wrong_byte_by_byte(alloc)? {
         Some((name, place)) => Err(Stop::Unlike(name, place)),

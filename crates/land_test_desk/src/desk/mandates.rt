@@ -1,4 +1,4 @@
-//! Mandates as bytes: what is told where the first twelve steps of the scenario were made.
+//! Mandates as bytes, after the first twelve steps of the scenario.
 use crate::desk::office::Office;
 use land_keep::plain_keeper::PlainKeeper;
 use land_test_scenario::mandates::MANDATES;
@@ -8,7 +8,7 @@ use land_test_scenario::talk::Told::Fault;
 use land_test_scenario::talk::{ANNA, BEN, NOTARY, Row, Talk};
 use std::alloc::{AllocError, Global};
 
-/// Bodies are read before the policy is asked: what a field is, and which there are.
+/// Bodies are read before the policy is checked: kinds of fields, and which fields exist.
 const READING: &[Row] = &[
     Row("POST /acts/mandate", ANNA, b"", Fault(130)),
     Row("POST /acts/mandate", ANNA, b"{}", Fault(131)),
@@ -40,7 +40,7 @@ fn talk(alloc: Global) -> Result<Talk, AllocError> {
     Ok(talk)
 }
 
-/// The name and the place of the first request that is answered otherwise.
+/// Returns the name and the index of the first request whose reply differs.
 fn first_wrong(alloc: Global) -> Result<Option<(&'static str, usize)>, Stop> {
     let talk = talk(alloc)?;
     let mut keeper = PlainKeeper::new(alloc)?;
@@ -48,7 +48,7 @@ fn first_wrong(alloc: Global) -> Result<Option<(&'static str, usize)>, Stop> {
     office.first_wrong(alloc, &talk, 1000)
 }
 
-/// Mandates are given and withdrawn, a citizen sees by them, and bodies are read.
+/// Checks that mandates are created and withdrawn, that a citizen sees by them, and that bodies are read.
 pub fn mandates(alloc: Global) -> Result<(), Stop> {
     match first_wrong(alloc)? {
         Some((name, place)) => Err(Stop::Unlike(name, place)),

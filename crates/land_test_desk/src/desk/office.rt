@@ -1,4 +1,4 @@
-//! An office that answers streams in tests.
+//! A server with a keeper and a clock, for tests.
 use land_desk::serve::{DeskFault, Served, serve};
 use land_keep::keeper::Keeper;
 use land_keep::plain_keeper::PlainKeeper;
@@ -9,7 +9,7 @@ pub use land_test_scenario::talk::common;
 use land_test_scenario::talk::{Talk, Told};
 use std::alloc::Global;
 
-/// A register, with its clock.
+/// A keeper with its clock.
 #[derive(Drop)]
 pub struct Office<'a, K> {
     pub keeper: &'a mut K,
@@ -17,7 +17,7 @@ pub struct Office<'a, K> {
 }
 
 impl<'a, K: Keeper> Office<'a, K> {
-    /// The office of a register. The clock reads 1000 each time.
+    /// Returns a server for a keeper. Its clock reads 1000 each time.
     pub fn of(keeper: &'a mut K) -> Office<'a, K> {
         Office {
             keeper,
@@ -25,7 +25,7 @@ impl<'a, K: Keeper> Office<'a, K> {
         }
     }
 
-    /// Serves a stream, whose reader is lent.
+    /// Serves a stream from a borrowed reader.
     pub fn serve_from(
         &mut self,
         alloc: Global,
@@ -46,8 +46,8 @@ impl<'a, K: Keeper> Office<'a, K> {
         self.serve_from(alloc, &mut reader, writer)
     }
 
-    /// Whether the input, which comes in pieces, is answered by these bytes, which are so many replies. Want of memory
-    /// ends the test.
+    /// Checks that the input, in chunks of this size, gets exactly these bytes, which are this number of
+    /// replies. Returns an error if memory ran out.
     pub fn answers(
         &mut self,
         alloc: Global,
@@ -69,7 +69,8 @@ impl<'a, K: Keeper> Office<'a, K> {
         Ok(served == Ok(Served { replies }) && sink.taken.as_slice() == answer)
     }
 
-    /// The name and the place of the first row that is not answered as it says, if any. The requests come in pieces.
+    /// Returns the name and the index of the first row whose reply differs, if any. The input arrives in
+    /// chunks.
     pub fn first_wrong(
         &mut self,
         alloc: Global,
@@ -90,7 +91,7 @@ impl<'a, K: Keeper> Office<'a, K> {
     }
 }
 
-/// Whether serving came to an end for want of memory, or the first reply that is not as it was to be has the status 503.
+/// Checks whether memory ran out: serving stopped for it, or the first reply that differs has the status 503.
 pub fn is_want_of_memory(served: &Result<Served, DeskFault>, taken: &[u8], wanted: &[u8]) -> bool {
     if *served == Err(DeskFault::NoMemory) {
         return true;
@@ -99,7 +100,8 @@ pub fn is_want_of_memory(served: &Result<Served, DeskFault>, taken: &[u8], wante
     9 <= same && same <= taken.len() && taken[same - 9..].starts_with(b"HTTP/1.1 5")
 }
 
-/// Whether a new office answers the input, which comes in pieces, by these bytes, which are so many replies.
+/// Checks that a new server answers the input, in chunks of this size, with these bytes, which are this
+/// number of replies.
 pub fn is_answered(
     alloc: Global,
     input: &[u8],
@@ -112,7 +114,8 @@ pub fn is_answered(
     office.answers(alloc, input, piece, replies, answer)
 }
 
-/// Whether a new office tells this of the input, which is one item, and ends the connection or not.
+/// Checks that a new server gives this reply to the input, which is one item, and whether it closes the
+/// connection.
 pub fn is_told(alloc: Global, input: &[u8], told: Told, ends: bool) -> Result<bool, Stop> {
     let mut talk = Talk::new(alloc)?;
     talk.tell(told, ends)?;

@@ -1,4 +1,4 @@
-//! Requests as they are read, where a reply does not show it.
+//! Requests as they are read, if the reply does not show it.
 use http_header::HeaderMap;
 use land_core::act::Act;
 use land_core::ask::{Ask, Request};
@@ -11,7 +11,7 @@ use land_wire::reading::read_request;
 use land_wire_json::bodies::wire_fault::WireFault;
 use std::alloc::Global;
 
-/// Goes on where a field was put among others.
+/// Returns an error if a field was not appended.
 fn put(outcome: Result<(), FieldFault>) -> Result<(), Stop> {
     match outcome {
         Ok(()) => Ok(()),
@@ -20,7 +20,7 @@ fn put(outcome: Result<(), FieldFault>) -> Result<(), Stop> {
     }
 }
 
-/// The fields that name the office as the caller.
+/// Returns the fields with the operator as the caller.
 fn office_fields(alloc: Global) -> Result<HeaderMap, Stop> {
     let mut fields = HeaderMap::new(alloc);
     put(append_field(alloc, &mut fields, b"Register-Party", b"1"))?;
@@ -29,7 +29,7 @@ fn office_fields(alloc: Global) -> Result<HeaderMap, Stop> {
     Ok(fields)
 }
 
-/// The request that has these fields.
+/// Reads the request with these fields.
 fn read_with(
     alloc: Global,
     fields: &HeaderMap,
@@ -44,7 +44,7 @@ fn read_with(
     }
 }
 
-/// The request that the office puts with this method, target and body.
+/// Reads the operator's request with this method, target and body.
 fn read(alloc: Global, method: &[u8], target: &str, body: &[u8]) -> Result<Request, Stop> {
     let fields = office_fields(alloc)?;
     read_with(alloc, &fields, method, target, body)
@@ -84,7 +84,7 @@ fn is_enrolment_of_anna(request: &Request) -> bool {
     }
 }
 
-/// What the office may ask for.
+/// The requests of the operator.
 #[derive(Clone, Copy)]
 enum Asked {
     List,
@@ -100,7 +100,7 @@ fn is_asked(request: &Request, asked: Asked) -> bool {
     }
 }
 
-/// Whether the request that the office puts with this method, target and body is read so.
+/// Checks that the operator's request with this method, target and body is the expected one.
 fn is_read(
     alloc: Global,
     method: &[u8],
@@ -112,13 +112,13 @@ fn is_read(
     Ok(is_by_the_office(&request) && is_asked(&request, asked))
 }
 
-/// A list is read, whatever body comes with it.
+/// Checks that a list is read with any body.
 pub fn a_list_is_read(alloc: Global) -> Result<(), Stop> {
     let is_read = is_read(alloc, b"GET", "/parties?", b"\xff{", Asked::List)?;
     expect(is_read, "a list", 0)
 }
 
-/// A view is read.
+/// Checks that a view is read.
 pub fn a_view_is_read(alloc: Global) -> Result<(), Stop> {
     let target = "/parties/0000000000009";
     expect(
@@ -128,7 +128,7 @@ pub fn a_view_is_read(alloc: Global) -> Result<(), Stop> {
     )
 }
 
-/// An enrolment is read.
+/// Checks that an enrolment is read.
 pub fn an_enrolment_is_read(alloc: Global) -> Result<(), Stop> {
     let is_read = is_read(alloc, b"POST", "/acts/enrol", ENROL, Asked::Enrolment)?;
     expect(is_read, "an enrolment", 0)

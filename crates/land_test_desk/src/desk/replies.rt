@@ -1,11 +1,11 @@
-//! The bytes of store faults, which are always at hand.
+//! The bytes of store faults, which need no allocation.
 use land_desk::response::{Medium, Status, response_bytes, store_response};
 use land_keep::reply::Reply;
 use land_test_scenario::stop::{Stop, expect};
 use land_wire::text::{is_sheet, reply_text, store_text};
 use std::alloc::{AllocError, Global};
 
-/// Whether a reply has this text.
+/// Checks the text of a reply.
 fn has_text(alloc: Global, reply: &Reply, text: &str) -> Result<bool, AllocError> {
     if is_sheet(reply) {
         return Ok(false);
@@ -13,7 +13,7 @@ fn has_text(alloc: Global, reply: &Reply, text: &str) -> Result<bool, AllocError
     Ok(reply_text(alloc, reply)?.as_str() == text)
 }
 
-/// Whether a reply with this text has these bytes.
+/// Checks the bytes of a reply with this text.
 fn has_bytes(
     alloc: Global,
     reply: &Reply,
@@ -41,7 +41,7 @@ fn has_both(
     has_bytes(alloc, reply, text, closing, head, bytes)
 }
 
-/// Whether the text and the bytes of a store fault that are at hand are those that are made for its reply.
+/// Checks that the constant text and bytes of a store fault equal those built for its reply.
 fn is_at_hand(alloc: Global, number: u16, closing: bool, head: bool) -> Result<bool, AllocError> {
     if number < 501 || 503 < number {
         return Ok(false);
@@ -56,11 +56,12 @@ fn is_at_hand(alloc: Global, number: u16, closing: bool, head: bool) -> Result<b
     )
 }
 
-/// The reply to a caller of a store that is closed by a failed read or write, where the connection ends.
+/// The reply when a failed read or write has closed the store; the connection closes.
 const FAILED: &[u8] =
     b"HTTP/1.1 503 Service Unavailable\r\nContent-Type: application/json\r\nContent-Length: 13\r\nConnection: close\r\n\r\n{\"store\":502}";
 
-/// The bytes of store faults are at hand without memory, and are those that are made for their replies.
+/// Checks that the bytes of store faults are available without memory, and equal those built for their
+/// replies.
 pub fn store_faults_have_their_bytes_without_memory(alloc: Global) -> Result<(), Stop> {
     for number in 501..504 {
         for closing in [false, true] {

@@ -1,4 +1,4 @@
-//! Streams, and the items that stand in them, worked out by hand.
+//! Streams and their items, worked out by hand.
 ghost use Rattle.land_wire.specs.Framing.Items.{IsRequestIn};
 
 use crate::desk::long_requests::joined;
@@ -17,7 +17,7 @@ use land_wire::framing::listing::item_count;
 use std::alloc::{AllocError, Global};
 use std::io::Read;
 
-/// A whole request, as it is told from its bytes.
+/// A whole request, by its bytes.
 struct Request {
     method: &'static [u8],
     target: &'static [u8],
@@ -26,17 +26,17 @@ struct Request {
     is_last: bool,
 }
 
-/// What stands at the front of a stream.
+/// The first item of a stream.
 enum Item {
-    /// No byte.
+    /// The end of the input.
     End,
-    /// A fault of framing, by its number.
+    /// A framing fault, by its number.
     Fault(u16),
     /// A whole request.
     Request(Request),
 }
 
-/// A stream, and its items up to the end, the last one or a fault.
+/// A stream, and its items, the last of which may be a fault.
 struct Stream {
     bytes: &'static [u8],
     items: &'static [Item],
@@ -262,7 +262,7 @@ const STREAMS: &[Stream] = &[
         bytes: b"GET /parties HTTP/1.1\r\nContent-Length: 5\r\n\r\nhell",
         items: &[Item::Fault(144)],
     },
-    // A request that is cut.
+    // A truncated request.
     Stream {
         bytes: b"P",
         items: &[Item::Fault(144)],
@@ -283,7 +283,7 @@ const STREAMS: &[Stream] = &[
         bytes: b"POST /acts/enrol HTTP/1.1\r\nRegister-Party: 1\r\nRegister-Role: stateAdministrator\r\nContent-Length: 38\r\n\r\n{",
         items: &[Item::Fault(144)],
     },
-    // What stands after the last request of a connection is no item.
+    // Bytes after the last request of a connection are not an item.
     Stream {
         bytes: b"GET",
         items: &[Item::Fault(144)],
@@ -377,7 +377,7 @@ const STREAMS: &[Stream] = &[
         bytes: b"POST / HTTP/1.1\r\nTransfer: chunked\r\n\r\nx",
         items: &[POST, Item::Fault(144)],
     },
-    // Connections end where a word says so.
+    // Connections close if a word requests it.
     Stream {
         bytes: b"GET / HTTP/1.1\r\nConnection: close\r\n\r\n",
         items: &[LAST_GET],
@@ -436,7 +436,7 @@ const STREAMS: &[Stream] = &[
     },
 ];
 
-/// A stream with a part that stands many times in its middle, and its items.
+/// A stream with a part that is repeated in its middle, and its items.
 struct LongStream {
     front: &'static [u8],
     filler: &'static [u8],
@@ -461,7 +461,7 @@ const LONG: &[LongStream] = &[
         back: b"\r\n",
         items: &[Item::Fault(140)],
     },
-    // Only a whole head has too many.
+    // Only a whole head has too many fields.
     LongStream {
         front: b"GET / HTTP/1.1\r\n",
         filler: b"a:b\r\n",
@@ -507,7 +507,7 @@ const LONG: &[LongStream] = &[
         back: b"\r\n\r\n",
         items: &[Item::Fault(141)],
     },
-    // The stream ends inside a head, before 8192 bytes and at them.
+    // The stream ends inside a head, below 8192 bytes and at 8192 bytes.
     LongStream {
         front: b"GET / HTTP/1.1\r\nA: ",
         filler: b"x",
@@ -522,7 +522,7 @@ const LONG: &[LongStream] = &[
         back: b"",
         items: &[Item::Fault(141)],
     },
-    // The same inside a target, also where it can be no UTF-8.
+    // The same inside a target, also if it cannot be valid UTF-8.
     LongStream {
         front: b"GET /",
         filler: b"x",
@@ -553,7 +553,7 @@ const LONG: &[LongStream] = &[
     },
 ];
 
-/// What was read ahead of a stream.
+/// A reader with its buffer.
 #[derive(Drop)]
 struct Reading {
     headers: Vec<HeaderSpan>,
@@ -568,7 +568,7 @@ impl Reading {
         })
     }
 
-    /// Reads the item at the front, and drops nothing.
+    /// Reads the first item, and discards nothing.
     fn front<R: Read>(&mut self, reader: &mut CountedReader<'_, R>) -> Result<Front, StreamFault> {
         if self.headers.len() < FIELD_ROOM {
             return Err(StreamFault::NoMemory);
@@ -576,7 +576,7 @@ impl Reading {
         read_item(reader, &mut self.buffer, &mut self.headers)
     }
 
-    /// Whether this stands at the front. A request is dropped.
+    /// Checks the first item, and discards it if it is a request.
     fn is_next<R: Read>(
         &mut self,
         reader: &mut CountedReader<'_, R>,
@@ -599,7 +599,7 @@ impl Reading {
     }
 }
 
-/// A reader of a stream in pieces of such a size, which does not fail.
+/// Returns a reader of a stream in chunks of this size, which does not fail.
 fn whole(left: &[u8], piece: usize) -> Pieces<'_> {
     let reads = u64::MAX;
     Pieces { left, piece, reads }
@@ -612,7 +612,7 @@ fn is_fault(item: &Item, number: u16) -> bool {
     }
 }
 
-/// Whether the request at these spans is this one.
+/// Checks that the request at these spans is this one.
 fn is_request(
     item: &Item,
     buffer: &[u8],
@@ -634,7 +634,7 @@ fn is_request(
     }
 }
 
-/// Whether the stream has these items, in pieces of such a size.
+/// Checks that the stream has these items, in chunks of this size.
 fn has_items(alloc: Global, bytes: &[u8], piece: usize, items: &[Item]) -> Result<bool, Stop> {
     let mut pieces = whole(bytes, piece);
     let mut reader = CountedReader::new(&mut pieces);
@@ -647,7 +647,7 @@ fn has_items(alloc: Global, bytes: &[u8], piece: usize, items: &[Item]) -> Resul
     Ok(true)
 }
 
-/// Whether the stream has these items, whatever the pieces are in which it comes.
+/// Checks that the stream has these items, in chunks of any size.
 fn has_items_in_pieces(alloc: Global, bytes: &[u8], items: &[Item]) -> Result<bool, Stop> {
     Ok(
         has_items(alloc, bytes, 1, items)?
@@ -661,7 +661,7 @@ fn has_long_items(alloc: Global, row: &LongStream) -> Result<bool, Stop> {
     has_items_in_pieces(alloc, &bytes, row.items)
 }
 
-/// Heads have limits.
+/// Checks the limits of heads.
 pub fn heads_have_limits(alloc: Global) -> Result<(), Stop> {
     for (place, row) in LONG.iter().enumerate() {
         expect(has_long_items(alloc, row)?, "row", place)?;
@@ -669,7 +669,7 @@ pub fn heads_have_limits(alloc: Global) -> Result<(), Stop> {
     Ok(())
 }
 
-/// How many items stand before the end.
+/// Returns the number of items before the end.
 fn count_of(items: &[Item]) -> usize {
     items
         .iter()
@@ -677,13 +677,14 @@ fn count_of(items: &[Item]) -> usize {
         .count()
 }
 
-/// Whether the bytes are counted as so many items.
+/// Checks that the stream has this number of items.
 fn are_counted(alloc: Global, row: &Stream) -> Result<bool, Stop> {
     let mut headers = vec![in alloc; EMPTY_HEADER_SPAN; FIELD_ROOM]?;
     Ok(item_count(row.bytes, &mut headers) == count_of(row.items))
 }
 
-/// Whether a stream whose first item is a fault is answered by it, and the connection ends.
+/// Checks that a stream whose first item is a fault gets this fault as its reply, and that the connection
+/// closes.
 fn is_refused(alloc: Global, row: &Stream) -> Result<bool, Stop> {
     match row.items {
         [item] => is_item_told(alloc, row.bytes, item),
@@ -698,7 +699,8 @@ fn is_item_told(alloc: Global, bytes: &[u8], item: &Item) -> Result<bool, Stop> 
     }
 }
 
-/// Whether a stream has its items, is counted so, and is answered by its fault if it begins with one.
+/// Checks that a stream has its items and their number, and gets its fault as the reply if it begins with
+/// one.
 fn is_served(alloc: Global, row: &Stream) -> Result<bool, Stop> {
     if !has_items_in_pieces(alloc, row.bytes, row.items)? {
         return Ok(false);
@@ -709,7 +711,7 @@ fn is_served(alloc: Global, row: &Stream) -> Result<bool, Stop> {
     is_refused(alloc, row)
 }
 
-/// Streams have their items, and are answered by the fault that they begin with.
+/// Checks that streams have their items, and get the fault that they begin with as the reply.
 pub fn streams_have_their_items(alloc: Global) -> Result<(), Stop> {
     for (place, row) in STREAMS.iter().enumerate() {
         expect(is_served(alloc, row)?, "row", place)?;
@@ -717,7 +719,8 @@ pub fn streams_have_their_items(alloc: Global) -> Result<(), Stop> {
     Ok(())
 }
 
-/// Whether a stream that may be asked for so many pieces of ten bytes ends in a failed read, and what was read is kept.
+/// Checks that a stream ends with a failed read after this number of chunks of ten bytes, and that the bytes
+/// read remain in the buffer.
 fn is_unread(alloc: Global, budget: u64) -> Result<bool, Stop> {
     let left = b"POST / HTTP/1.1\r\nContent-Length: 5\r\n\r\nhello".as_slice();
     let mut pieces = whole(left, 10);
@@ -733,7 +736,7 @@ fn is_unread(alloc: Global, budget: u64) -> Result<bool, Stop> {
     }
 }
 
-/// Whether a reader that fails after so many pieces of ten bytes ends in a failed read.
+/// Checks that a reader that fails after this number of chunks of ten bytes yields a failed read.
 fn is_failed(alloc: Global, reads: u64) -> Result<bool, Stop> {
     let left = b"POST / HTTP/1.1\r\nContent-Length: 5\r\n\r\nhello".as_slice();
     let mut pieces = Pieces {
@@ -750,7 +753,7 @@ fn is_failed(alloc: Global, reads: u64) -> Result<bool, Stop> {
     }
 }
 
-/// Readers fail at the first read, inside the head, and inside the body.
+/// Checks readers that fail at the first read, inside the head, and inside the body.
 pub fn readers_fail(alloc: Global) -> Result<(), Stop> {
     for (place, reads) in [0, 1, 4].iter().enumerate() {
         expect(is_unread(alloc, *reads)?, "unread", place)?;
@@ -759,10 +762,10 @@ pub fn readers_fail(alloc: Global) -> Result<(), Stop> {
     Ok(())
 }
 
-/// Two requests in one piece.
+/// Two requests in one chunk.
 const TWO: &[u8] = b"GET / HTTP/1.1\r\n\r\nGET / HTTP/1.1\r\n\r\n";
 
-/// Whether both requests of one piece are found by one read, and the end by a second one alone.
+/// Checks that one read finds both requests of a chunk, and only a second read finds the end.
 fn is_asked_once(alloc: Global) -> Result<bool, Stop> {
     let mut pieces = whole(TWO, 4096);
     let mut reader = CountedReader::with_budget(&mut pieces, 1);
@@ -774,7 +777,7 @@ fn is_asked_once(alloc: Global) -> Result<bool, Stop> {
     )
 }
 
-/// What was read ahead is not read again.
+/// Checks that bytes read ahead are not read again.
 pub fn what_was_read_ahead_is_not_read_again(alloc: Global) -> Result<(), Stop> {
     expect(is_asked_once(alloc)?, "reads", 0)
 }

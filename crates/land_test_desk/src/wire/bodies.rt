@@ -1,4 +1,4 @@
-//! Bodies that are read, those of the worked rows among them.
+//! Bodies that are read without a fault, with those of the worked rows.
 use crate::wire::reading::{Reader, fault_in};
 use land_test_scenario::stop::{Stop, expect};
 use land_wire_json::bodies::content_kind::ContentKind;
@@ -64,7 +64,7 @@ const OTHERS: &[Row] = &[
         Reader::Burden,
         r#"{"unit":1000000000,"party":1,"class":"responsibility","words":"Keep the fence","document":"Order"}"#,
     ),
-    // the order of keys does not count, the last of two equal keys stays, and white space is passed over
+    // the order of keys does not matter, the last of two equal keys counts, and white space is skipped
     Row(Reader::Enrol, r#"{"name":"Anna","kind":"naturalPerson"}"#),
     Row(
         Reader::Enrol,
@@ -74,7 +74,7 @@ const OTHERS: &[Row] = &[
         Reader::Enrol,
         " {\t\"kind\" : \"naturalPerson\",\r\n\"name\":\"Anna\" } ",
     ),
-    // an escape is the character that it stands for
+    // an escape denotes its character
     Row(
         Reader::Enrol,
         r#"{"\u006bind":"naturalPerson","name":"\u0041nna \ud83d\ude00"}"#,
@@ -84,7 +84,7 @@ const OTHERS: &[Row] = &[
         Reader::Regroup,
         r#"{"group":7,"members":[{"party":2,"share":"000000000000000001/2"},{"party":3,"share":"2/4"}]}"#,
     ),
-    // members may stand twice, and their shares may fail to sum to one: acts refuse that
+    // members may be repeated, and their shares may not sum to 1: only acts check that
     Row(
         Reader::Group,
         r#"{"name":"G","members":[{"party":2,"share":"1/2"},{"party":2,"share":"1/3"}]}"#,
@@ -106,17 +106,17 @@ fn expect_read(alloc: Global, rows: &[Row]) -> Result<(), Stop> {
     Ok(())
 }
 
-/// The bodies of the scenario are read.
+/// Checks that the bodies of the scenario are read.
 pub fn the_bodies_of_the_scenario_are_read(alloc: Global) -> Result<(), Stop> {
     expect_read(alloc, SCENARIO)
 }
 
-/// Other bodies are read.
+/// Checks that other bodies are read.
 pub fn other_bodies_are_read(alloc: Global) -> Result<(), Stop> {
     expect_read(alloc, OTHERS)
 }
 
-/// A name of so many times a character.
+/// Returns a name of this number of equal characters.
 fn enrolment(alloc: Global, character: &str, count: usize) -> Result<String, AllocError> {
     let mut body = String::from_str(alloc, r#"{"kind":"naturalPerson","name":""#)?;
     for _ in 0..count {
@@ -131,7 +131,7 @@ fn fault_of_name(alloc: Global, character: &str, count: usize) -> Result<u16, Al
     fault_in(alloc, Reader::Enrol, body.as_bytes())
 }
 
-/// A character, how often it stands in a name, and the fault of the name, 0 where it is read.
+/// A character, its count in a name, and the fault of the name, 0 if there is none.
 struct Name(&'static str, usize, u16);
 
 const NAMES: &[Name] = &[
@@ -142,7 +142,7 @@ const NAMES: &[Name] = &[
     Name("a", 0, 133),
 ];
 
-/// A name is counted in characters.
+/// Checks that the length of a name is counted in characters.
 pub fn a_name_is_counted_in_characters(alloc: Global) -> Result<(), Stop> {
     for (place, name) in NAMES.iter().enumerate() {
         let fault = fault_of_name(alloc, name.0, name.1)?;

@@ -5,7 +5,8 @@ use land_wire_json::bodies::wire_fault::WireFault;
 use land_wire_json::texts::mutation::content_text;
 use std::alloc::{AllocError, Global};
 
-/// The word of an act, the text of a content, and the number of its fault, 0 where it is read and written as it was.
+/// The word of an act, the text of a content, and the number of its fault, 0 if it is read and written
+/// unchanged.
 struct Row(&'static str, &'static str, u16);
 
 const ROWS: &[Row] = &[
@@ -51,7 +52,7 @@ const ROWS: &[Row] = &[
     ),
 ];
 
-/// Whether the text is read as its row says, and written as it was where it is read.
+/// Checks that a text is read as its row specifies, and that it is written unchanged if it was read.
 fn is_as_said(alloc: Global, row: &Row) -> Result<bool, AllocError> {
     match read_content(alloc, row.0, row.1) {
         Ok(content) => {
@@ -70,7 +71,7 @@ fn expect_rows(alloc: Global, rows: &[Row]) -> Result<(), Stop> {
     Ok(())
 }
 
-/// Contents are read and written.
+/// Checks that contents are read and written.
 pub fn contents_are_read_and_written(alloc: Global) -> Result<(), Stop> {
     expect_rows(alloc, ROWS)
 }

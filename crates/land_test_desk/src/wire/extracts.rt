@@ -204,7 +204,7 @@ fn is_row(alloc: Global, row: &Row) -> Result<bool, Stop> {
     Ok(csv_row(alloc, &object, row.2)?.as_slice() == row.3.as_bytes())
 }
 
-/// Headers name the columns.
+/// Checks that headers contain the names of the columns.
 pub fn headers_name_the_columns(alloc: Global) -> Result<(), Stop> {
     for (place, row) in HEADERS.iter().enumerate() {
         let header = csv_header(alloc, row.0)?;
@@ -213,7 +213,7 @@ pub fn headers_name_the_columns(alloc: Global) -> Result<(), Stop> {
     Ok(())
 }
 
-/// Rows have the fields of their objects.
+/// Checks that rows have the fields of their objects.
 pub fn rows_have_the_fields_of_their_objects(alloc: Global) -> Result<(), Stop> {
     for (place, row) in ROWS.iter().enumerate() {
         expect(is_row(alloc, row)?, "row", place)?;

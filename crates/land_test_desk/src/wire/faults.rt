@@ -52,7 +52,7 @@ const FIELDS: &[Row] = &[
     Row(131, Reader::Mandate, r#"{"party":5}"#),
     Row(131, Reader::Withdraw, r#"{"principal":2}"#),
     Row(131, Reader::Withdraw, r#"{"agent":0}"#),
-    // an unknown key comes before the fields, and a field at its turn
+    // an unknown key comes before the fields, and the fields come in order
     Row(131, Reader::Enrol, r#"{"kind":"group","name":"","more":1}"#),
     Row(133, Reader::Enrol, r#"{"kind":"group"}"#),
     Row(131, Reader::Enrol, r#"{"name":""}"#),
@@ -61,7 +61,7 @@ const FIELDS: &[Row] = &[
         Reader::Register,
         r#"{"name":"G","checked":1,"document":"D","parcels":[],"rights":[]}"#,
     ),
-    // an array's length comes before its elements
+    // the length of an array comes before its elements
     Row(
         131,
         Reader::Group,
@@ -193,7 +193,7 @@ const TEXTS: &[Row] = &[
 ];
 
 const LISTS: &[Row] = &[
-    // another order, once the elements are read
+    // the order comes after the elements were read
     Row(
         131,
         Reader::Lodge(ContentKind::Merger),
@@ -224,7 +224,7 @@ const LISTS: &[Row] = &[
         Reader::Lodge(ContentKind::Merger),
         r#"{"reference":"G","document":"D","unit":9,"others":[],"parcels":[24,26],"label":"","outline":""}"#,
     ),
-    // rights without an ownership, once they are read
+    // rights without an ownership, after they were read
     Row(
         131,
         Reader::Register,
@@ -235,7 +235,7 @@ const LISTS: &[Row] = &[
         Reader::Register,
         r#"{"name":"G","checked":true,"document":"D","parcels":[{"label":"1","outline":"POLYGON ((0 0, 1 0, 0 1, 0 0))"}],"rights":[{"party":6,"type":"rent","share":"1/1"}]}"#,
     ),
-    // what is wrong with a part of a subdivision
+    // faults of a part of a subdivision
     Row(
         131,
         Reader::Lodge(ContentKind::Subdivision),
@@ -263,37 +263,37 @@ const LISTS: &[Row] = &[
     ),
 ];
 
-/// What is no json is 130.
+/// Checks that text that is not JSON is fault 130.
 pub fn what_is_no_json_is_130(alloc: Global) -> Result<(), Stop> {
     expect_faults(alloc, NO_JSON)
 }
 
-/// Wrong fields are 131.
+/// Checks that wrong fields are fault 131.
 pub fn wrong_fields_are_131(alloc: Global) -> Result<(), Stop> {
     expect_faults(alloc, FIELDS)
 }
 
-/// Wrong numbers are 132.
+/// Checks that wrong numbers are fault 132.
 pub fn wrong_numbers_are_132(alloc: Global) -> Result<(), Stop> {
     expect_faults(alloc, NUMBERS)
 }
 
-/// Wrong shares are 132 and 101 to 103.
+/// Checks that wrong shares are faults 132 and 101 to 103.
 pub fn wrong_shares_are_132_and_101_to_103(alloc: Global) -> Result<(), Stop> {
     expect_faults(alloc, SHARES)
 }
 
-/// Wrong texts and words are 133 and 134.
+/// Checks that wrong texts and words are faults 133 and 134.
 pub fn wrong_texts_and_words_are_133_and_134(alloc: Global) -> Result<(), Stop> {
     expect_faults(alloc, TEXTS)
 }
 
-/// Wrong lists are told after their elements.
+/// Checks that faults of lists come after those of their elements.
 pub fn wrong_lists_are_told_after_their_elements(alloc: Global) -> Result<(), Stop> {
     expect_faults(alloc, LISTS)
 }
 
-/// Arrays in arrays, so many.
+/// Returns arrays nested to this depth.
 fn nested(alloc: Global, levels: usize) -> Result<String, AllocError> {
     let mut body = String::new(alloc);
     for _ in 0..levels {
@@ -310,13 +310,13 @@ fn fault_of_nested(alloc: Global, levels: usize) -> Result<u16, AllocError> {
     fault_in(alloc, Reader::Lift, body.as_bytes())
 }
 
-/// Levels are read up to 127.
+/// Checks that levels are read up to 127.
 pub fn levels_are_read_up_to_127(alloc: Global) -> Result<(), Stop> {
     expect(fault_of_nested(alloc, 127)? == 131, "levels", 127)?;
     expect(fault_of_nested(alloc, 128)? == 130, "levels", 128)
 }
 
-/// Bytes that are no text are 130.
+/// Checks that bytes that are not valid UTF-8 are fault 130.
 pub fn bytes_that_are_no_text_are_130(alloc: Global) -> Result<(), Stop> {
     let body = b"{\"kind\":\"naturalPerson\",\"name\":\"\xff\"}";
     expect(fault_in(alloc, Reader::Enrol, body)? == 130, "fault", 130)

@@ -1,4 +1,4 @@
-//! Bodies read by the reader of their act.
+//! Reads bodies with the reader of their act.
 use land_wire_json::bodies::content_kind::ContentKind;
 use land_wire_json::bodies::fields::read_value;
 use land_wire_json::bodies::lodging::{decision_of, lodging_of};
@@ -10,34 +10,34 @@ use land_wire_json::bodies::wire_fault::WireFault;
 use serde_json::Value;
 use std::alloc::{AllocError, Global};
 
-/// Whose body is read.
+/// The reader of a body.
 #[derive(Clone, Copy)]
 pub(super) enum Reader {
-    /// A party is enrolled.
+    /// Enrols a party.
     Enrol,
-    /// A group is made.
+    /// Creates a group.
     Group,
-    /// A group gets other members.
+    /// Changes the members of a group.
     Regroup,
-    /// A role is given or ended.
+    /// Grants or revokes a role.
     Grant,
-    /// A mandate is given.
+    /// Creates a mandate.
     Mandate,
-    /// A mandate is withdrawn.
+    /// Withdraws a mandate.
     Withdraw,
-    /// A unit is registered.
+    /// Registers a unit.
     Register,
-    /// A unit is burdened.
+    /// Burdens a unit.
     Burden,
-    /// A burden is lifted.
+    /// Lifts a burden.
     Lift,
-    /// A mutation is lodged.
+    /// Lodges a mutation.
     Lodge(ContentKind),
-    /// A mutation is decided.
+    /// Decides a mutation.
     Decide,
 }
 
-/// The number of the fault in a body; 0 where it is read.
+/// Returns the number of the fault of a body, or 0 if it was read.
 pub(super) fn fault_in(alloc: Global, reader: Reader, body: &[u8]) -> Result<u16, AllocError> {
     match read(alloc, reader, body) {
         Ok(()) => Ok(0),

@@ -1,4 +1,4 @@
-//! What paths name, how targets are cut, and which methods routes have.
+//! The resources of paths, the split of targets, and the methods of routes.
 use land_core::kind::Kind;
 use land_test_scenario::stop::{Stop, expect};
 use land_wire::routes::act_word::ActWord;
@@ -7,10 +7,10 @@ use land_wire::routes::table::routes;
 use land_wire::routes::target::split_target;
 use std::alloc::Global;
 
-/// A path, and what it names.
+/// A path, and its resource.
 struct Row(&'static str, Option<Route<'static>>);
 
-/// Each kind: its list, one object.
+/// Each kind: its list, and one object.
 const KINDS: &[Row] = &[
     Row("/parties", Some(Route::List(Kind::Party))),
     Row("/parties/16", Some(Route::View(Kind::Party, b"16"))),
@@ -26,7 +26,7 @@ const KINDS: &[Row] = &[
     Row("/mutations/16", Some(Route::View(Kind::Mutation, b"16"))),
 ];
 
-/// Title sheets, which units alone have.
+/// Title sheets, which only units have.
 const SHEETS: &[Row] = &[
     Row("/units/9/sheet", Some(Route::Sheet(b"9"))),
     Row("/units/sheet", Some(Route::View(Kind::Unit, b"sheet"))),
@@ -69,7 +69,7 @@ const ACTS: &[Row] = &[
     Row("/acts/refuse", Some(Route::Act(ActWord::Refuse))),
 ];
 
-/// Words of no act.
+/// Words that are not acts.
 const NO_ACTS: &[Row] = &[
     Row("/acts", None),
     Row("/acts/", None),
@@ -91,7 +91,7 @@ const NO_ACTS: &[Row] = &[
     Row("/acts/withdrawal", None),
 ];
 
-/// Numbers are not read here: any part that is not empty and has no `/`.
+/// Numbers are not parsed here: any segment that is not empty and has no `/` is accepted.
 const PARTS: &[Row] = &[
     Row("/parties/0", Some(Route::View(Kind::Party, b"0"))),
     Row("/parties/01", Some(Route::View(Kind::Party, b"01"))),
@@ -115,7 +115,7 @@ const PARTS: &[Row] = &[
     ),
 ];
 
-/// No route.
+/// Paths without a route.
 const NOTHING: &[Row] = &[
     Row("", None),
     Row("/", None),
@@ -165,7 +165,7 @@ const NOTHING: &[Row] = &[
     Row("/rights/16", None),
 ];
 
-/// A query belongs to no path: paths that were not cut before their `?`.
+/// A query is not a part of a path: paths that were not split at their `?`.
 const QUERIES: &[Row] = &[
     Row("/parties?at=5", None),
     Row("/parties/1?at=5", Some(Route::View(Kind::Party, b"1?at=5"))),
@@ -198,7 +198,7 @@ fn expect_named(alloc: Global, rows: &[Row]) -> Result<(), Stop> {
     Ok(())
 }
 
-/// Kinds sheets and acts are named.
+/// Checks the paths of kinds, sheets and acts.
 pub fn kinds_sheets_and_acts_are_named(alloc: Global) -> Result<(), Stop> {
     expect_named(alloc, KINDS)?;
     expect_named(alloc, SHEETS)?;
@@ -206,7 +206,7 @@ pub fn kinds_sheets_and_acts_are_named(alloc: Global) -> Result<(), Stop> {
     expect_named(alloc, PARTS)
 }
 
-/// Other paths name nothing.
+/// Checks that other paths have no route.
 pub fn other_paths_name_nothing(alloc: Global) -> Result<(), Stop> {
     expect_named(alloc, NO_ACTS)?;
     expect_named(alloc, NOTHING)?;
@@ -228,7 +228,7 @@ const TARGETS: &[Target] = &[
     Target("/parties/1?at=5&x=1", "/parties/1", "at=5&x=1"),
 ];
 
-/// Targets are cut at their first question mark.
+/// Checks that targets are split at their first question mark.
 pub fn targets_are_cut_at_their_first_question_mark() -> Result<(), Stop> {
     for (place, row) in TARGETS.iter().enumerate() {
         let (path, query) = split_target(row.0);
@@ -253,7 +253,7 @@ fn has_method(route: &Route<'_>, method: &str, other: &str) -> bool {
             .all(|method| !allows(route, method.as_bytes()))
 }
 
-/// Reads are got and acts are posted.
+/// Checks that reads have the method GET and acts the method POST.
 pub fn reads_are_got_and_acts_are_posted() -> Result<(), Stop> {
     for (place, route) in READS.iter().enumerate() {
         expect(has_method(route, "GET", "POST"), "row", place)?;

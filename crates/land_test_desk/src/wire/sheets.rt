@@ -1,4 +1,5 @@
 //! Title sheets.
+use land_core::limits::LAST_MOMENT;
 use land_core::parcel::Parcel;
 use land_core::rrr::{Class, RightType, Rrr};
 use land_core::sequence::Sequence;
@@ -11,10 +12,7 @@ use land_sheet::sheet::title_sheet;
 use land_test_scenario::stop::{Stop, expect};
 use std::alloc::{AllocError, Global};
 
-/// The last moment that there is.
-const LAST_MOMENT: i64 = 4_102_444_799_999;
-
-/// What an entry says.
+/// The content of an entry.
 #[derive(Clone, Copy)]
 pub enum Says {
     Right(RightType, u64, u64),
@@ -26,7 +24,7 @@ pub enum Says {
 /// A parcel by its number, its label and its outline.
 struct Land(u64, &'static str, &'static str);
 
-/// An entry by its number, what it says, and its party by number and name.
+/// An entry by its number, its content, and its party by number and name.
 struct Entry(u64, Says, u64, &'static str);
 
 /// A unit at a moment, by its number and its name, and whether its shares are checked.
@@ -70,7 +68,7 @@ Entries 3
 END
 ",
     },
-    // The widest numbers, a greatest and a least area, texts that are longer in bytes than in characters.
+    // The widest numbers, a maximum and a minimum area, and texts with more bytes than characters.
     Picture {
         unit: 1_000_000_000,
         name: "Zoë's Hof",
@@ -114,12 +112,12 @@ Entries 3
 END
 ",
     },
-    // Nothing of it is in sight but the parcel, at the last moment.
+    // The caller sees only the parcel, at the last moment.
     Picture {
         unit: 2,
         name: "Yard",
         checked: true,
-        at: 4_102_444_799_999,
+        at: LAST_MOMENT,
         parcels: &[Land(
             3,
             "1",
@@ -139,7 +137,7 @@ END
     },
 ];
 
-/// Moments, and the lines that tell them.
+/// Moments, and their lines.
 const MOMENTS: &[(i64, &str)] = &[
     (0, "At 1970-01-01T00:00:00.000Z\n"),
     (86_399_999, "At 1970-01-01T23:59:59.999Z\n"),
@@ -151,12 +149,12 @@ const MOMENTS: &[(i64, &str)] = &[
     (3_981_312_000_000, "At 2096-02-29T00:00:00.000Z\n"),
 ];
 
-/// A text of the register.
+/// Returns a text of the register.
 pub fn text(alloc: Global, text: &str) -> Result<Text, AllocError> {
     Ok(Text::new(String::from_str(alloc, text)?))
 }
 
-/// The ring of an outline.
+/// Returns the ring of an outline.
 pub fn ring(alloc: Global, outline: &str) -> Result<Ring, Stop> {
     match read_wkt(alloc, outline) {
         Ok(ring) => Ok(ring),
@@ -165,7 +163,7 @@ pub fn ring(alloc: Global, outline: &str) -> Result<Ring, Stop> {
     }
 }
 
-/// The class of an entry.
+/// Returns the class of an entry.
 pub fn class(alloc: Global, says: Says) -> Result<Class, Stop> {
     match says {
         Says::Right(right_type, parts, whole) => match Fraction::new(parts, whole) {
@@ -229,7 +227,7 @@ fn entries(alloc: Global, rows: &[Entry]) -> Result<Sequence<NamedRrr>, Stop> {
     Ok(entries)
 }
 
-/// The sheet of a view whose moment is one.
+/// Returns the sheet of a view whose moment is valid.
 fn told(alloc: Global, view: &View) -> Result<String, Stop> {
     if view.at < 0 || LAST_MOMENT < view.at {
         return Err(Stop::Call);
@@ -237,7 +235,7 @@ fn told(alloc: Global, view: &View) -> Result<String, Stop> {
     Ok(title_sheet(alloc, view)?)
 }
 
-/// The sheet of a picture at a moment, its parcels so many times.
+/// Returns the sheet of a row at a moment, with its parcels repeated.
 fn sheet(alloc: Global, picture: &Picture, at: i64, times: usize) -> Result<String, Stop> {
     let parcels = parcels(alloc, picture.parcels, times)?;
     let rrrs = entries(alloc, picture.entries)?;
@@ -255,7 +253,7 @@ fn sheet(alloc: Global, picture: &Picture, at: i64, times: usize) -> Result<Stri
     told(alloc, &view)
 }
 
-/// Sheets.
+/// Checks sheets.
 pub fn sheets(alloc: Global) -> Result<(), Stop> {
     for (place, picture) in PICTURES.iter().enumerate() {
         let sheet = sheet(alloc, picture, picture.at, 1)?;
@@ -264,7 +262,7 @@ pub fn sheets(alloc: Global) -> Result<(), Stop> {
     Ok(())
 }
 
-/// Moments are told as dates and times.
+/// Checks that moments are written as dates and times.
 pub fn moments_are_told_as_dates_and_times(alloc: Global) -> Result<(), Stop> {
     for (place, row) in MOMENTS.iter().enumerate() {
         let sheet = sheet(alloc, &PICTURES[2], row.0, 0)?;
@@ -273,7 +271,7 @@ pub fn moments_are_told_as_dates_and_times(alloc: Global) -> Result<(), Stop> {
     Ok(())
 }
 
-/// 256 times the greatest area and the least one are more than 64 bits hold, in square millimetres.
+/// Checks 256 times the maximum area and the minimum one, in square millimetres: more than 64 bits.
 pub fn areas_do_not_wrap(alloc: Global) -> Result<(), Stop> {
     let sheet = sheet(alloc, &PICTURES[1], 0, 256)?;
     let area = "\nArea 128000000000000.0001280\nParcels 512\n";

@@ -1,5 +1,6 @@
--- The items of a stream: whole requests one after another, and at the end a fault where the stream goes wrong.
-use Rattle.std.specs.Prelude.{◌≡◌, ℕ, ◌+◌, ◌<◌, ◌≤◌, Bool, true, false, List, [], ◌∷◌, ◌++◌, length, take, drop, Result, Ok, Err, ◌⊎◌}
+-- The items of a stream: whole requests in order, and at the end a fault if the stream is malformed.
+use Rattle.std.specs.Prelude.{◌≡◌, ℕ, ◌+◌, ◌<◌, ◌≤◌, Bool, true, false, List, [], ◌∷◌, ◌++◌, length, take}
+use Rattle.std.specs.Prelude.{drop, Result, Ok, Err, ◌⊎◌}
 use Rattle.httparse.specs.Grammar.{RequestHead, print_request}
 use Rattle.httparse.specs.Spans.{IsRequestAt, IsRequestWithin}
 use Rattle.httparse.specs.declared.spans.HeaderSpan.{HeaderSpan}
@@ -11,73 +12,76 @@ use Rattle.land_wire.specs.declared.framing.frame_fault.FrameFault.TheVariants a
 use Rattle.land_wire.specs.declared.framing.item.Front.{Front}
 use Rattle.land_wire.specs.declared.framing.item.Front.TheVariants as front
 
--- a whole request, head and body, or a fault of framing
+-- a whole request, head and body, or a framing fault
 pub data Item : Type 0 where
   request : (head : RequestHead) → (body : List ℕ) → Item
   faulty : (number : FrameFault) → Item
 
--- what is wrong after a whole head: what the head says, or a body that the stream has not whole
+-- the fault after a whole head: a fault of the head, or a truncated body
 abbrev pub FailsAfter : List ℕ → Result ℕ FrameFault → FrameFault → Type 0
 FailsAfter rest (Err g) f = f ≡ g
 FailsAfter rest (Ok n) f = (f ≡ fault.Cut) × (length rest < n)
 
--- the item at the front of the bytes, and what is left after it
+-- the first item of the bytes, and the rest after it
 abbrev pub IsItem : List ℕ → Item → List ℕ → Type 0
--- a head, and then a body of the length that the head says, whatever its method is
+-- a head, and then a body of the length in the head, for each method
 IsItem bytes (request h body) rest = HasHead bytes h (body ++ rest) × (frame h ≡ Ok (length body))
--- a fault takes all that is left, and where nothing is left there is no fault
+-- a fault takes all remaining bytes, and there is at least one
 IsItem bytes (faulty f) rest =
     (rest ≡ []) × (0 < length bytes)
-    × (IsFault bytes f ⊎ ((h : RequestHead) × (after : List ℕ) × HasHead bytes h after × FailsAfter after (frame h) f))
+    × (IsFault bytes f
+    ⊎ ((h : RequestHead) × (after : List ℕ) × HasHead bytes h after × FailsAfter after (frame h) f))
 
--- the connection ends with the item: nothing is looked at after it
+-- the connection closes after the item, so it is the last one
 abbrev pub is_last : Item → Bool
 is_last (request h body) = ends h
 is_last (faulty f) = true
 
--- the items of the bytes, one after another until nothing is left or an item is the last
+-- the items of the bytes in order, up to the end or to an item that is the last
 abbrev pub AreItems : List ℕ → List Item → Type 0
 AreItems bytes [] = bytes ≡ []
 AreItems bytes (item ∷ items) =
     (rest : List ℕ) × IsItem bytes item rest
     × (is_last item ≡ true → items ≡ []) × (is_last item ≡ false → AreItems rest items)
 
--- a stream has one item at its front and no other, and one rest after it
+-- a stream has exactly one first item, and one rest after it
 abbrev pub OneItem : Type 0
-OneItem = (bytes : List ℕ) (a b : Item) (r q : List ℕ) → IsItem bytes a r → IsItem bytes b q → (a ≡ b) × (r ≡ q)
+OneItem =
+    (bytes : List ℕ) (a b : Item) (r q : List ℕ) → IsItem bytes a r → IsItem bytes b q → (a ≡ b) × (r ≡ q)
 
--- a stream has one list of items and no other
+-- a stream has exactly one list of items
 abbrev pub OneListOfItems : Type 0
 OneListOfItems = (bytes : List ℕ) (xs ys : List Item) → AreItems bytes xs → AreItems bytes ys → xs ≡ ys
 
--- the bytes begin with the head at the spans, and go on with a body of n bytes
+-- the bytes begin with the head at the spans, and n bytes of a body follow
 abbrev pub IsRequestIn : List ℕ → List HeaderSpan → RequestSpans → ℕ → Type 0
 IsRequestIn bytes headers spans n =
     IsRequestWithin bytes headers spans
-    × ((h : RequestHead) × IsRequestAt bytes headers spans h × (length (print_request h) ≤ limit) × (frame h ≡ Ok n))
+    × ((h : RequestHead) × IsRequestAt bytes headers spans h
+    × (length (print_request h) ≤ limit) × (frame h ≡ Ok n))
     × (spans.len + n ≤ length bytes)
 
--- what the bytes of a buffer show of a front: where the parts of a request lie
+-- the part of the next item that a buffer shows: the spans of a request
 abbrev pub IsFrontIn : List ℕ → List HeaderSpan → Front → Type 0
 IsFrontIn bytes headers front.End = Unit {0}
 IsFrontIn bytes headers (front.Fault f) = Unit {0}
 IsFrontIn bytes headers (front.Request spans n) = IsRequestIn bytes headers spans n
 
--- how much was read for a front: behind a request less than a piece, and for a fault no piece more than shows it; where the
--- stream ends too early, all of it may be read
+-- the number of bytes read for the next item: after a request less than a chunk, and for a fault only the
+-- chunk that shows it; a truncated stream may be read to its end
 abbrev pub IsReadFor : List ℕ → Front → Type 0
 IsReadFor bytes front.End = Unit {0}
 IsReadFor bytes (front.Fault f) = (f ≡ fault.Cut) ⊎ IsJustRead bytes
 IsReadFor bytes (front.Request spans n) = length bytes < spans.len + n + 1024
 
--- what the whole stream shows of a front: no byte, or the item
+-- the part of the next item that the stream shows: the end, or the item
 abbrev pub IsFrontOf : List ℕ → Front → Type 0
 IsFrontOf bytes front.End = bytes ≡ []
 IsFrontOf bytes (front.Fault f) = IsItem bytes (faulty f) []
 IsFrontOf bytes (front.Request spans n) =
     (h : RequestHead) × IsItem bytes (request h (take n (drop spans.len bytes))) (drop (spans.len + n) bytes)
 
--- where the stream ends inside a head, but no byte of one is there, nothing is wrong
+-- at the end of input there is a fault only if the head has a byte
 abbrev pub fault_front : FrameFault → (empty : Bool) → Front
 fault_front fault.Head empty = front.Fault fault.Head
 fault_front fault.HeadLong empty = front.Fault fault.HeadLong

@@ -1,19 +1,20 @@
--- A text that ends inside a request target: a scan from its front says so.
+-- Bytes that end inside a request target: a scan from their front decides it.
 use Rattle.std.specs.Prelude.{ℕ, ◌==◌, List, if◌then◌else◌, fold}
 use Rattle.httparse.specs.Grammar.{is_token_byte, is_uri_byte}
 use Rattle.land_wire.specs.declared.framing.target.Place.{Place}
 use Rattle.land_wire.specs.declared.framing.target.Place.TheVariants as place
 
--- where the next byte leads
+-- the state after a byte
 abbrev pub next_place : Place → ℕ → Place
 next_place place.Blank b =
     if b == 13 then place.Return else if b == 10 then place.Blank
     else if is_token_byte b then place.Method else place.Elsewhere
 next_place place.Return b = if b == 10 then place.Blank else place.Elsewhere
-next_place place.Method b = if b == 32 then place.Target else if is_token_byte b then place.Method else place.Elsewhere
+next_place place.Method b =
+    if b == 32 then place.Target else if is_token_byte b then place.Method else place.Elsewhere
 next_place place.Target b = if is_uri_byte b then place.Target else place.Elsewhere
 next_place place.Elsewhere b = place.Elsewhere
 
--- where the bytes lead from a place
+-- the state after bytes
 abbrev pub place_after : Place → List ℕ → Place
 place_after p bytes = fold next_place p bytes

@@ -27,9 +27,10 @@ act_word act.Refuse = codes "refuse"
 -- all acts
 abbrev pub acts : List ActWord
 acts =
-    act.Enrol ∷ act.Group ∷ act.Regroup ∷ act.Grant ∷ act.Revoke ∷ act.Mandate ∷ act.Withdraw ∷ act.Register ∷ act.Burden ∷ act.Lift
-    ∷ act.Transfer ∷ act.Subdivision ∷ act.Merger ∷ act.Mortgage ∷ act.Discharge ∷ act.Approve ∷ act.Refuse ∷ []
+    act.Enrol ∷ act.Group ∷ act.Regroup ∷ act.Grant ∷ act.Revoke ∷ act.Mandate ∷ act.Withdraw
+    ∷ act.Register ∷ act.Burden ∷ act.Lift ∷ act.Transfer ∷ act.Subdivision ∷ act.Merger
+    ∷ act.Mortgage ∷ act.Discharge ∷ act.Approve ∷ act.Refuse ∷ []
 
--- the act that has these bytes for its word
+-- the act with these bytes as its word
 abbrev pub act_of : List ℕ → Option ActWord
 act_of bytes = find (λ a. bytes_eq bytes (act_word a)) acts

@@ -1,6 +1,7 @@
--- The table of routes, and what a router has to find.
+-- The route table, and the correctness of a router.
 use Rattle.std.specs.Borrow.{Bor}
-use Rattle.std.specs.Prelude.{◌≡◌, ℕ, ◌<◌, ◌+◌, ◌&&◌, Bool, true, false, List, [], ◌∷◌, codes, drop, length, Option, Some, None, is_none, Result, Ok, Err}
+use Rattle.std.specs.Prelude.{◌≡◌, ℕ, ◌<◌, ◌+◌, ◌&&◌, Bool, true, false, List, [], ◌∷◌, codes, drop, length}
+use Rattle.std.specs.Prelude.{Option, Some, None, is_none, Result, Ok, Err}
 use Rattle.land_wire.specs.Routes.{Resource, before_slash, list, list_path, named_act, route_of, sheet, view}
 use Rattle.land_wire.specs.declared.routes.table.Goal.{Goal}
 use Rattle.land_wire.specs.declared.routes.table.Goal.TheVariants as to
@@ -10,11 +11,11 @@ use Rattle.matchit.specs.Router.{RouteOf, nearest, route_from}
 use Rattle.matchit.specs.Rows.{RowsOf}
 use Rattle.matchit.specs.Seek.{first}
 
--- what a router holds, in the order in which it looks at them
+-- the rows of a router, in the order in which it tries them
 abbrev pub Routes : Type 0
 Routes = RowsOf (RouteOf Goal)
 
--- with an entry of the table in its place
+-- the rows with an entry inserted at its place
 abbrev pub with_scan : {E : Type 0} → Result Scan E → Goal → Routes → Routes
 with_scan (Ok scan) goal rows = placed (scan.pattern, route_from scan goal) rows
 with_scan (Err error) goal rows = rows
@@ -25,7 +26,7 @@ with_route text goal rows = with_scan (parse_route text) goal rows
 abbrev pub with_entry : Routes → Bor (List ℕ) × Goal → Routes
 with_entry rows entry = with_route entry.0.now entry.1 rows
 
--- an entry is free where it reads well and no route that is there already conflicts with it
+-- an entry has no conflict if it parses, and it conflicts with none of the rows
 abbrev pub is_free_scan : {E : Type 0} → Routes → Result Scan E → Bool
 is_free_scan rows (Ok scan) = is_none (nearest scan.pattern rows)
 is_free_scan rows (Err error) = false
@@ -33,29 +34,29 @@ is_free_scan rows (Err error) = false
 abbrev pub is_free : Routes → List ℕ → Bool
 is_free rows text = is_free_scan rows (parse_route text)
 
--- each entry is free after those before it
+-- each entry has no conflict with those before it
 abbrev pub are_free : Routes → List (Bor (List ℕ) × Goal) → Bool
 are_free rows [] = true
 are_free rows (entry ∷ rest) = is_free rows entry.0.now && are_free (with_entry rows entry) rest
 
--- what a goal names at a path: the part of a view follows the word of its kind and a `/`, that of a sheet stands between
--- `/units/` and the next `/`, and the word of an act follows `/acts/`
+-- the resource of an endpoint at a path: the segment of a view follows the word of its kind and a `/`, that
+-- of a sheet lies between `/units/` and the next `/`, and the word of an act follows `/acts/`
 abbrev pub named_by : List ℕ → Goal → Option Resource
 named_by path (to.List k) = Some (list k)
 named_by path (to.View k) = Some (view k (drop (length (list_path k) + 1) path))
 named_by path to.Sheet = Some (sheet (before_slash (drop (length (codes "/units/")) path)))
 named_by path to.Act = named_act (drop (length (codes "/acts/")) path)
 
--- where a router's answer leads
+-- the resource of a router's match
 abbrev pub led_by : List ℕ → Option (RouteOf Goal) → Option Resource
 led_by path None = None
 led_by path (Some row) = named_by path row.value
 
--- a path is of bytes: at 256 `matchit` has the token of a free part
+-- a path consists of bytes: 256 is the token of a free segment in `matchit`
 abbrev pub AreBytes : List ℕ → Type 0
 AreBytes [] = Unit {0}
 AreBytes (b ∷ bytes) = (b < 256) × AreBytes bytes
 
--- the router finds for every path what the path names, and nothing where it names nothing
+-- the router finds for each path its resource, and nothing if the path has none
 abbrev pub FindsRoutes : Routes → Type 0
 FindsRoutes rows = (path : List ℕ) → AreBytes path → led_by path (first rows path) ≡ route_of path

@@ -1,4 +1,4 @@
-//! What a head says of its connection and of the reply's body.
+//! Reads from a head whether the connection closes and whether the response has a body.
 ghost use Rattle.std.specs.Prelude.{◌≡◌};
 ghost use Rattle.httparse.specs.Grammar.{RequestHead, trim_ows};
 ghost use Rattle.httparse.specs.Spans.{IsRequestAt, IsRequestWithin};
@@ -8,8 +8,8 @@ use crate::words::is_word_in_any_case;
 use httparse::is_space_or_tab;
 use httparse::spans::{HeaderSpan, RequestSpans};
 
-/// Whether the connection ends after the request (RFC 9112, section 9.3): it is of HTTP/1.0, or a
-/// `Connection` field has `close`, in any letter case, among its words.
+/// Checks whether the connection closes after the request (RFC 9112, section 9.3): the version is HTTP/1.0,
+/// or a `Connection` field has the option `close`, compared without case.
 #[tactic(auto, unfolding(crate::specs::Framing::Frame::ends))]
 pub fn ends(spans: &RequestSpans, head: &[u8], headers: &[HeaderSpan]) -> bool
     requires { IsRequestWithin head.now headers.now spans.now }
@@ -28,7 +28,7 @@ pub fn ends(spans: &RequestSpans, head: &[u8], headers: &[HeaderSpan]) -> bool
     false
 }
 
-/// Whether the method is `HEAD`: the reply's body is not sent (RFC 9110, section 9.3.2).
+/// Checks whether the method is `HEAD`, whose response has no body (RFC 9110, section 9.3.2).
 #[tactic(auto, unfolding(crate::specs::Framing::Frame::is_head))]
 pub fn is_head(spans: &RequestSpans, head: &[u8], headers: &[HeaderSpan]) -> bool
     requires { IsRequestWithin head.now headers.now spans.now }
@@ -37,7 +37,7 @@ pub fn is_head(spans: &RequestSpans, head: &[u8], headers: &[HeaderSpan]) -> boo
     spans.method.of(head) == b"HEAD".as_slice()
 }
 
-/// Whether `close` is among the words between the commas.
+/// Checks whether `close` is one of the words between commas.
 fn says_close(value: &[u8]) -> bool
     ensures { result ≡ says_close value.now }
 {
@@ -50,7 +50,7 @@ fn is_close(word: &[u8]) -> bool
     is_word_in_any_case(trimmed(word), "close")
 }
 
-/// The bytes without the spaces and tabs around them.
+/// Returns the bytes without the spaces and tabs around them.
 fn trimmed(bytes: &[u8]) -> &[u8]
     ensures { result.now ≡ trim_ows bytes.now }
 {

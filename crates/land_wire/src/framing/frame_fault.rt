@@ -1,15 +1,15 @@
-//! What can be wrong with a stream.
+//! The faults of framing.
 ghost use Rattle.std.specs.Prelude.{◌≡◌};
 ghost use Rattle.land_wire.specs.Framing.FrameFaults.{number_of};
 
-/// Why the bytes at the front of a stream are no whole request.
+/// The reason that a stream does not begin with a whole request.
 #[derive(Clone, Copy, Debug, PartialEq, Eq)]
 pub enum FrameFault {
-    /// The bytes can be no beginning of a head, or a whole head has too many fields or a wrong length.
+    /// The bytes are not a prefix of a head, or a whole head has too many fields or a wrong length.
     Head,
-    /// 8192 bytes hold no whole head.
+    /// 8192 bytes contain only a part of a head.
     HeadLong,
-    /// The body would have more than 1_048_576 bytes.
+    /// The body has more than 1_048_576 bytes.
     BodyLong,
     /// The head has a `Transfer-Encoding`.
     Encoding,
@@ -18,7 +18,8 @@ pub enum FrameFault {
 }
 
 impl FrameFault {
-    /// The number of the fault that is answered: 140 `Head`, 141 `HeadLong`, 142 `BodyLong`, 143 `Encoding`, 144 `Cut`.
+    /// Returns the number in the reply: 140 `Head`, 141 `HeadLong`, 142 `BodyLong`, 143 `Encoding`, 144
+    /// `Cut`.
     pub fn number(self) -> u16
         ensures { result ≡ number_of self }
     {

@@ -1,30 +1,32 @@
-//! How many bytes of body follow a whole head.
+//! Reads the length of the body after a head.
 ghost use Rattle.std.specs.Prelude.{◌≡◌, ◌≤◌, IfOk};
 ghost use Rattle.httparse.specs.Grammar.{RequestHead};
 ghost use Rattle.httparse.specs.Spans.{IsRequestAt, IsRequestWithin};
-ghost use Rattle.land_wire.specs.Framing.Frame.{frame, length_of};
+ghost use Rattle.land_wire.specs.Framing.Frame.{body_limit, frame, length_of};
 
 use crate::framing::frame_fault::FrameFault;
 use crate::framing::named::{Occurrence, look_up};
 use httparse::spans::{HeaderSpan, RequestSpans};
 use land_wire_json::bodies::decimals::read_digits;
 
-/// A head has at most so many fields.
+/// The maximum number of fields in a head.
 pub const MOST_FIELDS: usize = 64;
 
-/// A body has at most so many bytes.
+/// The maximum length of a body, in bytes.
 pub const BODY_LIMIT: u64 = 1_048_576;
 
-/// A length has at most so many digits.
+/// The maximum number of digits of a length.
 const LENGTH_DIGITS: usize = 18;
 
-/// The length of the body that follows a head, by the `Content-Length` (RFC 9110, section 8.6), or the first
-/// of these faults: 140 `Head` more than 64 fields; 143 `Encoding` a `Transfer-Encoding`; 140 `Head` more than
-/// one `Content-Length`, or one that is not 1 to 18 digits; 142 `BodyLong` more than 1_048_576 bytes.
+/// Returns the length of the body after a head, from its `Content-Length` (RFC 9110, section 8.6).
+///
+/// Errors, the first one of: 140 `Head` if the head has more than 64 fields; 143 `Encoding` if it has a
+/// `Transfer-Encoding`; 140 `Head` if `Content-Length` is repeated or is not 1 to 18 digits; 142 `BodyLong`
+/// if it is more than 1_048_576.
 pub fn frame(spans: &RequestSpans, head: &[u8], headers: &[HeaderSpan]) -> Result<usize, FrameFault>
     requires { IsRequestWithin head.now headers.now spans.now }
     ensures value { (h : RequestHead) → IsRequestAt head.now headers.now spans.now h → result ≡ frame h }
-    ensures bound { IfOk result (λ n. n ≤ 1048576) }
+    ensures bound { IfOk result (λ n. n ≤ body_limit) }
 {
     if spans.headers > MOST_FIELDS {
         return Err(FrameFault::Head);
@@ -41,10 +43,10 @@ pub fn frame(spans: &RequestSpans, head: &[u8], headers: &[HeaderSpan]) -> Resul
     }
 }
 
-/// The length that a value says.
+/// Reads the length in a value.
 fn read_length(value: &[u8]) -> Result<usize, FrameFault>
     ensures value { result ≡ length_of value.now }
-    ensures bound { IfOk result (λ n. n ≤ 1048576) }
+    ensures bound { IfOk result (λ n. n ≤ body_limit) }
 {
     match read_digits(value, LENGTH_DIGITS) {
         None => Err(FrameFault::Head),

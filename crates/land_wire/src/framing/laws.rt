@@ -1,12 +1,12 @@
-//! Laws, each stated over the definitions alone.
+//! Laws, each stated with definitions only.
 ghost use Rattle.land_wire.specs.Framing.Items.{OneItem, OneListOfItems};
 
-/// A stream has one item at its front and no other.
+/// A stream has exactly one first item.
 pub fn items_are_unique()
     ensures { OneItem }
 {}
 
-/// A stream has one list of items and no other.
+/// A stream has exactly one list of items.
 pub fn item_lists_are_unique()
     ensures { OneListOfItems }
 {}

@@ -1,6 +1,7 @@
-//! The items of bytes that are all there.
+//! Counts the items of bytes that are a complete stream.
 ghost use Rattle.std.specs.Prelude.{◌≡◌, ◌≤◌, List, length};
 ghost use Rattle.land_wire.specs.Framing.Items.{Item, AreItems, IsFrontIn, IsFrontOf};
+ghost use Rattle.land_wire.specs.Framing.Stream.{field_room};
 
 use crate::framing::connection::ends;
 use crate::framing::frame_fault::FrameFault;
@@ -9,9 +10,9 @@ use crate::framing::head::{HEAD_LIMIT, Look, look_at};
 use crate::framing::item::Front;
 use httparse::spans::HeaderSpan;
 
-/// How many items the bytes have as a stream. So each stream has a list of items.
+/// Returns the number of items of a stream. This also proves that each stream has a list of items.
 pub fn item_count(bytes: &[u8], headers: &mut [HeaderSpan]) -> usize
-    requires { 2731 ≤ length headers.old }
+    requires { field_room ≤ length headers.old }
     ensures { (items : List Item) × AreItems bytes.now items × (length items ≡ result) }
 {
     let mut rest = bytes;
@@ -31,9 +32,9 @@ pub fn item_count(bytes: &[u8], headers: &mut [HeaderSpan]) -> usize
     }
 }
 
-/// What stands at the front of the bytes, after which nothing comes.
+/// Returns the first item of a complete stream.
 pub fn front_of(bytes: &[u8], headers: &mut [HeaderSpan]) -> Front
-    requires { 2731 ≤ length headers.old }
+    requires { field_room ≤ length headers.old }
     ensures room { length headers.new ≡ length headers.old }
     ensures front { IsFrontIn bytes.now headers.new result }
     ensures item { IsFrontOf bytes.now result }

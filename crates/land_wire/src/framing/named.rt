@@ -1,26 +1,26 @@
-//! The fields of a head that have a name, by their spans.
-ghost use Rattle.std.specs.Prelude.{◌≡◌, All, length, map};
-ghost use Rattle.httparse.specs.Spans.{IsHeaderWithin, header_bytes};
-ghost use Rattle.land_wire.specs.Fields.{values_named};
+//! Finds the fields of a head by name, with their spans.
+ghost use Rattle.std.specs.Prelude.{◌≡◌, map};
+ghost use Rattle.httparse.specs.Spans.{header_bytes};
+ghost use Rattle.land_wire.specs.Fields.{AreWithin, values_named};
 ghost use Rattle.land_wire.specs.Framing.Frame.{IsOccurrence};
 
 use crate::words::is_word_in_any_case;
 use httparse::spans::{HeaderSpan, Span};
 
-/// How often a field stands in a head.
+/// The number of fields with a name.
 #[derive(Clone, Copy, Debug, PartialEq, Eq)]
 pub enum Occurrence {
-    /// Not at all.
+    /// None.
     Absent,
-    /// Once, with its value there.
+    /// One, with the span of its value.
     Once(Span),
-    /// Twice or more.
+    /// Two or more.
     Repeated,
 }
 
-/// How often a field of the name, in any letter case, stands in a head.
+/// Finds the fields with a name, compared without case.
 pub fn look_up(head: &[u8], fields: &[HeaderSpan], name: &str) -> Occurrence
-    requires { All (IsHeaderWithin (length head.now)) fields.now }
+    requires { AreWithin head.now fields.now }
     ensures { IsOccurrence head.now (values_named name.now (map (header_bytes head.now) fields.now)) result }
 {
     let mut found = Occurrence::Absent;

@@ -1,14 +1,14 @@
-//! Whether bytes end inside a request target.
+//! Checks whether bytes end inside a request target.
 ghost use Rattle.std.specs.Prelude.{◌≡◌, ◌↔◌, IsTrue};
 ghost use Rattle.httparse.specs.Grammar.{EndsInTarget};
 ghost use Rattle.land_wire.specs.Framing.Target.{next_place, place_after};
 
 use httparse::{is_method_token, is_uri_token};
 
-/// Where a scan from the front of a head stands.
+/// The state of a scan from the front of a head.
 #[derive(Clone, Copy, Debug, PartialEq, Eq)]
 pub enum Place {
-    /// At the beginning of a line, with only empty lines before it.
+    /// At the start of a line, after empty lines only.
     Blank,
     /// After a carriage return on such a line.
     Return,
@@ -16,12 +16,12 @@ pub enum Place {
     Method,
     /// Inside the target.
     Target,
-    /// Neither before the target's end nor on the way to it.
+    /// After the target, or not in a request line.
     Elsewhere,
 }
 
-/// Whether the bytes end inside a request target: after empty lines, a method, a space and any bytes
-/// that a target may have (RFC 9112, section 3).
+/// Checks whether the bytes end inside a request target: after empty lines, a method, a space and any bytes
+/// of a target (RFC 9112, section 3).
 pub fn ends_in_target(bytes: &[u8]) -> bool
     ensures { IsTrue result ↔ EndsInTarget bytes.now }
 {

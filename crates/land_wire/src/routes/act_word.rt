@@ -3,42 +3,42 @@ ghost use Rattle.std.specs.Prelude.{◌≡◌, bytes_eq};
 ghost use Rattle.std.specs.List.{find};
 ghost use Rattle.land_wire.specs.Routes.ActWords.{act_of, act_word};
 
-/// Which act a path names.
+/// The act in a path.
 #[derive(Clone, Copy, Debug, PartialEq, Eq)]
 pub enum ActWord {
-    /// A party is enrolled.
+    /// Enrols a party.
     Enrol,
-    /// A group is made.
+    /// Creates a group.
     Group,
-    /// A group's members and their shares are changed.
+    /// Changes the members of a group and their shares.
     Regroup,
-    /// A role is granted.
+    /// Grants a role.
     Grant,
-    /// A role is revoked.
+    /// Revokes a role.
     Revoke,
-    /// A mandate is given.
+    /// Creates a mandate.
     Mandate,
-    /// A mandate is withdrawn.
+    /// Withdraws a mandate.
     Withdraw,
-    /// A unit is registered.
+    /// Registers a unit.
     Register,
-    /// A unit is burdened with a restriction or a responsibility.
+    /// Burdens a unit with a restriction or a responsibility.
     Burden,
-    /// A restriction or a responsibility is lifted.
+    /// Lifts a restriction or a responsibility.
     Lift,
-    /// A transfer is lodged.
+    /// Lodges a transfer.
     Transfer,
-    /// A subdivision is lodged.
+    /// Lodges a subdivision.
     Subdivision,
-    /// A merger is lodged.
+    /// Lodges a merger.
     Merger,
-    /// A mortgage is lodged.
+    /// Lodges a mortgage.
     Mortgage,
-    /// The discharge of a mortgage is lodged.
+    /// Lodges the discharge of a mortgage.
     Discharge,
-    /// A mutation is approved.
+    /// Approves a mutation.
     Approve,
-    /// A mutation is refused.
+    /// Refuses a mutation.
     Refuse,
 }
 
@@ -63,7 +63,7 @@ const ACTS: &[ActWord] = &[
 ];
 
 impl ActWord {
-    /// The word of an act, as it stands in a path.
+    /// Returns the word of an act in paths.
     pub fn word(self) -> &'static str
         ensures { result.now ≡ act_word self }
     {
@@ -88,7 +88,7 @@ impl ActWord {
         }
     }
 
-    /// The act of a word, or none where it is the word of no act. Letter case counts.
+    /// Returns the act of a word, or `None` for any other bytes. Words are case-sensitive.
     pub fn of(bytes: &[u8]) -> Option<ActWord>
         ensures { result ≡ act_of bytes.now }
     {

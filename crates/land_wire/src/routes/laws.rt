@@ -1,17 +1,17 @@
-//! Laws, each stated over the definitions alone.
+//! Laws, each stated with definitions only.
 ghost use Rattle.land_wire.specs.Routes.Laws.{ActWordLaw, NamesLaw, OneNameLaw};
 
-/// For each path that is found exactly which the path names by the rule on fixed words and parts.
+/// A path has exactly the resource that the rule of fixed words and segments gives.
 pub fn paths_name_resources()
     ensures { NamesLaw }
 {}
 
-/// A path names one thing at most.
+/// A path identifies at most one resource.
 pub fn paths_name_one_thing()
     ensures { OneNameLaw }
 {}
 
-/// An act is found for its word, and for no other bytes.
+/// Exactly the word of an act yields that act.
 pub fn words_name_acts()
     ensures { ActWordLaw }
 {}

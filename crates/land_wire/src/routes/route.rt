@@ -1,4 +1,4 @@
-//! Routes: what a path names, and by which method.
+//! Routes: the resource of a path, and its method.
 ghost use Rattle.std.specs.Prelude.{◌≡◌, ◌+◌, ◌≤◌, length, drop, option_map};
 ghost use Rattle.land_wire.specs.Routes.{allows, before_slash, list_path, method_of, resource, route_of};
 ghost use Rattle.land_wire.specs.Routes.Table.{FindsRoutes, named_by};
@@ -8,21 +8,21 @@ use crate::routes::table::Goal;
 use land_core::kind::Kind;
 use matchit::Router;
 
-/// What a path names.
+/// The resource of a path.
 #[derive(Clone, Copy, Debug)]
 pub enum Route<'a> {
     /// `/parties`, `/units` and so on: all objects of a kind.
     List(Kind),
-    /// `/parties/{number}` and so on: one object of a kind, by the part of the path that has its number.
+    /// `/parties/{number}` and so on: one object of a kind, with the segment that contains its number.
     View(Kind, &'a [u8]),
-    /// `/units/{number}/sheet`: a unit's title sheet, by the part of the path that has the unit's number.
+    /// `/units/{number}/sheet`: a unit's title sheet, with the segment that contains the unit's number.
     Sheet(&'a [u8]),
     /// `/acts/{word}`: an act, by its word.
     Act(ActWord),
 }
 
 impl<'a> Route<'a> {
-    /// The method of a route: GET for lists, objects and title sheets, POST for acts.
+    /// Returns the method of a route: GET for lists, objects and title sheets, POST for acts.
     pub fn method(&self) -> &'static str
         ensures { result.now ≡ method_of (resource self.now) }
     {
@@ -33,14 +33,14 @@ impl<'a> Route<'a> {
     }
 }
 
-/// Whether a method is the one of a route. Letter case counts.
+/// Checks whether a route has this method. Methods are case-sensitive.
 pub fn allows(route: &Route<'_>, method: &[u8]) -> bool
     ensures { result ≡ allows (resource route.now) method.now }
 {
     method == route.method().as_bytes()
 }
 
-/// The route of a path, asked of a router that `routes` made; none where the path names nothing.
+/// Returns the route of a path, or `None` if it has none. `router` comes from `routes`.
 pub fn find_route<'a>(router: &Router<Goal>, path: &'a str) -> Option<Route<'a>>
     requires { FindsRoutes router.now }
     ensures { option_map resource result ≡ route_of path.now }

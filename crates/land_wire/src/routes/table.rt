@@ -1,4 +1,4 @@
-//! The table of routes.
+//! The route table.
 ghost use Rattle.std.specs.Prelude.{◌≡◌, [], IfOk, OnOk, true};
 ghost use Rattle.std.specs.List.{fold};
 ghost use Rattle.land_wire.specs.Routes.Table.{FindsRoutes, are_free, is_free, with_entry, with_route};
@@ -7,7 +7,7 @@ use land_core::kind::Kind;
 use matchit::{InsertError, Router};
 use std::alloc::{AllocError, Global};
 
-/// What an entry of the table leads to.
+/// The endpoint of an entry in the route table.
 #[derive(Clone, Copy, Debug, PartialEq, Eq)]
 pub enum Goal {
     /// All objects of a kind.
@@ -20,8 +20,8 @@ pub enum Goal {
     Act,
 }
 
-/// A router that finds for each path what it names, and nothing where it names nothing. A connection makes it once, and
-/// hands it to `find_route`. No entry of the table is one that `matchit` refuses, so this fails for want of memory alone.
+/// Builds a router that finds the resource of each path. A connection builds it once, and passes it to
+/// `find_route`. The entries have no conflicts, so the only error is out of memory.
 pub fn routes(alloc: Global) -> Result<Router<Goal>, AllocError>
     ensures { IfOk result (λ router. FindsRoutes router) }
 {

@@ -1,8 +1,8 @@
-//! Targets.
+//! Splits request targets.
 ghost use Rattle.std.specs.Prelude.{◌≡◌};
 ghost use Rattle.land_wire.specs.Routes.Targets.{path_of, query_of};
 
-/// The path of a target, which stands before its first `?`, and the query, which stands after it.
+/// Returns the path of a target, before its first `?`, and the query after it.
 pub fn split_target(target: &str) -> (&str, &str)
     ensures path { result.0.now ≡ path_of target.now }
     ensures query { result.1.now ≡ query_of target.now }

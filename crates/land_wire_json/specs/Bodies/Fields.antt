@@ -1,29 +1,32 @@
--- Bodies as JSON (RFC 8259), and the fields of JSON objects: what stands under a key, or the first fault. JSON is as `serde_json`
--- states its reading: the last of two equal keys stays, and 127 levels are read.
-use Rattle.std.specs.Prelude.{ℕ, suc, ◌&&◌, Bool, true, List, [], ◌∷◌, nat_le, if◌then◌else◌, Option, None, Result, Ok, Err, bytes_eq, ⊤}
+-- Request bodies as JSON (RFC 8259), and the fields of JSON objects: the value of a key, or the first fault.
+-- JSON is read as `serde_json` specifies: of two equal keys the last one counts, and at most 127 levels are
+-- read.
+use Rattle.std.specs.Prelude.{ℕ, suc, ◌&&◌, Bool, true, List, [], ◌∷◌, nat_le, if◌then◌else◌, Option, None}
+use Rattle.std.specs.Prelude.{Result, Ok, Err, bytes_eq, ⊤}
 use Rattle.std.specs.List.{list_any}
 use Rattle.std.specs.Str.{is_utf8}
 use Rattle.land_core.specs.Numbers.{is_number}
 use Rattle.land_wire_json.specs.Bodies.WireFaults.{◌>>=◌, or_fault}
 use Rattle.land_wire_json.specs.declared.bodies.wire_fault.WireFault.{WireFault}
 use Rattle.land_wire_json.specs.declared.bodies.wire_fault.WireFault.TheVariants as fault
-use Rattle.serde_json.specs.Data.{Num, unsigned, negative, float, Data, Items, no_items, item, Members, no_members, member}
+use Rattle.serde_json.specs.Data.{Num, unsigned, negative, float, Data, Items, no_items, item, Members}
+use Rattle.serde_json.specs.Data.{no_members, member}
 use Rattle.serde_json.specs.Find.{get, as_bool, as_number, as_str, as_array, as_object}
 use Rattle.serde_json.specs.Read.{read}
 
--- the value that bytes are; bytes that are no UTF-8 are none
+-- the JSON value of the bytes; none if they are not valid UTF-8 or not JSON
 abbrev pub json_of : List ℕ → Option Data
 json_of bytes = if is_utf8 bytes then read bytes else None
 
--- what is no JSON is fault 130
+-- fault 130 if the bytes are not JSON
 abbrev pub value_in : List ℕ → Result Data WireFault
 value_in bytes = or_fault (json_of bytes) fault.Json
 
--- the same of a text, whose bytes are UTF-8
+-- likewise for a text, whose bytes are valid UTF-8
 abbrev pub text_value : (text : List ℕ) → Result Data WireFault
 text_value text = or_fault (read text) fault.Json
 
--- the name is one of these
+-- the key is one of these names
 abbrev pub is_among : List (List ℕ) → List ℕ → Bool
 is_among names key = list_any (λ name. bytes_eq name key) names
 
@@ -32,23 +35,25 @@ abbrev pub has_only : List (List ℕ) → Members → Bool
 has_only names no_members = true
 has_only names (member key value others) = is_among names key && has_only names others
 
--- an object without other keys, else fault 131
+-- fault 131 if the value is not an object, or has a key that is not one of these names
 unfoldable pub object_with : List (List ℕ) → Data → Result ⊤ WireFault
-object_with names value = or_fault (as_object value) fault.Field >>= λ members. if has_only names members then Ok tt else Err fault.Field
+object_with names value =
+    or_fault (as_object value) fault.Field
+    >>= λ members. if has_only names members then Ok tt else Err fault.Field
 
--- what stands under a key; where nothing does it is fault 131
+-- the value of a key; fault 131 if the key is missing
 unfoldable pub field_at : (key : List ℕ) → Data → Result Data WireFault
 field_at key value = or_fault (get key value) fault.Field
 
--- a text; missing or of another kind it is fault 131
+-- the text of a key; fault 131 if it is missing or not a string
 unfoldable pub text_at : (key : List ℕ) → Data → Result (List ℕ) WireFault
 text_at key value = field_at key value >>= λ found. or_fault (as_str found) fault.Field
 
--- true or false
+-- the boolean of a key; fault 131 if it is missing or not a boolean
 unfoldable pub truth_at : (key : List ℕ) → Data → Result Bool WireFault
 truth_at key value = field_at key value >>= λ found. or_fault (as_bool found) fault.Field
 
--- a text within the limits that its field has, else fault 133
+-- the text, if it is within the limits of its field; otherwise fault 133
 abbrev pub limited : (List ℕ → Bool) → List ℕ → Result (List ℕ) WireFault
 limited is_allowed text = if is_allowed text then Ok text else Err fault.Text
 
@@ -57,13 +62,14 @@ limited_at is_allowed key value = text_at key value >>= limited is_allowed
 
 -- ---- numbers
 
--- plain digits of a value in range; with a sign, a point or an exponent, or out of range, it is fault 132
+-- a number in plain digits and in range; fault 132 if it has a sign, a point or an exponent, or is out of
+-- range
 abbrev pub ranged : (ℕ → Bool) → Num → Result ℕ WireFault
 ranged is_allowed (unsigned n) = if is_allowed n then Ok n else Err fault.Number
 ranged is_allowed (negative z) = Err fault.Number
 ranged is_allowed (float x) = Err fault.Number
 
--- a number in range; what is no number is fault 131
+-- a number in range; fault 131 if the value is not a number
 abbrev pub ranged_in : (ℕ → Bool) → Data → Result ℕ WireFault
 ranged_in is_allowed value = or_fault (as_number value) fault.Field >>= ranged is_allowed
 
@@ -80,13 +86,15 @@ abbrev pub item_count : Items → ℕ
 item_count no_items = 0
 item_count (item value items) = suc (item_count items)
 
--- an array of `least` to `most` items, whatever they are; else fault 131
+-- an array of `least` to `most` items of any kind; otherwise fault 131
 unfoldable pub items_at : (least most : ℕ) → (key : List ℕ) → Data → Result Items WireFault
 items_at least most key value =
     field_at key value >>= λ found. or_fault (as_array found) fault.Field
-    >>= λ items. if nat_le least (item_count items) && nat_le (item_count items) most then Ok items else Err fault.Field
+    >>= λ items.
+    if nat_le least (item_count items) && nat_le (item_count items) most then Ok items
+    else Err fault.Field
 
--- each item read in its order: the first fault, or all that was read
+-- reads each item in order: the first fault, or the list of values
 abbrev pub each_of : {A : Type 0} → (Data → Result A WireFault) → Items → Result (List A) WireFault
 each_of read no_items = Ok []
 each_of read (item value items) = read value >>= λ first. each_of read items >>= λ rest. Ok (first ∷ rest)

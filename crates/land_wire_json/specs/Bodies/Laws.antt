@@ -1,4 +1,4 @@
--- Laws of what is read, each over the definitions alone.
+-- Laws of reading, each stated with definitions only.
 use Rattle.std.specs.Prelude.{◌≡◌, ℕ, List, true, Ok, IfOk}
 use Rattle.land_core.specs.Acts.{is_well_formed}
 use Rattle.land_core.specs.Contents.{is_well_formed_content}
@@ -8,18 +8,19 @@ use Rattle.land_core.specs.declared.content.Content.{Content}
 use Rattle.land_shape.specs.Faults.{IsOutlineAnswer}
 use Rattle.land_wire_json.specs.Bodies.Mutations.{content_in, decision_of, lodging_of}
 use Rattle.land_wire_json.specs.Bodies.Outlines.{answer_of}
-use Rattle.land_wire_json.specs.Bodies.Parties.{enrol_of, group_of, regroup_of, grant_of, mandate_of, withdrawal_of}
+use Rattle.land_wire_json.specs.Bodies.Parties.{enrol_of, group_of, regroup_of, grant_of, mandate_of}
+use Rattle.land_wire_json.specs.Bodies.Parties.{withdrawal_of}
 use Rattle.land_wire_json.specs.Bodies.Stored.{IsStorable}
 use Rattle.land_wire_json.specs.Bodies.Units.{unit_of, burden_of, lift_of}
 use Rattle.land_wire_json.specs.Texts.Mutations.{content_text}
 use Rattle.land_wire_json.specs.declared.bodies.content_kind.ContentKind.{ContentKind}
 use Rattle.serde_json.specs.Data.{Data}
 
--- the answer to the text of an outline is a ring that it stands for, or its first fault
+-- the answer for an outline's text is a ring that the text denotes, or the text's first fault
 abbrev pub OutlinesHaveTheirAnswers : Type 0
 OutlinesHaveTheirAnswers = (text : List ℕ) → IsOutlineAnswer text (answer_of text)
 
--- what is read of a body keeps the limits of its act
+-- the value read from a body is within the limits of its act
 pub record BodiesAreWellFormed : Type 0 where
   pub enrol : (value : Data) → IfOk (enrol_of value) (λ it. is_well_formed (act.Enrol it) ≡ true)
   pub group : (value : Data) → IfOk (group_of value) (λ it. is_well_formed (act.Group it) ≡ true)
@@ -31,14 +32,16 @@ pub record BodiesAreWellFormed : Type 0 where
   pub register : (value : Data) → IfOk (unit_of value) (λ it. is_well_formed (act.Register it) ≡ true)
   pub burden : (value : Data) → IfOk (burden_of value) (λ it. is_well_formed (act.Burden it) ≡ true)
   pub lift : (value : Data) → IfOk (lift_of value) (λ it. is_well_formed (act.Lift it) ≡ true)
-  pub lodge : (which : ContentKind) (value : Data) → IfOk (lodging_of which value) (λ it. is_well_formed (act.Lodge it) ≡ true)
+  pub lodge : (which : ContentKind) (value : Data)
+      → IfOk (lodging_of which value) (λ it. is_well_formed (act.Lodge it) ≡ true)
   pub approve : (value : Data) → IfOk (decision_of value) (λ it. is_well_formed (act.Approve it) ≡ true)
   pub refuse : (value : Data) → IfOk (decision_of value) (λ it. is_well_formed (act.Refuse it) ≡ true)
 
--- and of a content too
+-- a content that was read is within its limits
 abbrev pub ContentsAreWellFormed : Type 0
-ContentsAreWellFormed = (word text : List ℕ) → IfOk (content_in word text) (λ it. is_well_formed_content it ≡ true)
+ContentsAreWellFormed =
+    (word text : List ℕ) → IfOk (content_in word text) (λ it. is_well_formed_content it ≡ true)
 
--- the text of a content is read as that content
+-- reading the text of a content returns that content
 abbrev pub ContentsAreRead : Type 0
 ContentsAreRead = (it : Content) → IsStorable it → content_in (act_word it) (content_text it) ≡ Ok it

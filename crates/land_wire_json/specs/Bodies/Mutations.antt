@@ -1,5 +1,6 @@
--- The bodies of lodgings and decisions, and the contents of mutations, their fields in the order in which they are read.
-use Rattle.std.specs.Prelude.{ℕ, List, [], ◌∷◌, codes, bytes_eq, Option, Some, None, Result, Ok, Err, if◌then◌else◌}
+-- The bodies of lodgings and decisions, and the contents of mutations. Fields are read in the order given.
+use Rattle.std.specs.Prelude.{ℕ, List, [], ◌∷◌, codes, bytes_eq, Option, Some, None, Result, Ok, Err}
+use Rattle.std.specs.Prelude.{if◌then◌else◌}
 use Rattle.land_core.specs.Contents.{is_amount, is_currency}
 use Rattle.land_core.specs.Mergers.{rise_above, lists_number}
 use Rattle.land_core.specs.Texts.{is_name, is_title, is_label, is_reference}
@@ -13,7 +14,8 @@ use Rattle.land_core.specs.declared.content.Transfer.{Transfer}
 use Rattle.land_core.specs.declared.merger.Merger.{Merger}
 use Rattle.land_core.specs.declared.subdivision.Part.{Part}
 use Rattle.land_core.specs.declared.subdivision.Subdivision.{Subdivision}
-use Rattle.land_wire_json.specs.Bodies.Fields.{text_value, object_with, field_at, limited, limited_at, number_in, number_at, ranged_in, items_at, each_of}
+use Rattle.land_wire_json.specs.Bodies.Fields.{text_value, object_with, field_at, limited, limited_at}
+use Rattle.land_wire_json.specs.Bodies.Fields.{number_in, number_at, ranged_in, items_at, each_of}
 use Rattle.land_wire_json.specs.Bodies.Outlines.{outline_in}
 use Rattle.land_wire_json.specs.Bodies.Shares.{share_at}
 use Rattle.land_wire_json.specs.Bodies.Units.{parcel_of}
@@ -43,12 +45,12 @@ transfer_of value = do
 abbrev pub subdivision_fields : List (List ℕ)
 subdivision_fields = codes "unit" ∷ codes "parcel" ∷ codes "first" ∷ codes "rest" ∷ []
 
--- the name of a new unit need not stand
+-- the name of a new unit is optional
 abbrev pub new_name_of : Option Data → Result (Option (List ℕ)) WireFault
 new_name_of None = Ok None
 new_name_of (Some value) = or_fault (as_str value) fault.Field >>= limited is_name >>= λ name. Ok (Some name)
 
--- a part: `label`, `outline`, and `unit` where it goes to a new one
+-- a part: `label`, `outline`, and `unit` if it goes to a new unit
 unfoldable pub part_of : Data → Result Part WireFault
 part_of value = do
   whole ← object_with (codes "label" ∷ codes "outline" ∷ codes "unit" ∷ []) value
@@ -75,12 +77,13 @@ subdivision_of value = do
 abbrev pub merger_fields : List (List ℕ)
 merger_fields = codes "unit" ∷ codes "others" ∷ codes "parcels" ∷ codes "label" ∷ codes "outline" ∷ []
 
--- `least` to `most` numbers, each above the one before it; another order is fault 131, once each of them is read
+-- `least` to `most` increasing numbers; fault 131 in another order, after each number was read
 unfoldable pub rising_at : (least most : ℕ) → (key : List ℕ) → Data → Result (List ℕ) WireFault
 rising_at least most key value =
-    items_at least most key value >>= each_of number_in >>= λ numbers. if rise_above 0 numbers then Ok numbers else Err fault.Field
+    items_at least most key value >>= each_of number_in
+    >>= λ numbers. if rise_above 0 numbers then Ok numbers else Err fault.Field
 
--- the unit itself is not among the others, else fault 131
+-- fault 131 if the unit itself is among the others
 abbrev pub without : (unit : ℕ) → List ℕ → Result (List ℕ) WireFault
 without unit others = if lists_number others unit then Err fault.Field else Ok others
 
@@ -119,7 +122,7 @@ discharge_of value = do
 
 -- ---- contents
 
--- the fields that a content has
+-- the names of a content's fields
 abbrev pub fields_of : ContentKind → List (List ℕ)
 fields_of kind.Transfer = transfer_fields
 fields_of kind.Subdivision = subdivision_fields
@@ -127,7 +130,7 @@ fields_of kind.Merger = merger_fields
 fields_of kind.Mortgage = mortgage_fields
 fields_of kind.Discharge = discharge_fields
 
--- these fields read in their order
+-- reads these fields in order
 abbrev pub content_by : ContentKind → Data → Result Content WireFault
 content_by kind.Transfer value = transfer_of value >>= λ it. Ok (content.Transfer it)
 content_by kind.Subdivision value = subdivision_of value >>= λ it. Ok (content.Subdivision it)
@@ -135,11 +138,11 @@ content_by kind.Merger value = merger_of value >>= λ it. Ok (content.Merger it)
 content_by kind.Mortgage value = mortgage_of value >>= λ it. Ok (content.Mortgage it)
 content_by kind.Discharge value = discharge_of value >>= λ it. Ok (content.Discharge it)
 
--- a content that stands alone has its own fields and no other
+-- a content by itself has its own fields and no other key
 unfoldable pub content_of : ContentKind → Data → Result Content WireFault
 content_of which value = object_with (fields_of which) value >>= λ whole. content_by which value
 
--- the word of the act that lodges it; any other word is fault 133
+-- the kind of a content by the word of its act; fault 133 for any other word
 abbrev pub content_kind_of : List ℕ → Result ContentKind WireFault
 content_kind_of word =
     if bytes_eq word (codes "transfer") then Ok kind.Transfer
@@ -148,7 +151,7 @@ content_kind_of word =
     else (if bytes_eq word (codes "mortgage") then Ok kind.Mortgage
     else (if bytes_eq word (codes "discharge") then Ok kind.Discharge else Err fault.Text))))
 
--- a content by the word of its act and its text: the word, then JSON, then its fields
+-- a content by the word of its act and its text: first the word, then the JSON, then its fields
 unfoldable pub content_in : (word text : List ℕ) → Result Content WireFault
 content_in word text = do
   which ← content_kind_of word
@@ -166,7 +169,7 @@ lodging_of which value = do
   content ← content_by which value
   Ok (record { reference = reference; document = document; content = content })
 
--- a mutation that is approved or refused: `mutation`
+-- a decision, which approves or refuses a mutation: `mutation`
 unfoldable pub decision_of : Data → Result Decision WireFault
 decision_of value = do
   whole ← object_with (codes "mutation" ∷ []) value

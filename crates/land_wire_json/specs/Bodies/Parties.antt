@@ -1,4 +1,4 @@
--- The bodies of acts on parties, their fields in the order in which they are read.
+-- The bodies of acts on parties. Fields are read in the order given.
 use Rattle.std.specs.Prelude.{List, [], ◌∷◌, codes, Result, Ok}
 use Rattle.land_core.specs.Texts.{is_name}
 use Rattle.land_core.specs.declared.act.Enrol.{Enrol}
@@ -31,7 +31,7 @@ member_of value = do
   share ← share_at (codes "share") value
   Ok (record { party = party; share = share })
 
--- `members`: 2 to 64 of them
+-- `members`: 2 to 64 members
 unfoldable pub members_of : Data → Result (List Member) WireFault
 members_of value = items_at 2 64 (codes "members") value >>= each_of member_of
 
@@ -43,7 +43,7 @@ group_of value = do
   members ← members_of value
   Ok (record { name = name; members = members })
 
--- other members of a group: `group`, `members`
+-- new members of a group: `group`, `members`
 unfoldable pub regroup_of : Data → Result Regroup WireFault
 regroup_of value = do
   whole ← object_with (codes "group" ∷ codes "members" ∷ []) value
@@ -51,7 +51,7 @@ regroup_of value = do
   members ← members_of value
   Ok (record { group = group; members = members })
 
--- a role given or ended: `party`, `role`
+-- a role to grant or to revoke: `party`, `role`
 unfoldable pub grant_of : Data → Result Grant WireFault
 grant_of value = do
   whole ← object_with (codes "party" ∷ codes "role" ∷ []) value
@@ -59,14 +59,14 @@ grant_of value = do
   role ← role_in value
   Ok (record { party = party; role = role })
 
--- a mandate that the caller gives: `agent`
+-- a mandate of the caller: `agent`
 unfoldable pub mandate_of : Data → Result NewMandate WireFault
 mandate_of value = do
   whole ← object_with (codes "agent" ∷ []) value
   agent ← number_at (codes "agent") value
   Ok (record { agent = agent })
 
--- a mandate that is withdrawn: `principal`, `agent`
+-- a mandate to withdraw: `principal`, `agent`
 unfoldable pub withdrawal_of : Data → Result Mandate WireFault
 withdrawal_of value = do
   whole ← object_with (codes "principal" ∷ codes "agent" ∷ []) value

@@ -14,21 +14,22 @@ use Rattle.serde_json.specs.Data.{Data}
 abbrev pub is_slash : ℕ → Bool
 is_slash byte = byte == 47
 
--- the fraction of two numbers, or faults 101 to 103
+-- the fraction of two numbers, or one of faults 101 to 103
 abbrev pub share_answer : Result Ratio FractionFault → Result Ratio WireFault
 share_answer (Ok share) = Ok share
 share_answer (Err f) = Err (fault.Share f)
 
--- any other text is fault 132
+-- fault 132 if either number is missing
 abbrev pub share_from : (numerator denominator : Option ℕ) → Result Ratio WireFault
 share_from None d = Err fault.Number
 share_from (Some n) None = Err fault.Number
 share_from (Some n) (Some d) = share_answer (fraction_of (over n d))
 
--- what stands before the first `/`, and what behind it
+-- the numbers before and after the first `/`
 unfoldable pub share_of : List ℕ → Result Ratio WireFault
-share_of text = share_from (digits_in 18 (before_first is_slash text)) (digits_in 18 (after_first is_slash text))
+share_of text =
+    share_from (digits_in 18 (before_first is_slash text)) (digits_in 18 (after_first is_slash text))
 
--- the share under a key
+-- the share of a key
 unfoldable pub share_at : (key : List ℕ) → Data → Result Ratio WireFault
 share_at key value = text_at key value >>= share_of

@@ -1,4 +1,4 @@
--- Which contents are kept as texts: those that acts may ask for.
+-- Contents that are stored as texts: those that acts may request.
 use Rattle.std.specs.Prelude.{◌≡◌, true, ⊤}
 use Rattle.std.specs.List.{AllByRecursion}
 use Rattle.land_core.specs.Contents.{is_well_formed_content}
@@ -20,7 +20,8 @@ IsExactContent (content.Merger it) = IsOutline it.outline
 IsExactContent (content.Mortgage it) = ⊤
 IsExactContent (content.Discharge it) = ⊤
 
--- a content that may be kept: its numbers and texts are within their limits, its share is a fraction, its outlines are outlines
+-- a content that may be stored: its numbers and texts are within limits, its share is a fraction, and its
+-- outlines are outlines
 pub record IsStorable (it : Content) : Type 0 where
   pub within_limits : is_well_formed_content it ≡ true
   pub is_exact : IsExactContent it

@@ -1,4 +1,4 @@
--- The bodies of acts on units and their entries, their fields in the order in which they are read.
+-- The bodies of acts on units and their entries. Fields are read in the order given.
 use Rattle.std.specs.Prelude.{ℕ, List, [], ◌∷◌, codes, Result, Ok, Err, if◌then◌else◌}
 use Rattle.land_core.specs.Acts.{have_owner}
 use Rattle.land_core.specs.Texts.{is_name, is_title, is_label, are_words}
@@ -7,7 +7,8 @@ use Rattle.land_core.specs.declared.act.Lift.{Lift}
 use Rattle.land_core.specs.declared.act.NewParcel.{NewParcel}
 use Rattle.land_core.specs.declared.act.NewRight.{NewRight}
 use Rattle.land_core.specs.declared.act.NewUnit.{NewUnit}
-use Rattle.land_wire_json.specs.Bodies.Fields.{object_with, truth_at, limited_at, number_at, items_at, each_of}
+use Rattle.land_wire_json.specs.Bodies.Fields.{object_with, truth_at, limited_at, number_at, items_at}
+use Rattle.land_wire_json.specs.Bodies.Fields.{each_of}
 use Rattle.land_wire_json.specs.Bodies.Outlines.{outline_in}
 use Rattle.land_wire_json.specs.Bodies.Shares.{share_at}
 use Rattle.land_wire_json.specs.Bodies.WireFaults.{◌>>=◌}
@@ -33,15 +34,15 @@ right_of value = do
   share ← share_at (codes "share") value
   Ok (record { party = party; right_type = type; share = share })
 
--- rights without an ownership are fault 131, once each of them is read
+-- fault 131 if none of the rights is an ownership, after each right was read
 abbrev pub owned : List NewRight → Result (List NewRight) WireFault
 owned rights = if have_owner rights then Ok rights else Err fault.Field
 
--- `rights`: 1 to 64 of them, an ownership among them
+-- `rights`: 1 to 64 rights, one of them an ownership
 unfoldable pub rights_of : Data → Result (List NewRight) WireFault
 rights_of value = items_at 1 64 (codes "rights") value >>= each_of right_of >>= owned
 
--- `parcels`: 1 to 64 of them
+-- `parcels`: 1 to 64 parcels
 unfoldable pub parcels_of : Data → Result (List NewParcel) WireFault
 parcels_of value = items_at 1 64 (codes "parcels") value >>= each_of parcel_of
 
@@ -77,7 +78,7 @@ burden_by value = do
 unfoldable pub burden_of : Data → Result Burden WireFault
 burden_of value = object_with burden_fields value >>= λ whole. burden_by value
 
--- a burden that is lifted: `rrr`
+-- a burden to lift: `rrr`
 unfoldable pub lift_of : Data → Result Lift WireFault
 lift_of value = do
   whole ← object_with (codes "rrr" ∷ []) value

@@ -1,11 +1,13 @@
--- The faults of what cannot be read, and readings: a value or the first fault.
+-- Faults of requests and bodies, and readings: a value or the first fault.
 use Rattle.std.specs.Prelude.{◌≡◌, ◌≢◌, ℕ, Option, Some, None, Result, Ok, Err}
 use Rattle.land_fraction.specs.Number.{number_of as fraction_number}
 use Rattle.land_shape.specs.FaultTexts.{number_of as shape_number}
 use Rattle.land_wire_json.specs.declared.bodies.wire_fault.WireFault.{WireFault}
-use Rattle.land_wire_json.specs.declared.bodies.wire_fault.WireFault.TheVariants.{Json, Field, Number, Text, Role, NoRoute, Method, Share, Outline, NoMemory}
+use Rattle.land_wire_json.specs.declared.bodies.wire_fault.WireFault.TheVariants.{Json, Field, Number, Text}
+use Rattle.land_wire_json.specs.declared.bodies.wire_fault.WireFault.TheVariants.{Role, NoRoute, Method}
+use Rattle.land_wire_json.specs.declared.bodies.wire_fault.WireFault.TheVariants.{Share, Outline, NoMemory}
 
--- the numbers of the faults; those of shares and outlines are their own
+-- the number of a fault; shares and outlines have their own numbers
 abbrev pub fault_number : WireFault → ℕ
 fault_number Json = 130
 fault_number Field = 131
@@ -18,23 +20,23 @@ fault_number (Share fault) = fraction_number fault
 fault_number (Outline fault) = shape_number fault
 fault_number NoMemory = 501
 
--- a value or the first fault, and then what follows from the value
+-- continues with the value, or stops at the first fault
 infixl 10 ◌>>=◌
 abbrev pub ◌>>=◌ : {A B : Type 0} → Result A WireFault → (A → Result B WireFault) → Result B WireFault
 (Ok value) >>= next = next value
 (Err fault) >>= next = Err fault
 
--- what is there, or else a fault
+-- the value, or this fault if there is none
 abbrev pub or_fault : {A : Type 0} → Option A → WireFault → Result A WireFault
 or_fault None fault = Err fault
 or_fault (Some value) fault = Ok value
 
--- an answer whose value is seen by `view`
+-- the result with `view` applied to its value
 abbrev pub seen_by : {A B : Type 0} → (A → B) → Result A WireFault → Result B WireFault
 seen_by view (Ok value) = Ok (view value)
 seen_by view (Err fault) = Err fault
 
--- the answer, its value seen by `view`, is the wanted one, unless memory was wanting
+-- the result, with `view` applied to its value, is the wanted one, if it is not out of memory
 abbrev pub Gives : {A B : Type 0} → (A → B) → Result A WireFault → Result B WireFault → Type 0
 Gives view (Ok value) wanted = wanted ≡ Ok (view value)
 Gives view (Err fault) wanted = fault ≢ NoMemory → wanted ≡ Err fault

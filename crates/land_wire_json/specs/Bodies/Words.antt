@@ -1,4 +1,4 @@
--- Words that stand for kinds, roles, types and classes, and the fields that hold them. Letter case counts.
+-- Words of kinds, roles, types and classes, and the fields that contain them. Words are case-sensitive.
 use Rattle.std.specs.Prelude.{ℕ, List, codes, bytes_eq, Result, Ok, Err, if◌then◌else◌}
 use Rattle.land_core.specs.declared.act.BurdenClass.{BurdenClass}
 use Rattle.land_core.specs.declared.act.BurdenClass.TheVariants as burden
@@ -14,7 +14,7 @@ use Rattle.land_wire_json.specs.declared.bodies.wire_fault.WireFault.{WireFault}
 use Rattle.land_wire_json.specs.declared.bodies.wire_fault.WireFault.TheVariants as fault
 use Rattle.serde_json.specs.Data.{Data}
 
--- the kinds of single parties; any other word is fault 133
+-- the kind of a single party; fault 133 for any other word
 abbrev pub kind_of : List ℕ → Result PartyKind WireFault
 kind_of word =
     if bytes_eq word (codes "naturalPerson") then Ok kind.NaturalPerson
@@ -23,7 +23,7 @@ kind_of word =
 unfoldable pub kind_in : Data → Result PartyKind WireFault
 kind_in value = text_at (codes "kind") value >>= kind_of
 
--- the roles; any other word is fault 134
+-- the role; fault 134 for any other word
 abbrev pub role_of : List ℕ → Result Role WireFault
 role_of word =
     if bytes_eq word (codes "citizen") then Ok role.Citizen
@@ -37,7 +37,7 @@ role_of word =
 unfoldable pub role_in : Data → Result Role WireFault
 role_in value = text_at (codes "role") value >>= role_of
 
--- the types of rights; any other word is fault 133
+-- the type of a right; fault 133 for any other word
 abbrev pub type_of : List ℕ → Result RightType WireFault
 type_of word =
     if bytes_eq word (codes "ownership") then Ok right.Ownership
@@ -47,7 +47,7 @@ type_of word =
 unfoldable pub type_in : Data → Result RightType WireFault
 type_in value = text_at (codes "type") value >>= type_of
 
--- the classes of burdens; any other word is fault 133
+-- the class of a burden; fault 133 for any other word
 abbrev pub class_of : List ℕ → Result BurdenClass WireFault
 class_of word =
     if bytes_eq word (codes "restriction") then Ok burden.Restriction

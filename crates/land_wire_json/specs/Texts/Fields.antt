@@ -1,4 +1,4 @@
--- Objects of JSON as lists of fields, and what a writer holds once they are written.
+-- JSON objects as lists of fields, and the tokens that a writer holds after writing them.
 use Rattle.std.specs.Prelude.{◌≡◌, ℕ, List, [], ◌∷◌, ◌++◌, codes, Option, Some, None, Result, OnOk}
 use Rattle.json.specs.Token.{Token}
 use Rattle.json.specs.Token as token
@@ -16,7 +16,7 @@ use Rattle.serde_json.specs.Data.{Data, number, boolean, string}
 use Rattle.serde_json.specs.Find.{of_integer}
 use Rattle.serde_json.specs.Written.{outline}
 
--- what a field shows, in JSON
+-- the JSON value of a field
 abbrev pub shown_data : Shown → Data
 shown_data (shown.Number n) = number_data n
 shown_data (shown.Moment stamp) = number (of_integer stamp)
@@ -30,36 +30,39 @@ shown_data (shown.Roles roles) = roles_data roles.now
 shown_data (shown.First part) = first_data part.now
 shown_data (shown.Parts parts) = parts_data parts.now
 
--- a name, and a value behind it
+-- a name, and a value after it
 abbrev pub member_tokens : List ℕ → Data → List Token
 member_tokens name value = token.key name ∷ json_tokens (outline value)
 
--- fields one after the other, without the brackets of an object
+-- the fields in order, without the braces of an object
 abbrev pub fields_tokens : List Field → List Token
 fields_tokens [] = []
 fields_tokens (field ∷ fields) = member_tokens field.0.now (shown_data field.1) ++ fields_tokens fields
 
--- fields in front of what stands behind them
+-- the tokens of the fields, before the rest
 abbrev pub fields_before : List Field → List Token → List Token
 fields_before [] rest = rest
-fields_before (field ∷ fields) rest = member_tokens field.0.now (shown_data field.1) ++ fields_before fields rest
+fields_before (field ∷ fields) rest =
+    member_tokens field.0.now (shown_data field.1) ++ fields_before fields rest
 
--- an object of these fields
+-- an object with these fields
 abbrev pub object_tokens : List Field → List Token
 object_tokens fields = token.begin_object ∷ fields_before fields (token.end_object ∷ [])
 
--- tokens are written behind those that stood there; where there is no memory, some of them may be
-pub record Adds {E : Type 0} (r : Result (Unit {0}) E) (old new : Written) (tokens : List Token) : Type 0 where
+-- tokens are written after the existing ones; if memory ran out, some of them may be missing
+pub record Adds {E : Type 0} (r : Result (Unit {0}) E) (old new : Written) (tokens : List Token)
+    : Type 0 where
   pub added : OnOk r (new.tokens ≡ old.tokens ++ tokens)
   pub before : new.before ≡ old.before
 
--- a value of JSON is written
+-- a JSON value is written
 abbrev pub AddsValue : {E : Type 0} → Result (Unit {0}) E → Written → Written → Data → Type 0
 AddsValue r old new value = Adds r old new (json_tokens (outline value))
 
--- a label, and an outline as it is printed, under their names
+-- a label and an outline in canonical form, under their names
 abbrev pub plan_tokens : List ℕ → List Place → List Token
-plan_tokens label ring = member_tokens (codes "label") (string label) ++ member_tokens (codes "outline") (string (printed ring))
+plan_tokens label ring =
+    member_tokens (codes "label") (string label) ++ member_tokens (codes "outline") (string (printed ring))
 
 -- the name of a new unit under its name, if there is one
 abbrev pub unit_tokens : Option (List ℕ) → List Token

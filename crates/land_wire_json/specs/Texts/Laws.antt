@@ -1,4 +1,4 @@
--- Laws of the texts, each over the definitions alone.
+-- Laws of the texts, each stated with definitions only.
 use Rattle.std.specs.Prelude.{◌≡◌, ◌≤◌, ℕ, pos, List, true, Some}
 use Rattle.land_core.specs.Words.{party_word}
 use Rattle.land_core.specs.declared.content.Content.{Content}
@@ -31,56 +31,72 @@ use Rattle.serde_json.specs.Data.{Data, string, depth}
 use Rattle.serde_json.specs.Read.{read, max_depth}
 use Rattle.serde_json.specs.Written.{compact_text}
 
--- a name is written as JSON writes a string
+-- the text of a party; its name is a JSON string
 abbrev pub PartyTexts : Type 0
 PartyTexts =
     (n : ℕ) (kind : PartyKind) (name : List ℕ) (members : List Member) (roles : List Role)
-    → object_text (shown.Party (record { number = n; kind = kind; name = name; members = members; roles = roles }))
+    → object_text (shown.Party (record {
+      number = n;
+      kind = kind;
+      name = name;
+      members = members;
+      roles = roles;
+    }))
     ≡ party_text (party_word kind) members (compact_text (string name)) n roles
 
--- a share is written as it is printed, between quotation marks
+-- the text of a share is its canonical form in quotation marks
 abbrev pub ShareTexts : Type 0
 ShareTexts = (share : Ratio) → IsFraction share → share_text share ≡ quoted_word (text_of share)
 
--- an outline is written as it is printed, between quotation marks
+-- the text of an outline is its canonical form in quotation marks
 abbrev pub OutlineTexts : Type 0
 OutlineTexts = (ring : List Place) → IsOutline ring → outline_text ring ≡ quoted_word (printed ring)
 
--- a name is written as JSON writes a string
+-- the text of a unit; its name is a JSON string
 abbrev pub UnitTexts : Type 0
 UnitTexts = (unit : Unit) → object_text (shown.Unit unit) ≡ unit_text unit
 
--- with twice the area, and the outline as JSON writes it
+-- the text of a parcel, with twice its area, and its outline as a JSON string
 abbrev pub ParcelTexts : Type 0
 ParcelTexts = (parcel : Parcel) → object_text (shown.Parcel parcel) ≡ parcel_text parcel
 
--- the entries of each class
+-- the texts of the entries of each class
 abbrev pub RrrTexts : Type 0
 RrrTexts = (entry : Rrr) → object_text (shown.Rrr entry) ≡ rrr_text entry
 
--- a title is written as JSON writes a string
+-- the text of a source; its title is a JSON string
 abbrev pub SourceTexts : Type 0
 SourceTexts = (source : Source) → object_text (shown.Source source) ≡ source_text source
 
--- the contents of each kind
+-- the texts of the contents of each kind
 abbrev pub ContentTexts : Type 0
 ContentTexts = (it : Content) → content_text it ≡ spelled_content it
 
--- the moment of lodging is not negative
+-- the text of a mutation whose time of lodging is not negative
 abbrev pub MutationTexts : Type 0
 MutationTexts =
     (n source lodger lodged : ℕ) (reference : List ℕ) (it : Content) (state : MutationState)
-    → object_text (shown.Mutation (record { number = n; content = it; reference = reference; source = source; lodger = lodger; lodged = pos lodged; state = state }))
+    → object_text (shown.Mutation (record {
+      number = n;
+      content = it;
+      reference = reference;
+      source = source;
+      lodger = lodger;
+      lodged = pos lodged;
+      state = state;
+    }))
     ≡ mutation_text it lodged lodger n (string_text reference) source state
 
--- the text of exact JSON that is not too deep is read as that JSON
+-- reading the compact text of exact JSON that is not too deep returns that JSON
 abbrev pub CompactLaw : Type 0
-CompactLaw = (value : Data) → is_exact value ≡ true → depth value ≤ max_depth → read (compact_text value) ≡ Some value
+CompactLaw =
+    (value : Data) → is_exact value ≡ true → depth value ≤ max_depth → read (compact_text value) ≡ Some value
 
--- objects within their limits that have one text are one object
+-- a text determines its object, if the object is within its limits
 abbrev pub ObjectsAreTold : Type 0
 ObjectsAreTold = (a b : Object) → IsObjectWithin a → IsObjectWithin b → object_text a ≡ object_text b → a ≡ b
 
--- contents likewise, with no word of their acts
+-- a text determines its content, if the content is within its limits; the word of the act is not part of it
 abbrev pub ContentsAreTold : Type 0
-ContentsAreTold = (a b : Content) → IsContentWithin a → IsContentWithin b → content_text a ≡ content_text b → a ≡ b
+ContentsAreTold =
+    (a b : Content) → IsContentWithin a → IsContentWithin b → content_text a ≡ content_text b → a ≡ b

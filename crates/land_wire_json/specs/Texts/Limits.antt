@@ -1,5 +1,5 @@
--- The limits within which a text tells its object: numbers that JSON tells exactly, shares that are fractions, outlines that
--- are outlines, moments that are not negative.
+-- The limits within which a text determines its object: numbers that JSON represents exactly, shares that are
+-- fractions, outlines that are outlines, moments that are not negative.
 use Rattle.std.specs.Prelude.{ℕ, ℤ, pos, negsuc, ◌<◌, ◌^◌, ⊤}
 use Rattle.std.specs.List.{AllByRecursion}
 use Rattle.land_core.specs.declared.content.Content.{Content}
@@ -26,12 +26,12 @@ use Rattle.land_shape.specs.Outline.{IsOutline}
 abbrev pub IsShort : ℕ → Type 0
 IsShort n = n < 2 ^ 64
 
--- a moment: not negative, below 2^64
+-- a moment that is not negative and below 2^64
 abbrev pub IsShortMoment : ℤ → Type 0
 IsShortMoment (pos n) = IsShort n
 IsShortMoment (negsuc n) = ⊥
 
--- ---- what mutations ask for
+-- ---- contents of mutations
 
 pub record IsTransferWithin (it : Transfer) : Type 0 where
   pub unit : IsShort it.unit

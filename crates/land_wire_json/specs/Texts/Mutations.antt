@@ -1,4 +1,4 @@
--- Mutations in JSON, and what they ask for.
+-- Mutations and their contents in JSON.
 use Rattle.std.specs.Prelude.{List, ℕ, ◌++◌, codes, decimal}
 use Rattle.land_core.specs.Words.{act_word, state_word}
 use Rattle.land_core.specs.declared.content.Content.{Content}
@@ -15,7 +15,7 @@ use Rattle.serde_json.specs.Data.{Data, number, string, object, no_members, memb
 use Rattle.serde_json.specs.Find.{of_integer}
 use Rattle.serde_json.specs.Written.{compact_text}
 
--- ---- what a mutation asks for
+-- ---- contents of mutations
 
 abbrev pub transfer_data : Transfer → Data
 transfer_data it =
@@ -44,13 +44,13 @@ content_data (content.Merger it) = merger_data it
 content_data (content.Mortgage it) = mortgage_data it
 content_data (content.Discharge it) = discharge_data it
 
--- a content as it is written
+-- the compact text of a content
 abbrev pub content_text : Content → List ℕ
 content_text it = compact_text (content_data it)
 
 -- ---- mutations
 
--- `lodged` is the moment of lodging
+-- `lodged` is the time of lodging
 abbrev pub mutation_data : Mutation → Data
 mutation_data mutation =
     object (member (codes "act") (string (act_word mutation.content))
@@ -64,11 +64,12 @@ mutation_data mutation =
 
 -- ---- texts
 
--- the share that goes to the receiver
+-- the share that the receiver gets
 abbrev pub transfer_text : Transfer → List ℕ
 transfer_text it =
     codes "{\"receiver\":" ++ (decimal it.receiver ++ (codes ",\"right\":" ++ (decimal it.right
-    ++ (codes ",\"share\":" ++ (share_text it.share ++ (codes ",\"unit\":" ++ (decimal it.unit ++ codes "}")))))))
+    ++ (codes ",\"share\":" ++ (share_text it.share ++ (codes ",\"unit\":"
+    ++ (decimal it.unit ++ codes "}")))))))
 
 -- the amount in minor units
 abbrev pub mortgage_text : Mortgage → List ℕ
@@ -82,7 +83,7 @@ abbrev pub discharge_text : Discharge → List ℕ
 discharge_text it =
     codes "{\"mortgage\":" ++ (decimal it.mortgage ++ (codes ",\"unit\":" ++ (decimal it.unit ++ codes "}")))
 
--- the text of a content, spelled out
+-- the text of a content, by its kind
 abbrev pub spelled_content : Content → List ℕ
 spelled_content (content.Transfer it) = transfer_text it
 spelled_content (content.Subdivision it) = subdivision_text it
@@ -90,8 +91,9 @@ spelled_content (content.Merger it) = merger_text it
 spelled_content (content.Mortgage it) = mortgage_text it
 spelled_content (content.Discharge it) = discharge_text it
 
--- `lodged` is the moment of lodging, `reference` a text as JSON writes it
-abbrev pub mutation_text : Content → (lodged lodger n : ℕ) → (reference : List ℕ) → (source : ℕ) → MutationState → List ℕ
+-- `lodged` is the time of lodging, `reference` a JSON string
+abbrev pub mutation_text : Content → (lodged lodger n : ℕ) → (reference : List ℕ) → (source : ℕ)
+    → MutationState → List ℕ
 mutation_text it lodged lodger n reference source state =
     codes "{\"act\":" ++ (quoted_word (act_word it) ++ (codes ",\"content\":" ++ (content_text it
     ++ (codes ",\"lodged\":" ++ (decimal lodged ++ (codes ",\"lodger\":" ++ (decimal lodger

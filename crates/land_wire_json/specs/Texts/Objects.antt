@@ -1,4 +1,4 @@
--- Objects in JSON: compact, the keys of each in the order of their bytes.
+-- Objects in JSON: compact, the keys of each object in byte order.
 use Rattle.std.specs.Prelude.{ℕ, List}
 use Rattle.land_core.specs.declared.object.Object.{Object}
 use Rattle.land_core.specs.declared.object.Object.TheVariants as shown
@@ -19,6 +19,6 @@ object_data (shown.Rrr entry) = rrr_data entry
 object_data (shown.Source source) = source_data source
 object_data (shown.Mutation mutation) = mutation_data mutation
 
--- an object as it is written
+-- the compact text of an object
 abbrev pub object_text : Object → List ℕ
 object_text it = compact_text (object_data it)

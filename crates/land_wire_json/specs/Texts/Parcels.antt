@@ -6,7 +6,7 @@ use Rattle.land_shape.specs.Printed.{printed}
 use Rattle.land_wire_json.specs.Texts.Values.{number_data, outline_text, string_text}
 use Rattle.serde_json.specs.Data.{Data, string, object, no_members, member}
 
--- twice the area of the outline, in square millimetres, and the outline as it is printed
+-- twice the area of the outline, in square millimetres, and the outline in canonical form
 abbrev pub parcel_data : Parcel → Data
 parcel_data parcel =
     object (member (codes "doubled") (number_data (doubled_area parcel.outline))
@@ -18,7 +18,7 @@ parcel_data parcel =
 
 -- ---- texts
 
--- its keys in order: twice its area, its label, its number, its outline, its source, its unit
+-- the keys in order: twice the area, the label, the number, the outline, the source, the unit
 abbrev pub parcel_text : Parcel → List ℕ
 parcel_text parcel =
     codes "{\"doubled\":" ++ (decimal (doubled_area parcel.outline) ++ (codes ",\"label\":"

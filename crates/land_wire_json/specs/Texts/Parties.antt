@@ -16,7 +16,8 @@ roles_data roles = array (items_of (map role_data roles))
 
 abbrev pub member_data : Member → Data
 member_data m =
-    object (member (codes "party") (number_data m.party) (member (codes "share") (share_data m.share) no_members))
+    object (member (codes "party") (number_data m.party)
+    (member (codes "share") (share_data m.share) no_members))
 
 abbrev pub members_data : List Member → Data
 members_data members = array (items_of (map member_data members))
@@ -38,9 +39,10 @@ abbrev pub member_text : Member → List ℕ
 member_text m =
     codes "{\"party\":" ++ (decimal m.party ++ (codes ",\"share\":" ++ (share_text m.share ++ codes "}")))
 
--- `name` is a name as JSON writes it, in quotation marks
+-- `name` is a JSON string with its quotation marks
 abbrev pub party_text : (kind : List ℕ) → List Member → (name : List ℕ) → ℕ → List Role → List ℕ
 party_text kind members name n roles =
-    codes "{\"kind\":" ++ (quoted_word kind ++ (codes ",\"members\":[" ++ (with_commas (map member_text members)
+    codes "{\"kind\":" ++ (quoted_word kind ++ (codes ",\"members\":["
+    ++ (with_commas (map member_text members)
     ++ (codes "],\"name\":" ++ (name ++ (codes ",\"number\":" ++ (decimal n ++ (codes ",\"roles\":["
     ++ (with_commas (map role_text roles) ++ codes "]}")))))))))

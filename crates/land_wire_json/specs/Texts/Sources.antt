@@ -13,7 +13,7 @@ source_data source =
 
 -- ---- texts
 
--- its keys in order: its kind, its number, its title
+-- the keys in order: the kind, the number, the title
 abbrev pub source_text : Source → List ℕ
 source_text source =
     codes "{\"kind\":" ++ (quoted_word (source_word source.kind) ++ (codes ",\"number\":"

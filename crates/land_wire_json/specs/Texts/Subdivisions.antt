@@ -1,4 +1,4 @@
--- What subdivisions ask for, in JSON.
+-- Contents of subdivisions in JSON.
 use Rattle.std.specs.Prelude.{ℕ, List, [], ◌++◌, map, codes, decimal, Option, Some, None}
 use Rattle.land_core.specs.declared.act.NewParcel.{NewParcel}
 use Rattle.land_core.specs.declared.subdivision.Part.{Part}
@@ -8,13 +8,13 @@ use Rattle.land_wire_json.specs.Texts.Values.{number_data, outline_text, string_
 use Rattle.serde_json.specs.Data.{Data, string, array, object, Members, no_members, member}
 use Rattle.serde_json.specs.View.{items_of}
 
--- the part that stays, its outline as it is printed
+-- the part that remains in the unit, its outline in canonical form
 abbrev pub first_data : NewParcel → Data
 first_data it =
     object (member (codes "label") (string it.label)
     (member (codes "outline") (string (printed it.outline)) no_members))
 
--- the name of a new unit; a part that stays in the unit has no such member
+-- the name of a new unit; a part that remains in the unit has no such member
 abbrev pub name_members : Option (List ℕ) → Members
 name_members None = no_members
 name_members (Some name) = member (codes "unit") (string name) no_members
@@ -36,26 +36,27 @@ subdivision_data it =
 
 -- ---- texts
 
--- the part that stays in the unit
+-- the part that remains in the unit
 abbrev pub first_text : NewParcel → List ℕ
 first_text it =
     codes "{\"label\":" ++ (string_text it.label ++ (codes ",\"outline\":" ++ (outline_text it.outline
     ++ codes "}")))
 
--- nothing where the part stays in the unit
+-- empty if the part remains in the unit
 abbrev pub name_text : Option (List ℕ) → List ℕ
 name_text None = []
 name_text (Some name) = codes ",\"unit\":" ++ string_text name
 
--- a further part, with the name of its new unit if it gets one
+-- a further part, with the name of its new unit if it goes to one
 abbrev pub part_text : Part → List ℕ
 part_text part =
     codes "{\"label\":" ++ (string_text part.label ++ (codes ",\"outline\":" ++ (outline_text part.outline
     ++ (name_text part.unit ++ codes "}"))))
 
--- the first part, the parcel that is cut, the rest, the unit
+-- the first part, the parcel that is divided, the other parts, the unit
 abbrev pub subdivision_text : Subdivision → List ℕ
 subdivision_text it =
     codes "{\"first\":" ++ (first_text it.first ++ (codes ",\"parcel\":" ++ (decimal it.parcel
-    ++ (codes ",\"rest\":[" ++ (with_commas (map part_text it.rest) ++ (codes "],\"unit\":" ++ (decimal it.unit
+    ++ (codes ",\"rest\":[" ++ (with_commas (map part_text it.rest) ++ (codes "],\"unit\":"
+    ++ (decimal it.unit
     ++ codes "}")))))))

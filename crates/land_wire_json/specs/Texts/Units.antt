@@ -12,7 +12,7 @@ unit_data unit =
 
 -- ---- texts
 
--- its keys in order: whether it is checked, its name, its number
+-- the keys in order: whether shares are checked, the name, the number
 abbrev pub unit_text : Unit → List ℕ
 unit_text unit =
     codes "{\"checked\":" ++ (truth_text unit.checked ++ (codes ",\"name\":" ++ (string_text unit.name

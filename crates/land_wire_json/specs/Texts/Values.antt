@@ -1,4 +1,4 @@
--- Values in JSON, and texts that are made of others.
+-- JSON values, and texts that are built from others.
 use Rattle.std.specs.Prelude.{ℕ, Bool, true, false, List, [], ◌∷◌, ◌++◌, map, codes}
 use Rattle.land_fraction.specs.Ratio.{Ratio}
 use Rattle.land_fraction.specs.Text.{text_of}
@@ -14,7 +14,7 @@ number_data n = number (unsigned n)
 abbrev pub numbers_data : List ℕ → Data
 numbers_data numbers = array (items_of (map number_data numbers))
 
--- a share as it is printed
+-- a share in canonical form
 abbrev pub share_data : Ratio → Data
 share_data share = string (text_of share)
 
@@ -24,7 +24,7 @@ one_member key value = object (member key value no_members)
 
 -- ---- texts
 
--- texts with commas between
+-- a comma before each text
 abbrev pub after_comma : List (List ℕ) → List ℕ
 after_comma [] = []
 after_comma (text ∷ texts) = codes "," ++ (text ++ after_comma texts)
@@ -36,19 +36,19 @@ with_commas (text ∷ texts) = text ++ after_comma texts
 abbrev pub quoted_word : List ℕ → List ℕ
 quoted_word word = codes "\"" ++ (word ++ codes "\"")
 
--- a share as JSON writes it
+-- a share as a JSON string
 abbrev pub share_text : Ratio → List ℕ
 share_text share = compact_text (share_data share)
 
--- an outline as JSON writes it
+-- an outline as a JSON string
 abbrev pub outline_text : List Place → List ℕ
 outline_text ring = compact_text (string (printed ring))
 
--- a text of the register as JSON writes it, in quotation marks
+-- a text of the register as a JSON string, with its quotation marks
 abbrev pub string_text : List ℕ → List ℕ
 string_text s = compact_text (string s)
 
--- true or false
+-- `true` or `false`
 abbrev pub truth_text : Bool → List ℕ
 truth_text true = codes "true"
 truth_text false = codes "false"

@@ -1,10 +1,11 @@
-//! The contents of mutations.
+//! Reads the contents of mutations.
 ghost use Rattle.std.specs.Prelude.{◌≡◌, Ok, codes, map};
 ghost use Rattle.land_core.specs.Contents.{is_amount, is_currency};
 ghost use Rattle.land_core.specs.Words.{act_word};
 ghost use Rattle.land_core.specs.declared.content.Content.{Content};
 ghost use Rattle.land_wire_json.specs.Bodies.Fields.{limited, limited_at, ranged_in};
-ghost use Rattle.land_wire_json.specs.Bodies.Mutations.{content_by, content_in, content_of, discharge_of, fields_of, mortgage_of, transfer_of};
+ghost use Rattle.land_wire_json.specs.Bodies.Mutations.{content_by, content_in, content_of, discharge_of};
+ghost use Rattle.land_wire_json.specs.Bodies.Mutations.{fields_of, mortgage_of, transfer_of};
 ghost use Rattle.land_wire_json.specs.Bodies.Stored.{IsStorable};
 ghost use Rattle.land_wire_json.specs.Bodies.WireFaults.{Gives};
 ghost use Rattle.land_wire_json.specs.Texts.Mutations.{content_text};
@@ -22,12 +23,15 @@ use land_core::text::Text;
 use serde_json::Value;
 use std::alloc::Global;
 
-/// The content of a mutation, by the word of the act that lodges it and its text: a body that has the content's fields alone. 133: an
-/// unknown word. Then the faults of the body: 130 no JSON, 131 another field, and those of the fields in their order. 501: there was no
-/// memory. The text of a content is read as that content.
+/// Reads the content of a mutation from the word of its act and its text, an object that has only the
+/// content's fields.
+///
+/// Errors: 133 for an unknown word, then 130 if the text is not JSON, 131 for another key, then the faults of
+/// the fields in their order; 501 if out of memory. Reading the text of a content returns that content.
 pub fn read_content(alloc: Global, word: &str, text: &str) -> Result<Content, WireFault>
     ensures reading { Gives (λ it. it) result (content_in word.now text.now) }
-    ensures back { (it : Content) → IsStorable it → word.now ≡ act_word it → text.now ≡ content_text it → Gives (λ it. it) result (Ok it) }
+    ensures back { (it : Content) → IsStorable it → word.now ≡ act_word it → text.now ≡ content_text it
+        → Gives (λ it. it) result (Ok it) }
 {
     laws::contents_are_read();
     content_in(alloc, word, text)
@@ -62,7 +66,7 @@ fn fields_of(kind: ContentKind) -> &'static [&'static str]
     }
 }
 
-/// The fields of a content, read in their order; other keys are not looked at.
+/// Reads the fields of a content in their order. Ignores other keys.
 pub(crate) fn content_by(
     alloc: Global,
     kind: ContentKind,
@@ -129,7 +133,8 @@ fn currency_at(alloc: Global, value: &Value) -> Result<Text, WireFault>
     currency_of(alloc, text_at(value, "currency")?)
 }
 
-/// A currency, three letters from A to Z (ISO 4217), else fault 133. 501: there was no memory.
+/// Reads a currency, three letters from A to Z (ISO 4217). Errors: 133 for any other text; 501 if out of
+/// memory.
 pub fn currency_of(alloc: Global, text: &str) -> Result<Text, WireFault>
     ensures { Gives (λ text. text) result (limited is_currency text.now) }
 {

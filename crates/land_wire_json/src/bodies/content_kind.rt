@@ -1,26 +1,26 @@
-//! The kinds of contents, by the words of the acts that lodge them.
+//! Kinds of contents, by the words of their acts.
 ghost use Rattle.std.specs.Prelude.{◌≡◌};
 ghost use Rattle.land_wire_json.specs.Bodies.Mutations.{content_kind_of};
 
 use crate::bodies::wire_fault::WireFault;
 
-/// What a content is of.
+/// The kind of a content.
 #[derive(Clone, Copy, Debug, PartialEq, Eq)]
 pub enum ContentKind {
     /// A share goes to a receiver.
     Transfer,
-    /// A parcel is cut into parts.
+    /// A parcel is divided into parts.
     Subdivision,
-    /// Parcels become one.
+    /// Parcels are merged into one.
     Merger,
-    /// A unit becomes a security for a loan.
+    /// A unit becomes the security for a loan.
     Mortgage,
     /// A mortgage ends.
     Discharge,
 }
 
 impl ContentKind {
-    /// The kind by the word of its act; any other word is fault 133. Letter case counts.
+    /// Returns the kind for the word of its act. Words are case-sensitive. Errors: 133 for any other word.
     pub fn of(word: &str) -> Result<ContentKind, WireFault>
         ensures { result ≡ content_kind_of word.now }
     {

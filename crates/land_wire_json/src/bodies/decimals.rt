@@ -1,11 +1,11 @@
-//! Decimal digits, as they stand in heads, targets, shares and words.
+//! Decimal digits of header fields, request targets, shares and words.
 ghost use Rattle.std.specs.Prelude.{◌≡◌, ◌≤◌, length, true};
 ghost use Rattle.std.specs.Char.{is_ascii_digit};
 ghost use Rattle.std.specs.List.{list_all};
 ghost use Rattle.std.specs.Str.Parse.{digits_value};
 ghost use Rattle.land_wire_json.specs.Bodies.Decimals.{are_digits, digits_in};
 
-/// The value of 1 to `most` decimal digits, leading zeros allowed. Any other text has none.
+/// Returns the value of 1 to `most` decimal digits, or `None` for any other text. Leading zeros are allowed.
 pub fn read_digits(text: &[u8], most: usize) -> Option<u64>
     requires { most ≤ 18 }
     ensures { result ≡ digits_in most text.now }

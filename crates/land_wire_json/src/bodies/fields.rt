@@ -1,10 +1,12 @@
-//! Bodies as JSON, and the fields of JSON objects.
+//! Reads request bodies as JSON, and the fields of JSON objects.
 ghost use Rattle.std.specs.Prelude.{◌≡◌, ◌&&◌, codes, map, string_bytes, bytes_eq, length, nat_le};
 ghost use Rattle.std.specs.List.{list_all, list_any};
 ghost use Rattle.std.specs.BTreeMap.{keys};
 ghost use Rattle.land_core.specs.Numbers.{is_number};
 ghost use Rattle.land_core.specs.Texts.{are_words, is_label, is_name, is_reference, is_title};
-ghost use Rattle.land_wire_json.specs.Bodies.Fields.{field_at, has_only, is_among, item_count, items_at, limited, limited_at, number_at, number_in, object_with, text_at, text_value, truth_at, value_in};
+ghost use Rattle.land_wire_json.specs.Bodies.Fields.{field_at, has_only, is_among, item_count, items_at};
+ghost use Rattle.land_wire_json.specs.Bodies.Fields.{limited, limited_at, number_at, number_in, object_with};
+ghost use Rattle.land_wire_json.specs.Bodies.Fields.{text_at, text_value, truth_at, value_in};
 ghost use Rattle.land_wire_json.specs.Bodies.WireFaults.{Gives, seen_by};
 ghost use Rattle.serde_json.specs.Find.{get};
 ghost use Rattle.serde_json.specs.View.{view, members_view, items_view};
@@ -15,7 +17,7 @@ use land_core::text::Text;
 use serde_json::{Map, Value};
 use std::alloc::Global;
 
-/// The JSON that bytes are. 130: they are none. 501: there was no memory.
+/// Parses bytes as JSON. Errors: 130 if they are not JSON; 501 if out of memory.
 pub fn read_value(alloc: Global, bytes: &[u8]) -> Result<Value, WireFault>
     ensures { Gives (λ value. view value) result (value_in bytes.now) }
 {
@@ -31,7 +33,7 @@ pub fn read_value(alloc: Global, bytes: &[u8]) -> Result<Value, WireFault>
     }
 }
 
-/// The JSON that a text is. 130: it is none. 501: there was no memory.
+/// Parses a text as JSON. Errors: 130 if it is not JSON; 501 if out of memory.
 pub fn read_text(alloc: Global, text: &str) -> Result<Value, WireFault>
     ensures { Gives (λ value. view value) result (text_value text.now) }
 {
@@ -47,7 +49,7 @@ pub fn read_text(alloc: Global, text: &str) -> Result<Value, WireFault>
     }
 }
 
-/// 131: the value is no object, or has another key than these.
+/// Checks that the value is an object that has only these keys. Errors: 131 if it is not.
 #[tactic(auto, unfolding(crate::specs::Bodies::Fields::object_with))]
 pub fn check_keys(value: &Value, names: &[&str]) -> Result<(), WireFault>
     ensures { result ≡ object_with (map (λ name. name.now) names.now) (view value.now) }
@@ -65,7 +67,8 @@ fn has_only(members: &Map<String, Value>, names: &[&str]) -> bool
 }
 
 fn has_keys_among(members: &Map<String, Value>, names: &[&str]) -> bool
-    ensures { result ≡ list_all (λ key. is_among (map (λ name. name.now) names.now) (string_bytes key)) (keys members.now) }
+    ensures { result ≡ list_all (λ key. is_among (map (λ name. name.now) names.now) (string_bytes key))
+        (keys members.now) }
 {
     members.keys().all(|key| is_among(key.as_str(), names))
 }
@@ -82,7 +85,7 @@ fn is_one_of(key: &str, names: &[&str]) -> bool
     names.iter().any(|name| *name == key)
 }
 
-/// What stands under a key. 131: nothing does.
+/// Returns the value of a key. Errors: 131 if the key is missing.
 #[tactic(auto, unfolding(crate::specs::Bodies::Fields::field_at))]
 pub fn field_at<'v>(value: &'v Value, key: &str) -> Result<&'v Value, WireFault>
     ensures { seen_by (λ found. view found.now) result ≡ field_at key.now (view value.now) }
@@ -93,7 +96,7 @@ pub fn field_at<'v>(value: &'v Value, key: &str) -> Result<&'v Value, WireFault>
     }
 }
 
-/// A text. 131: it is missing, or of another kind.
+/// Returns the text of a key. Errors: 131 if it is missing or not a string.
 #[tactic(auto, unfolding(crate::specs::Bodies::Fields::text_at))]
 pub fn text_at<'v>(value: &'v Value, key: &str) -> Result<&'v str, WireFault>
     ensures { seen_by (λ text. text.now) result ≡ text_at key.now (view value.now) }
@@ -104,7 +107,7 @@ pub fn text_at<'v>(value: &'v Value, key: &str) -> Result<&'v str, WireFault>
     }
 }
 
-/// True or false. 131: it is missing, or of another kind.
+/// Returns the boolean of a key. Errors: 131 if it is missing or not a boolean.
 #[tactic(auto, unfolding(crate::specs::Bodies::Fields::truth_at))]
 pub fn truth_at(value: &Value, key: &str) -> Result<bool, WireFault>
     ensures { result ≡ truth_at key.now (view value.now) }
@@ -115,15 +118,16 @@ pub fn truth_at(value: &Value, key: &str) -> Result<bool, WireFault>
     }
 }
 
-/// A name: 1 to 200 characters, none a control character of ASCII. 131: it is missing, or of another kind. 133: it is another text. 501:
-/// there was no memory.
+/// Reads a name: 1 to 200 characters without ASCII control characters.
+///
+/// Errors: 131 if it is missing or not a string; 133 if it is not within these limits; 501 if out of memory.
 pub fn name_at(alloc: Global, value: &Value, key: &str) -> Result<Text, WireFault>
     ensures { Gives (λ text. text) result (limited_at is_name key.now (view value.now)) }
 {
     name_of(alloc, text_at(value, key)?)
 }
 
-/// A text of 1 to 200 characters, else fault 133. 501: there was no memory.
+/// Copies a text of 1 to 200 characters. Errors: 133 for any other text; 501 if out of memory.
 pub fn name_of(alloc: Global, text: &str) -> Result<Text, WireFault>
     ensures { Gives (λ text. text) result (limited is_name text.now) }
 {
@@ -134,35 +138,35 @@ pub fn name_of(alloc: Global, text: &str) -> Result<Text, WireFault>
     }
 }
 
-/// The title of a document, with the limits and faults of a name.
+/// Reads the title of a document, with the limits and errors of a name.
 pub fn title_at(alloc: Global, value: &Value, key: &str) -> Result<Text, WireFault>
     ensures { Gives (λ text. text) result (limited_at is_title key.now (view value.now)) }
 {
     name_at(alloc, value, key)
 }
 
-/// The words of a burden, with the limits and faults of a name.
+/// Reads the words of a burden, with the limits and errors of a name.
 pub fn words_at(alloc: Global, value: &Value, key: &str) -> Result<Text, WireFault>
     ensures { Gives (λ text. text) result (limited_at are_words key.now (view value.now)) }
 {
     name_at(alloc, value, key)
 }
 
-/// A label: 1 to 40 characters, none a control character of ASCII. 131, 133, 501: as for a name.
+/// Reads a label: 1 to 40 characters without ASCII control characters. Errors: as for a name.
 pub fn label_at(alloc: Global, value: &Value, key: &str) -> Result<Text, WireFault>
     ensures { Gives (λ text. text) result (limited_at is_label key.now (view value.now)) }
 {
     label_of(alloc, text_at(value, key)?)
 }
 
-/// The reference of a lodging, with the limits and faults of a label.
+/// Reads the reference of a lodging, with the limits and errors of a label.
 pub fn reference_at(alloc: Global, value: &Value, key: &str) -> Result<Text, WireFault>
     ensures { Gives (λ text. text) result (limited_at is_reference key.now (view value.now)) }
 {
     label_at(alloc, value, key)
 }
 
-/// A text of 1 to 40 characters, else fault 133. 501: there was no memory.
+/// Copies a text of 1 to 40 characters. Errors: 133 for any other text; 501 if out of memory.
 pub fn label_of(alloc: Global, text: &str) -> Result<Text, WireFault>
     ensures { Gives (λ text. text) result (limited is_label text.now) }
 {
@@ -173,8 +177,10 @@ pub fn label_of(alloc: Global, text: &str) -> Result<Text, WireFault>
     }
 }
 
-/// The number of an object, 1 to 1_000_000_000. 131: it is missing, or of another kind. 132: it has a sign, a point or an exponent, or is
-/// out of range.
+/// Reads the number of an object, 1 to 1_000_000_000.
+///
+/// Errors: 131 if it is missing or not a number; 132 if it has a sign, a point or an exponent, or is out of
+/// range.
 #[tactic(auto, unfolding(crate::specs::Bodies::Fields::number_at))]
 pub fn number_at(value: &Value, key: &str) -> Result<u64, WireFault>
     ensures { result ≡ number_at key.now (view value.now) }
@@ -182,7 +188,7 @@ pub fn number_at(value: &Value, key: &str) -> Result<u64, WireFault>
     number_in(field_at(value, key)?)
 }
 
-/// The same of a value that stands by itself.
+/// Likewise for a value without a key.
 #[tactic(auto, unfolding(crate::specs::Bodies::Fields::number_in))]
 pub fn number_in(value: &Value) -> Result<u64, WireFault>
     ensures { result ≡ number_in (view value.now) }
@@ -196,7 +202,8 @@ pub fn number_in(value: &Value) -> Result<u64, WireFault>
     }
 }
 
-/// An array of `least` to `most` items, whatever they are. 131: it is missing, of another kind, or of another length.
+/// Returns an array of `least` to `most` items of any kind. Errors: 131 if it is missing, not an array, or
+/// has another length.
 #[tactic(auto, unfolding(crate::specs::Bodies::Fields::items_at))]
 pub fn items_at<'v>(
     value: &'v Value,
@@ -204,7 +211,8 @@ pub fn items_at<'v>(
     least: usize,
     most: usize,
 ) -> Result<&'v Vec<Value>, WireFault>
-    ensures { seen_by (λ found. items_view found.now.items) result ≡ items_at least most key.now (view value.now) }
+    ensures { seen_by (λ found. items_view found.now.items) result
+        ≡ items_at least most key.now (view value.now) }
 {
     match field_at(value, key)?.as_array() {
         Some(items) if least <= items.len() && items.len() <= most => Ok(items),

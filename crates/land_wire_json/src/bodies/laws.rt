@@ -1,18 +1,20 @@
-//! Laws, each stated over the definitions alone.
-ghost use Rattle.land_wire_json.specs.Bodies.Laws.{BodiesAreWellFormed, ContentsAreRead, ContentsAreWellFormed, OutlinesHaveTheirAnswers};
+//! Laws, each stated with definitions only.
+ghost use Rattle.land_wire_json.specs.Bodies.Laws.{BodiesAreWellFormed, ContentsAreRead};
+ghost use Rattle.land_wire_json.specs.Bodies.Laws.{ContentsAreWellFormed, OutlinesHaveTheirAnswers};
 
-/// The answer to the text of an outline is a ring that it stands for, or its first fault.
+/// The answer for an outline's text is a ring that the text denotes, or the text's first fault.
 pub fn outlines_have_their_answers()
     ensures { OutlinesHaveTheirAnswers }
 {}
 
-/// What is read of a body keeps the limits of its act, and a content that is read keeps its limits.
+/// The value read from a body is within the limits of its act, and a content that was read is within its
+/// limits.
 pub fn readings_are_well_formed()
     ensures bodies { BodiesAreWellFormed }
     ensures contents { ContentsAreWellFormed }
 {}
 
-/// The text of a content is read as that content, by the word of its act.
+/// Reading the text of a content with the word of its act returns that content.
 pub fn contents_are_read()
     ensures { ContentsAreRead }
 {

@@ -1,4 +1,4 @@
-//! The bodies of lodgings, approvals and refusals.
+//! Reads the bodies of lodgings, approvals and refusals.
 ghost use Rattle.std.specs.Prelude.{◌≡◌, ◌∷◌, codes, map};
 ghost use Rattle.land_wire_json.specs.Bodies.Mutations.{decision_of, fields_of, lodging_of};
 ghost use Rattle.land_wire_json.specs.Bodies.WireFaults.{Gives};
@@ -12,7 +12,7 @@ use land_core::act::{Decision, Lodging};
 use serde_json::Value;
 use std::alloc::Global;
 
-/// A lodging: `reference`, `document`, then the fields of its content.
+/// Reads a lodging: `reference`, `document`, then the fields of its content.
 #[tactic(auto, unfolding(crate::specs::Bodies::Mutations::lodging_of))]
 pub fn lodging_of(alloc: Global, kind: ContentKind, value: &Value) -> Result<Lodging, WireFault>
     ensures { Gives (λ it. it) result (lodging_of kind (view value.now)) }
@@ -28,7 +28,7 @@ pub fn lodging_of(alloc: Global, kind: ContentKind, value: &Value) -> Result<Lod
     })
 }
 
-/// The fields of a lodging by the kind of its content.
+/// Returns the names of a lodging's fields, by the kind of its content.
 fn lodged_fields(kind: ContentKind) -> &'static [&'static str]
     ensures { map (λ name. name.now) result.now ≡ codes "reference" ∷ codes "document" ∷ fields_of kind }
 {
@@ -63,7 +63,7 @@ fn lodged_fields(kind: ContentKind) -> &'static [&'static str]
     }
 }
 
-/// A mutation that is approved or refused: `mutation`.
+/// Reads a decision, which approves or refuses a mutation: `mutation`.
 #[tactic(auto, unfolding(crate::specs::Bodies::Mutations::decision_of))]
 pub fn decision_of(value: &Value) -> Result<Decision, WireFault>
     ensures { result ≡ decision_of (view value.now) }

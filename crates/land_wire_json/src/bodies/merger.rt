@@ -1,4 +1,4 @@
-//! What mergers ask for.
+//! Reads the contents of mergers.
 ghost use Rattle.std.specs.Prelude.{◌≡◌};
 ghost use Rattle.land_wire_json.specs.Bodies.Fields.{each_of, number_in};
 ghost use Rattle.land_wire_json.specs.Bodies.Mutations.{merger_of, rising_at, without};
@@ -13,8 +13,8 @@ use land_core::sequence::{NumberList, Sequence};
 use serde_json::Value;
 use std::alloc::Global;
 
-/// The fields of a merger: `unit`, `others` (0 to 15 numbers, the unit not among them), `parcels` (2 to 16 numbers), both strictly
-/// ascending, `label`, `outline`.
+/// Reads the fields of a merger: `unit`, `others` (0 to 15 numbers, the unit not among them), `parcels` (2 to
+/// 16 numbers), both strictly increasing, `label`, `outline`.
 #[tactic(auto, unfolding(crate::specs::Bodies::Mutations::merger_of))]
 pub(crate) fn merger_of(alloc: Global, value: &Value) -> Result<Merger, WireFault>
     ensures { Gives (λ it. it) result (merger_of (view value.now)) }
@@ -43,7 +43,8 @@ fn without(unit: u64, others: NumberList) -> Result<NumberList, WireFault>
     }
 }
 
-/// An array of `least` to `most` numbers of objects, each above the one before it. 131: another order, once each of them is read.
+/// Reads an array of `least` to `most` strictly increasing numbers of objects. Errors: 131 in another order,
+/// after each number was read.
 #[tactic(auto, unfolding(crate::specs::Bodies::Mutations::rising_at))]
 fn rising_at(
     alloc: Global,

@@ -1,4 +1,4 @@
-//! Outlines in bodies.
+//! Reads outlines in request bodies.
 ghost use Rattle.std.specs.Prelude.{◌≡◌};
 ghost use Rattle.land_wire_json.specs.Bodies.Outlines.{outline_in, outline_of};
 ghost use Rattle.land_wire_json.specs.Bodies.WireFaults.{Gives};
@@ -11,8 +11,10 @@ use land_shape::{Ring, ShapeFault, read_wkt};
 use serde_json::Value;
 use std::alloc::Global;
 
-/// The outline under the key `outline`, in millimetres. 131: it is missing, or no text. 110 to 120: the text stands for no ring. 501:
-/// there was no memory.
+/// Reads the outline of the key `outline`, in millimetres.
+///
+/// Errors: 131 if it is missing or not a string; 110 to 120 if the text does not denote a ring; 501 if out of
+/// memory.
 #[tactic(auto, unfolding(crate::specs::Bodies::Outlines::outline_in))]
 pub fn outline_in(alloc: Global, value: &Value) -> Result<Ring, WireFault>
     ensures { Gives (λ ring. ring) result (outline_in (view value.now)) }
@@ -20,7 +22,7 @@ pub fn outline_in(alloc: Global, value: &Value) -> Result<Ring, WireFault>
     outline_of(alloc, text_at(value, "outline")?)
 }
 
-/// The ring that a text stands for, in millimetres, else one of faults 110 to 120. 501: there was no memory.
+/// Reads the ring that a text denotes, in millimetres. Errors: 110 to 120; 501 if out of memory.
 pub fn outline_of(alloc: Global, text: &str) -> Result<Ring, WireFault>
     ensures { Gives (λ ring. ring) result (outline_of text.now) }
 {

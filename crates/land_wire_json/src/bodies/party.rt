@@ -1,7 +1,8 @@
-//! The bodies of acts on parties.
+//! Reads the bodies of acts on parties.
 ghost use Rattle.std.specs.Prelude.{◌≡◌};
 ghost use Rattle.land_wire_json.specs.Bodies.Fields.{each_of};
-ghost use Rattle.land_wire_json.specs.Bodies.Parties.{enrol_of, grant_of, group_of, mandate_of, member_of, members_of, regroup_of, withdrawal_of};
+ghost use Rattle.land_wire_json.specs.Bodies.Parties.{enrol_of, grant_of, group_of, mandate_of, member_of};
+ghost use Rattle.land_wire_json.specs.Bodies.Parties.{members_of, regroup_of, withdrawal_of};
 ghost use Rattle.land_wire_json.specs.Bodies.WireFaults.{Gives};
 ghost use Rattle.serde_json.specs.View.{view, items_view};
 
@@ -17,7 +18,7 @@ use land_core::sequence::Sequence;
 use serde_json::Value;
 use std::alloc::Global;
 
-/// An enrolment: `kind` (naturalPerson or nonNaturalPerson), `name`.
+/// Reads an enrolment: `kind` (naturalPerson or nonNaturalPerson), `name`.
 #[tactic(auto, unfolding(crate::specs::Bodies::Parties::enrol_of))]
 pub fn enrol_of(alloc: Global, value: &Value) -> Result<Enrol, WireFault>
     ensures { Gives (λ it. it) result (enrol_of (view value.now)) }
@@ -28,7 +29,7 @@ pub fn enrol_of(alloc: Global, value: &Value) -> Result<Enrol, WireFault>
     Ok(Enrol { kind, name })
 }
 
-/// A group: `name`, `members` (2 to 64 of `party`, `share`).
+/// Reads a group: `name`, `members` (2 to 64 of `party`, `share`).
 #[tactic(auto, unfolding(crate::specs::Bodies::Parties::group_of))]
 pub fn group_of(alloc: Global, value: &Value) -> Result<NewGroup, WireFault>
     ensures { Gives (λ it. it) result (group_of (view value.now)) }
@@ -39,7 +40,7 @@ pub fn group_of(alloc: Global, value: &Value) -> Result<NewGroup, WireFault>
     Ok(NewGroup { name, members })
 }
 
-/// Other members of a group: `group`, `members` (2 to 64 of `party`, `share`).
+/// Reads the new members of a group: `group`, `members` (2 to 64 of `party`, `share`).
 #[tactic(auto, unfolding(crate::specs::Bodies::Parties::regroup_of))]
 pub fn regroup_of(alloc: Global, value: &Value) -> Result<Regroup, WireFault>
     ensures { Gives (λ it. it) result (regroup_of (view value.now)) }
@@ -50,7 +51,7 @@ pub fn regroup_of(alloc: Global, value: &Value) -> Result<Regroup, WireFault>
     Ok(Regroup { group, members })
 }
 
-/// A role that is given or ended: `party`, `role`.
+/// Reads a role to grant or to revoke: `party`, `role`.
 #[tactic(auto, unfolding(crate::specs::Bodies::Parties::grant_of))]
 pub fn grant_of(value: &Value) -> Result<Grant, WireFault>
     ensures { result ≡ grant_of (view value.now) }
@@ -61,7 +62,7 @@ pub fn grant_of(value: &Value) -> Result<Grant, WireFault>
     Ok(Grant { party, role })
 }
 
-/// A mandate that the caller gives: `agent`.
+/// Reads a mandate of the caller: `agent`.
 #[tactic(auto, unfolding(crate::specs::Bodies::Parties::mandate_of))]
 pub fn mandate_of(value: &Value) -> Result<NewMandate, WireFault>
     ensures { result ≡ mandate_of (view value.now) }
@@ -71,7 +72,7 @@ pub fn mandate_of(value: &Value) -> Result<NewMandate, WireFault>
     Ok(NewMandate { agent })
 }
 
-/// A mandate that is withdrawn: `principal`, `agent`.
+/// Reads a mandate to withdraw: `principal`, `agent`.
 #[tactic(auto, unfolding(crate::specs::Bodies::Parties::withdrawal_of))]
 pub fn withdrawal_of(value: &Value) -> Result<Mandate, WireFault>
     ensures { result ≡ withdrawal_of (view value.now) }

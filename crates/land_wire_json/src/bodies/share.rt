@@ -1,4 +1,4 @@
-//! Shares as texts.
+//! Reads shares from their texts.
 ghost use Rattle.std.specs.Prelude.{◌≡◌};
 ghost use Rattle.land_wire_json.specs.Bodies.Decimals.{digits_in};
 ghost use Rattle.land_wire_json.specs.Bodies.Shares.{share_at, share_from, share_of};
@@ -10,8 +10,10 @@ use crate::bodies::wire_fault::WireFault;
 use land_fraction::Fraction;
 use serde_json::Value;
 
-/// The share under a key. 131: it is missing, or no text. 132: the text is not 1 to 18 digits, `/`, 1 to 18 digits. 101 to 103: these are
-/// no fraction.
+/// Reads the share of a key.
+///
+/// Errors: 131 if it is missing or not a string; 132 if the text is not 1 to 18 digits, `/`, 1 to 18 digits;
+/// 101 to 103 if the numbers do not make a fraction.
 #[tactic(auto, unfolding(crate::specs::Bodies::Shares::share_at))]
 pub fn share_at(value: &Value, key: &str) -> Result<Fraction, WireFault>
     ensures { result ≡ share_at key.now (view value.now) }
@@ -19,7 +21,8 @@ pub fn share_at(value: &Value, key: &str) -> Result<Fraction, WireFault>
     share_of(text_at(value, key)?)
 }
 
-/// The share that a text writes: 1 to 18 digits, `/`, 1 to 18 digits, else fault 132; then 101 to 103.
+/// Reads a share from its text. Errors: 132 if it is not 1 to 18 digits, `/`, 1 to 18 digits; then 101 to
+/// 103.
 #[tactic(auto, unfolding(crate::specs::Bodies::Shares::share_of))]
 pub fn share_of(text: &str) -> Result<Fraction, WireFault>
     ensures { result ≡ share_of text.now }

@@ -1,4 +1,4 @@
-//! Contents that are kept as texts.
+//! Contents that are stored as texts.
 ghost use Rattle.std.specs.List.{AllByRecursion};
 ghost use Rattle.land_fraction.specs.Ratio.{IsFraction};
 ghost use Rattle.land_shape.specs.Outline.{IsOutline};
@@ -9,8 +9,8 @@ use land_core::subdivision::Part;
 use land_fraction::Fraction;
 use land_shape::Ring;
 
-/// The share of each content is a fraction, and its outlines are outlines, by their types. It changes nothing, and is called where that is
-/// to be known of a content that is to be kept.
+/// Proves that the share of a content is a fraction and that its outlines are outlines, as their types
+/// guarantee. It does nothing at run time; callers use it before they store a content.
 pub fn content_is_exact(content: &Content)
     ensures { IsExactContent content.now }
 {

@@ -1,4 +1,4 @@
-//! What subdivisions ask for.
+//! Reads the contents of subdivisions.
 ghost use Rattle.std.specs.Prelude.{◌≡◌, option_map};
 ghost use Rattle.land_wire_json.specs.Bodies.Fields.{each_of};
 ghost use Rattle.land_wire_json.specs.Bodies.Mutations.{new_name_of, part_of, rest_of, subdivision_of};
@@ -15,8 +15,8 @@ use land_core::text::Text;
 use serde_json::Value;
 use std::alloc::Global;
 
-/// The fields of a subdivision: `unit`, `parcel`, `first` (`label`, `outline`), `rest` (1 to 15 of `label`, `outline` and, where it goes to
-/// a new unit, its name `unit`).
+/// Reads the fields of a subdivision: `unit`, `parcel`, `first` (`label`, `outline`), `rest` (1 to 15 of
+/// `label`, `outline` and, if the part goes to a new unit, its name `unit`).
 #[tactic(auto, unfolding(crate::specs::Bodies::Mutations::subdivision_of))]
 pub(crate) fn subdivision_of(alloc: Global, value: &Value) -> Result<Subdivision, WireFault>
     ensures { Gives (λ it. it) result (subdivision_of (view value.now)) }

@@ -1,7 +1,9 @@
-//! The bodies of acts on units and their entries.
+//! Reads the bodies of acts on units and their entries.
 ghost use Rattle.std.specs.Prelude.{◌≡◌, map};
 ghost use Rattle.land_wire_json.specs.Bodies.Fields.{each_of};
-ghost use Rattle.land_wire_json.specs.Bodies.Units.{burden_by, burden_fields, burden_of, lift_of, owned, parcel_of, parcels_of, right_of, rights_of, unit_by, unit_fields, unit_of};
+ghost use Rattle.land_wire_json.specs.Bodies.Units.{burden_by, burden_fields, burden_of, lift_of, owned};
+ghost use Rattle.land_wire_json.specs.Bodies.Units.{parcel_of, parcels_of, right_of, rights_of, unit_by};
+ghost use Rattle.land_wire_json.specs.Bodies.Units.{unit_fields, unit_of};
 ghost use Rattle.land_wire_json.specs.Bodies.WireFaults.{Gives};
 ghost use Rattle.serde_json.specs.View.{view, items_view};
 
@@ -17,8 +19,9 @@ use land_core::sequence::Sequence;
 use serde_json::Value;
 use std::alloc::Global;
 
-/// A unit: `name`, `checked` (true or false), `document`, `parcels` (1 to 64 of `label`, `outline`), `rights` (1 to 64 of `party`, `type`,
-/// `share`, an ownership among them, else fault 131 once all are read).
+/// Reads a unit: `name`, `checked` (true or false), `document`, `parcels` (1 to 64 of `label`, `outline`),
+/// `rights` (1 to 64 of `party`, `type`, `share`). Errors: 131 if none of the rights is an ownership, after
+/// all were read.
 #[tactic(auto, unfolding(crate::specs::Bodies::Units::unit_of))]
 pub fn unit_of(alloc: Global, value: &Value) -> Result<NewUnit, WireFault>
     ensures { Gives (λ it. it) result (unit_of (view value.now)) }
@@ -51,7 +54,7 @@ fn unit_by(alloc: Global, value: &Value) -> Result<NewUnit, WireFault>
     })
 }
 
-/// A burden: `unit`, `party`, `class` (restriction or responsibility), `words`, `document`.
+/// Reads a burden: `unit`, `party`, `class` (restriction or responsibility), `words`, `document`.
 #[tactic(auto, unfolding(crate::specs::Bodies::Units::burden_of))]
 pub fn burden_of(alloc: Global, value: &Value) -> Result<Burden, WireFault>
     ensures { Gives (λ it. it) result (burden_of (view value.now)) }
@@ -84,7 +87,7 @@ fn burden_by(alloc: Global, value: &Value) -> Result<Burden, WireFault>
     })
 }
 
-/// A burden that is lifted: `rrr`.
+/// Reads a burden to lift: `rrr`.
 #[tactic(auto, unfolding(crate::specs::Bodies::Units::lift_of))]
 pub fn lift_of(value: &Value) -> Result<Lift, WireFault>
     ensures { result ≡ lift_of (view value.now) }
@@ -94,7 +97,7 @@ pub fn lift_of(value: &Value) -> Result<Lift, WireFault>
     Ok(Lift { rrr })
 }
 
-/// A parcel: `label`, `outline`.
+/// Reads a parcel: `label`, `outline`.
 #[tactic(auto, unfolding(crate::specs::Bodies::Units::parcel_of))]
 pub fn parcel_of(alloc: Global, value: &Value) -> Result<NewParcel, WireFault>
     ensures { Gives (λ it. it) result (parcel_of (view value.now)) }

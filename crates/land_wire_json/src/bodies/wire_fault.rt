@@ -1,4 +1,4 @@
-//! What is wrong with what cannot be read.
+//! The faults of requests and bodies.
 ghost use Rattle.std.specs.Prelude.{◌≡◌, ◌++◌, Some, codes, decimal};
 ghost use Rattle.land_wire_json.specs.Bodies.WireFaults.{fault_number};
 
@@ -7,33 +7,34 @@ use land_shape::ShapeFault;
 use std::alloc::AllocError;
 use std::fmt::{self, Display, Formatter, Write};
 
-/// Why a request or a content is not read: the first fault in it, or want of memory.
+/// The first fault of a request, or out of memory.
 #[derive(Clone, Copy, Debug, PartialEq, Eq)]
 pub enum WireFault {
-    /// 130: the text is no JSON.
+    /// 130: the text is not JSON.
     Json,
-    /// 131: a field is missing, stands twice, is of another kind, of another length or order than stated, or is not known.
+    /// 131: a field is missing, repeated, unknown, of another kind, or of another length or order than
+    /// specified.
     Field,
-    /// 132: a number with a sign, a point or an exponent, or out of its range; or a text that is no share.
+    /// 132: a number has a sign, a point or an exponent, or is out of range; or a text is not a share.
     Number,
-    /// 133: a text that is not within its limits, or an unknown word.
+    /// 133: a text is not within its limits, or a word is unknown.
     Text,
-    /// 134: an unknown role.
+    /// 134: a role is unknown.
     Role,
-    /// 136: no such route.
+    /// 136: the path has no route.
     NoRoute,
     /// 137: the route has another method.
     Method,
-    /// 101 to 103: the numbers of a share make no fraction.
+    /// 101 to 103: the numbers of a share do not make a fraction.
     Share(FractionFault),
-    /// 110 to 120: the text of an outline stands for no ring.
+    /// 110 to 120: the text of an outline does not denote a ring.
     Outline(ShapeFault),
-    /// 501: there was no memory to read it.
+    /// 501: out of memory while reading.
     NoMemory,
 }
 
 impl WireFault {
-    /// The number that the caller is told.
+    /// Returns the number that the reply contains.
     pub fn number(self) -> u16
         ensures { result ≡ fault_number self }
     {

@@ -1,6 +1,7 @@
-//! Words that stand for kinds, roles, types and classes.
+//! Reads the words of kinds, roles, types and classes.
 ghost use Rattle.std.specs.Prelude.{◌≡◌, bytes_eq};
-ghost use Rattle.land_wire_json.specs.Bodies.Words.{class_in, class_of, kind_in, kind_of, role_in, role_of, type_in, type_of};
+ghost use Rattle.land_wire_json.specs.Bodies.Words.{class_in, class_of, kind_in, kind_of, role_in, role_of};
+ghost use Rattle.land_wire_json.specs.Bodies.Words.{type_in, type_of};
 ghost use Rattle.serde_json.specs.View.{view};
 
 use crate::bodies::fields::text_at;
@@ -11,7 +12,8 @@ use land_core::role::Role;
 use land_core::rrr::RightType;
 use serde_json::Value;
 
-/// The kind under the key `kind`. 131: it is missing, or no text. 133: it is no kind of a single party.
+/// Reads the kind of the key `kind`. Errors: 131 if it is missing or not a string; 133 if it is not a kind of
+/// a single party.
 #[tactic(auto, unfolding(crate::specs::Bodies::Words::kind_in))]
 pub fn kind_in(value: &Value) -> Result<PartyKind, WireFault>
     ensures { result ≡ kind_in (view value.now) }
@@ -19,7 +21,7 @@ pub fn kind_in(value: &Value) -> Result<PartyKind, WireFault>
     kind_of(text_at(value, "kind")?)
 }
 
-/// The kind of a single party; any other word is fault 133.
+/// Returns the kind of a single party. Errors: 133 for any other word.
 pub fn kind_of(word: &str) -> Result<PartyKind, WireFault>
     ensures { result ≡ kind_of word.now }
 {
@@ -32,7 +34,7 @@ pub fn kind_of(word: &str) -> Result<PartyKind, WireFault>
     }
 }
 
-/// The role under the key `role`. 131: it is missing, or no text. 134: it is no role.
+/// Reads the role of the key `role`. Errors: 131 if it is missing or not a string; 134 if it is not a role.
 #[tactic(auto, unfolding(crate::specs::Bodies::Words::role_in))]
 pub fn role_in(value: &Value) -> Result<Role, WireFault>
     ensures { result ≡ role_in (view value.now) }
@@ -40,7 +42,7 @@ pub fn role_in(value: &Value) -> Result<Role, WireFault>
     role_of(text_at(value, "role")?.as_bytes())
 }
 
-/// The role that the bytes are the word of; any other word is fault 134. Letter case counts.
+/// Returns the role for its word. Words are case-sensitive. Errors: 134 for any other word.
 pub fn role_of(word: &[u8]) -> Result<Role, WireFault>
     ensures { result ≡ role_of word.now }
 {
@@ -61,14 +63,15 @@ pub fn role_of(word: &[u8]) -> Result<Role, WireFault>
     }
 }
 
-/// Whether the bytes are those of a word.
+/// Checks whether the bytes are equal to a word.
 pub fn is_word(bytes: &[u8], word: &str) -> bool
     ensures { result ≡ bytes_eq bytes.now word.now }
 {
     bytes == word.as_bytes()
 }
 
-/// The type under the key `type`. 131: it is missing, or no text. 133: it is no type of rights.
+/// Reads the type of the key `type`. Errors: 131 if it is missing or not a string; 133 if it is not a type of
+/// rights.
 #[tactic(auto, unfolding(crate::specs::Bodies::Words::type_in))]
 pub fn type_in(value: &Value) -> Result<RightType, WireFault>
     ensures { result ≡ type_in (view value.now) }
@@ -76,7 +79,7 @@ pub fn type_in(value: &Value) -> Result<RightType, WireFault>
     type_of(text_at(value, "type")?)
 }
 
-/// The type of a right; any other word is fault 133.
+/// Returns the type of a right. Errors: 133 for any other word.
 pub fn type_of(word: &str) -> Result<RightType, WireFault>
     ensures { result ≡ type_of word.now }
 {
@@ -91,7 +94,8 @@ pub fn type_of(word: &str) -> Result<RightType, WireFault>
     }
 }
 
-/// The class under the key `class`. 131: it is missing, or no text. 133: it is no class of burdens.
+/// Reads the class of the key `class`. Errors: 131 if it is missing or not a string; 133 if it is not a class
+/// of burdens.
 #[tactic(auto, unfolding(crate::specs::Bodies::Words::class_in))]
 pub fn class_in(value: &Value) -> Result<BurdenClass, WireFault>
     ensures { result ≡ class_in (view value.now) }
@@ -99,7 +103,7 @@ pub fn class_in(value: &Value) -> Result<BurdenClass, WireFault>
     class_of(text_at(value, "class")?)
 }
 
-/// The class of a burden; any other word is fault 133.
+/// Returns the class of a burden. Errors: 133 for any other word.
 fn class_of(word: &str) -> Result<BurdenClass, WireFault>
     ensures { result ≡ class_of word.now }
 {

@@ -1,7 +1,8 @@
-//! Objects of JSON, written field by field.
+//! Writes JSON objects field by field.
 ghost use Rattle.std.specs.Prelude.{◌≡◌, [], string_bytes, IfOk};
 ghost use Rattle.json.specs.Print.{print};
-ghost use Rattle.land_wire_json.specs.Texts.Fields.{Adds, AddsValue, fields_tokens, member_tokens, object_tokens, shown_data};
+ghost use Rattle.land_wire_json.specs.Texts.Fields.{Adds, AddsValue, fields_tokens, member_tokens};
+ghost use Rattle.land_wire_json.specs.Texts.Fields.{object_tokens, shown_data};
 
 use crate::texts::members::{
     write_first, write_members, write_numbers, write_outline, write_parts, write_roles, write_share,
@@ -15,20 +16,20 @@ use land_fraction::Fraction;
 use land_shape::Ring;
 use std::alloc::{AllocError, Global};
 
-/// What a field shows.
+/// The value of a field.
 #[derive(Clone, Copy)]
 pub enum Shown<'a> {
     /// A number of the register, an amount in minor units, or an area in square millimetres.
     Number(u64),
-    /// A moment, in milliseconds since 1970 UTC.
+    /// A moment, in Unix milliseconds.
     Moment(i64),
-    /// Whether something holds.
+    /// A boolean.
     Truth(bool),
     /// A text, or a word of the register.
     Text(&'a str),
-    /// A share, as it is printed.
+    /// A share, in canonical form.
     Share(Fraction),
-    /// An outline, as it is printed.
+    /// An outline, in canonical form.
     Outline(&'a Ring),
     /// Numbers, in their order.
     Numbers(&'a [u64]),
@@ -36,17 +37,17 @@ pub enum Shown<'a> {
     Members(&'a [Member]),
     /// The roles of a party.
     Roles(&'a [Role]),
-    /// The part of a parcel that stays in its unit.
+    /// The part of a parcel that remains in its unit.
     First(&'a NewParcel),
     /// The other parts of a parcel.
     Parts(&'a [Part]),
 }
 
-/// A field of an object: its name, and what it shows.
+/// A field of an object: its name and its value.
 #[derive(Clone, Copy)]
 pub struct Field<'a>(pub &'a str, pub Shown<'a>);
 
-/// Writes an object of these fields, in their order. An error is a want of memory.
+/// Writes an object with these fields in their order. The only error is out of memory.
 pub fn write_object(alloc: Global, out: &mut Writer, fields: &[Field<'_>]) -> Result<(), AllocError>
     ensures { Adds result out.old out.new (object_tokens fields.now) }
 {
@@ -55,7 +56,7 @@ pub fn write_object(alloc: Global, out: &mut Writer, fields: &[Field<'_>]) -> Re
     out.end_object()
 }
 
-/// Writes fields without the brackets of an object. An error is a want of memory.
+/// Writes fields without the braces of an object. The only error is out of memory.
 pub(crate) fn write_fields(
     alloc: Global,
     out: &mut Writer,
@@ -94,7 +95,7 @@ fn write_shown(alloc: Global, out: &mut Writer, shown: &Shown<'_>) -> Result<(),
     }
 }
 
-/// A writer with room for what most replies have. An error is a want of memory.
+/// Returns a writer with enough capacity for most replies. The only error is out of memory.
 pub fn new_text(alloc: Global) -> Result<Writer, AllocError>
     ensures tokens { IfOk result (λ out. out.tokens ≡ []) }
     ensures before { IfOk result (λ out. out.before ≡ []) }
@@ -102,7 +103,7 @@ pub fn new_text(alloc: Global) -> Result<Writer, AllocError>
     Ok(Writer::new(Vec::with_capacity(alloc, 256)?))
 }
 
-/// What was written from the beginning, as a text.
+/// Returns the text that was written.
 pub fn text_of(out: Writer) -> String
     requires { out.before ≡ [] }
     ensures { string_bytes result ≡ print out.tokens }

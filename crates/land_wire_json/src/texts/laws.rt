@@ -1,65 +1,68 @@
-//! Laws, each stated over the definitions alone.
-ghost use Rattle.land_wire_json.specs.Texts.Laws.{PartyTexts, UnitTexts, ParcelTexts, RrrTexts, SourceTexts, MutationTexts, ContentTexts};
-ghost use Rattle.land_wire_json.specs.Texts.Laws.{ShareTexts, OutlineTexts, CompactLaw, ObjectsAreTold, ContentsAreTold};
+//! Laws, each stated with definitions only.
+ghost use Rattle.land_wire_json.specs.Texts.Laws.{PartyTexts, UnitTexts, ParcelTexts, RrrTexts, SourceTexts};
+ghost use Rattle.land_wire_json.specs.Texts.Laws.{MutationTexts, ContentTexts};
+ghost use Rattle.land_wire_json.specs.Texts.Laws.{ShareTexts, OutlineTexts, CompactLaw, ObjectsAreTold};
+ghost use Rattle.land_wire_json.specs.Texts.Laws.{ContentsAreTold};
 
-/// The texts of parties as they are shown.
+/// The texts of parties in replies.
 pub fn parties_have_plain_texts()
     ensures { PartyTexts }
 {}
 
-/// The texts of units as they are shown.
+/// The texts of units in replies.
 pub fn units_have_plain_texts()
     ensures { UnitTexts }
 {}
 
-/// The texts of parcels as they are shown.
+/// The texts of parcels in replies.
 pub fn parcels_have_plain_texts()
     ensures { ParcelTexts }
 {}
 
-/// The texts of entries as they are shown: rights, restrictions, responsibilities and mortgages.
+/// The texts of entries in replies: rights, restrictions, responsibilities and mortgages.
 pub fn entries_have_plain_texts()
     ensures { RrrTexts }
 {}
 
-/// The texts of sources as they are shown.
+/// The texts of sources in replies.
 pub fn sources_have_plain_texts()
     ensures { SourceTexts }
 {}
 
-/// The texts of mutations as they are shown, the text of the content inside.
+/// The texts of mutations in replies, which contain the text of the content.
 pub fn mutations_have_plain_texts()
     ensures { MutationTexts }
 {}
 
-/// The texts of what mutations ask for, of each kind.
+/// The texts of the contents of each kind.
 pub fn contents_have_plain_texts()
     ensures { ContentTexts }
 {}
 
-/// A share is written as it is printed, between quotation marks.
+/// The text of a share is its canonical form in quotation marks.
 pub fn shares_have_plain_texts()
     ensures { ShareTexts }
 {}
 
-/// An outline is written as it is printed, between quotation marks.
+/// The text of an outline is its canonical form in quotation marks.
 pub fn outlines_have_plain_texts()
     ensures { OutlineTexts }
 {}
 
-/// The compact text of JSON with whole numbers below 2^64, the keys of each object rising, reads as that JSON.
+/// Reading the compact text of JSON returns that JSON, if numbers are natural and below 2^64, the keys of
+/// each object are increasing, and the depth is small.
 pub fn compact_texts_are_read()
     ensures { CompactLaw }
 {}
 
-/// Two objects within their limits that have one text are one object.
+/// A text determines its object, if the object is within its limits.
 pub fn texts_tell_objects()
     ensures { ObjectsAreTold }
 {
     land_shape::laws::printed_rings();
 }
 
-/// Two contents within their limits that have one text are one content.
+/// A text determines its content, if the content is within its limits.
 pub fn texts_tell_contents()
     ensures { ContentsAreTold }
 {

@@ -1,4 +1,4 @@
-//! Members of objects, each a name and a value behind it, and lists, written by the kit's writer of JSON.
+//! Writes members of objects, each a name and a value, and lists, with the kit's JSON writer.
 ghost use Rattle.land_shape.specs.Printed.{printed};
 ghost use Rattle.land_wire_json.specs.Texts.Fields.{Adds, AddsValue, member_tokens, plan_tokens, unit_tokens};
 ghost use Rattle.land_wire_json.specs.Texts.Parties.{member_data, members_data, roles_data};
@@ -17,7 +17,7 @@ use land_fraction::Fraction;
 use land_shape::Ring;
 use std::alloc::{AllocError, Global};
 
-/// A text under a name.
+/// Writes a text with its name.
 pub(crate) fn write_text(out: &mut Writer, name: &str, text: &str) -> Result<(), AllocError>
     ensures { Adds result out.old out.new (member_tokens name.now (string text.now)) }
 {
@@ -25,7 +25,7 @@ pub(crate) fn write_text(out: &mut Writer, name: &str, text: &str) -> Result<(),
     out.string(text)
 }
 
-/// A share, as it is printed.
+/// Writes a share in canonical form.
 pub(crate) fn write_share(
     alloc: Global,
     out: &mut Writer,
@@ -37,7 +37,7 @@ pub(crate) fn write_share(
     out.string(text.as_str())
 }
 
-/// An outline, as it is printed.
+/// Writes an outline in canonical form.
 pub(crate) fn write_outline(out: &mut Writer, outline: &Ring) -> Result<(), AllocError>
     ensures { AddsValue result out.old out.new (string (printed outline.now)) }
 {
@@ -45,7 +45,7 @@ pub(crate) fn write_outline(out: &mut Writer, outline: &Ring) -> Result<(), Allo
     out.string(text.as_str())
 }
 
-/// A list of numbers, in their order.
+/// Writes a list of numbers in their order.
 pub(crate) fn write_numbers(out: &mut Writer, numbers: &[u64]) -> Result<(), AllocError>
     ensures { AddsValue result out.old out.new (numbers_data numbers.now) }
 {
@@ -56,7 +56,7 @@ pub(crate) fn write_numbers(out: &mut Writer, numbers: &[u64]) -> Result<(), All
     out.end_array()
 }
 
-/// The members of a group, with their shares.
+/// Writes the members of a group with their shares.
 pub(crate) fn write_members(
     alloc: Global,
     out: &mut Writer,
@@ -82,7 +82,7 @@ fn write_member(alloc: Global, out: &mut Writer, member: Member) -> Result<(), A
     out.end_object()
 }
 
-/// The roles of a party, by their words.
+/// Writes the roles of a party by their words.
 pub(crate) fn write_roles(out: &mut Writer, roles: &[Role]) -> Result<(), AllocError>
     ensures { AddsValue result out.old out.new (roles_data roles.now) }
 {
@@ -93,7 +93,7 @@ pub(crate) fn write_roles(out: &mut Writer, roles: &[Role]) -> Result<(), AllocE
     out.end_array()
 }
 
-/// The part of a parcel that stays in its unit.
+/// Writes the part of a parcel that remains in its unit.
 pub(crate) fn write_first(out: &mut Writer, part: &NewParcel) -> Result<(), AllocError>
     ensures { AddsValue result out.old out.new (first_data part.now) }
 {
@@ -102,7 +102,7 @@ pub(crate) fn write_first(out: &mut Writer, part: &NewParcel) -> Result<(), Allo
     out.end_object()
 }
 
-/// A label and an outline, under their names.
+/// Writes a label and an outline with their names.
 fn write_plan(out: &mut Writer, label: &str, outline: &Ring) -> Result<(), AllocError>
     ensures { Adds result out.old out.new (plan_tokens label.now outline.now) }
 {
@@ -111,7 +111,7 @@ fn write_plan(out: &mut Writer, label: &str, outline: &Ring) -> Result<(), Alloc
     write_outline(out, outline)
 }
 
-/// The other parts, in their order.
+/// Writes the other parts in their order.
 pub(crate) fn write_parts(out: &mut Writer, parts: &[Part]) -> Result<(), AllocError>
     ensures { AddsValue result out.old out.new (parts_data parts.now) }
 {
@@ -122,7 +122,7 @@ pub(crate) fn write_parts(out: &mut Writer, parts: &[Part]) -> Result<(), AllocE
     out.end_array()
 }
 
-/// A part, with the name of the new unit that it goes to, if there is one.
+/// Writes a part, with the name of its new unit if it goes to one.
 fn write_part(out: &mut Writer, part: &Part) -> Result<(), AllocError>
     ensures { AddsValue result out.old out.new (part_data part.now) }
 {
@@ -132,7 +132,7 @@ fn write_part(out: &mut Writer, part: &Part) -> Result<(), AllocError>
     out.end_object()
 }
 
-/// The name of a new unit, if there is one.
+/// Writes the name of a new unit, if there is one.
 fn write_unit(out: &mut Writer, unit: &Option<Text>) -> Result<(), AllocError>
     ensures { Adds result out.old out.new (unit_tokens unit.now) }
 {

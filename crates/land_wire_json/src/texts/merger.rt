@@ -1,4 +1,4 @@
-//! What mergers ask for, in JSON.
+//! Writes the contents of mergers as JSON.
 ghost use Rattle.land_wire_json.specs.Texts.Fields.{AddsValue};
 ghost use Rattle.land_wire_json.specs.Texts.Mergers.{merger_data};
 
@@ -7,7 +7,7 @@ use json::Writer;
 use land_core::merger::Merger;
 use std::alloc::{AllocError, Global};
 
-/// The fields of a merger.
+/// Writes the fields of a merger.
 pub(crate) fn write_merger(
     alloc: Global,
     out: &mut Writer,

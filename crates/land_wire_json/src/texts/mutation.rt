@@ -1,7 +1,8 @@
-//! Mutations in JSON, and what they ask for.
+//! Writes mutations and their contents as JSON.
 ghost use Rattle.std.specs.Prelude.{◌≡◌, IfOk, string_bytes};
 ghost use Rattle.land_wire_json.specs.Texts.Fields.{AddsValue};
-ghost use Rattle.land_wire_json.specs.Texts.Mutations.{content_data, content_text, discharge_data, mortgage_data, mutation_data, transfer_data};
+ghost use Rattle.land_wire_json.specs.Texts.Mutations.{content_data, content_text, discharge_data};
+ghost use Rattle.land_wire_json.specs.Texts.Mutations.{mortgage_data, mutation_data, transfer_data};
 
 use crate::texts::fields::{Field, Shown, new_text, text_of, write_fields, write_object};
 use crate::texts::members::write_text;
@@ -13,7 +14,7 @@ use land_core::mutation::Mutation;
 use land_core::words::{act_word, state_word};
 use std::alloc::{AllocError, Global};
 
-/// A mutation as it is shown.
+/// Writes a mutation of a reply.
 pub(crate) fn write_mutation(
     alloc: Global,
     out: &mut Writer,
@@ -37,8 +38,8 @@ pub(crate) fn write_mutation(
     out.end_object()
 }
 
-/// What a mutation asks for as it is written: compact JSON, keys in the order of their bytes, without the word of its act.
-/// An error is a want of memory.
+/// Returns the text of a content: compact JSON, keys in byte order, without the word of its act. The only
+/// error is out of memory.
 pub fn content_text(alloc: Global, content: &Content) -> Result<String, AllocError>
     ensures { IfOk result (λ text. string_bytes text ≡ content_text content.now) }
 {
@@ -47,7 +48,7 @@ pub fn content_text(alloc: Global, content: &Content) -> Result<String, AllocErr
     Ok(text_of(out))
 }
 
-/// The fields of a content, without the word of its act.
+/// Writes the fields of a content, without the word of its act.
 fn write_content(alloc: Global, out: &mut Writer, content: &Content) -> Result<(), AllocError>
     ensures { AddsValue result out.old out.new (content_data content.now) }
 {

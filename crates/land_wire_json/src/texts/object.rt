@@ -1,4 +1,4 @@
-//! Objects in JSON.
+//! Writes objects as JSON.
 ghost use Rattle.land_wire_json.specs.Texts.Fields.{AddsValue};
 ghost use Rattle.land_wire_json.specs.Texts.Objects.{object_data};
 
@@ -12,7 +12,7 @@ use json::Writer;
 use land_core::object::Object;
 use std::alloc::{AllocError, Global};
 
-/// Writes an object as it is shown; an error is a want of memory.
+/// Writes an object of a reply. The only error is out of memory.
 pub fn write_as_shown(alloc: Global, out: &mut Writer, object: &Object) -> Result<(), AllocError>
     ensures { AddsValue result out.old out.new (object_data object.now) }
 {

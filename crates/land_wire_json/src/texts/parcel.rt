@@ -1,4 +1,4 @@
-//! Parcels in JSON.
+//! Writes parcels as JSON.
 ghost use Rattle.land_wire_json.specs.Texts.Fields.{AddsValue};
 ghost use Rattle.land_wire_json.specs.Texts.Parcels.{parcel_data};
 
@@ -7,7 +7,7 @@ use json::Writer;
 use land_core::parcel::Parcel;
 use std::alloc::{AllocError, Global};
 
-/// A parcel as it is shown, with twice the area of its outline.
+/// Writes a parcel of a reply, with twice the area of its outline.
 pub(crate) fn write_parcel(
     alloc: Global,
     out: &mut Writer,

@@ -1,4 +1,4 @@
-//! Parties in JSON.
+//! Writes parties as JSON.
 ghost use Rattle.land_wire_json.specs.Texts.Fields.{AddsValue};
 ghost use Rattle.land_wire_json.specs.Texts.Parties.{party_data};
 
@@ -8,7 +8,7 @@ use land_core::party::Party;
 use land_core::words::party_word;
 use std::alloc::{AllocError, Global};
 
-/// A party as it is shown.
+/// Writes a party of a reply.
 pub(crate) fn write_party(alloc: Global, out: &mut Writer, party: &Party) -> Result<(), AllocError>
     ensures { AddsValue result out.old out.new (party_data party.now) }
 {

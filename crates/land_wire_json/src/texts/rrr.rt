@@ -1,4 +1,4 @@
-//! The entries of units in JSON: rights, restrictions, responsibilities and mortgages.
+//! Writes the entries of units as JSON: rights, restrictions, responsibilities and mortgages.
 ghost use Rattle.land_wire_json.specs.Texts.Fields.{AddsValue};
 ghost use Rattle.land_wire_json.specs.Texts.Rrrs.{burden_data, mortgage_data, right_data, rrr_data};
 
@@ -9,7 +9,7 @@ use land_core::words::right_word;
 use land_fraction::Fraction;
 use std::alloc::{AllocError, Global};
 
-/// An entry as it is shown.
+/// Writes an entry of a reply.
 pub(crate) fn write_rrr(alloc: Global, out: &mut Writer, entry: &Rrr) -> Result<(), AllocError>
     ensures { AddsValue result out.old out.new (rrr_data entry.now) }
 {
@@ -49,7 +49,7 @@ fn write_right(
     write_object(alloc, out, &fields)
 }
 
-/// A restriction or a responsibility, with its words.
+/// Writes a restriction or a responsibility with its words.
 fn write_burden<'a>(
     alloc: Global,
     out: &mut Writer,

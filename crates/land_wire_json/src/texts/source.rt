@@ -1,4 +1,4 @@
-//! Sources in JSON.
+//! Writes sources as JSON.
 ghost use Rattle.land_wire_json.specs.Texts.Fields.{AddsValue};
 ghost use Rattle.land_wire_json.specs.Texts.Sources.{source_data};
 
@@ -8,7 +8,7 @@ use land_core::source::Source;
 use land_core::words::source_word;
 use std::alloc::{AllocError, Global};
 
-/// A source as it is shown.
+/// Writes a source of a reply.
 pub(crate) fn write_source(
     alloc: Global,
     out: &mut Writer,

@@ -1,4 +1,4 @@
-//! What subdivisions ask for, in JSON.
+//! Writes the contents of subdivisions as JSON.
 ghost use Rattle.land_wire_json.specs.Texts.Fields.{AddsValue};
 ghost use Rattle.land_wire_json.specs.Texts.Subdivisions.{subdivision_data};
 
@@ -7,7 +7,7 @@ use json::Writer;
 use land_core::subdivision::Subdivision;
 use std::alloc::{AllocError, Global};
 
-/// The fields of a subdivision.
+/// Writes the fields of a subdivision.
 pub(crate) fn write_subdivision(
     alloc: Global,
     out: &mut Writer,

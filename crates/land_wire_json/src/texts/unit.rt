@@ -1,4 +1,4 @@
-//! Units in JSON.
+//! Writes units as JSON.
 ghost use Rattle.land_wire_json.specs.Texts.Fields.{AddsValue};
 ghost use Rattle.land_wire_json.specs.Texts.Units.{unit_data};
 
@@ -7,7 +7,7 @@ use json::Writer;
 use land_core::unit::Unit;
 use std::alloc::{AllocError, Global};
 
-/// A unit as it is shown.
+/// Writes a unit of a reply.
 pub(crate) fn write_unit(alloc: Global, out: &mut Writer, unit: &Unit) -> Result<(), AllocError>
     ensures { AddsValue result out.old out.new (unit_data unit.now) }
 {

@@ -5,6 +5,6 @@ use Rattle.land_sheet.specs.Extracts.Writing.{rows_of}
 use Rattle.land_sheet.specs.Rows.{IsBetweenRows}
 use Rattle.land_sheet.proofs.rows.write_objects.Given as goal
 
--- the rows so far are written, and none is begun
+-- the previous rows are written, and the writer is between rows
 abbrev pub invariant-rows : goal.invariant-rows
 invariant-rows g l = Appends (text_written g.W.Write.contents l.fn.writer) (text_written g.W.Write.contents l.writer) (rows_of (take l.row-index l.rows)) × IsBetweenRows l.writer

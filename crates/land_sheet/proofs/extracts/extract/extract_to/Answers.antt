@@ -15,19 +15,19 @@ use Rattle.land_streams.proofs.Fronts.{front_of}
 use Rattle.land_streams.specs.Writing.{IsFront, IsWhole}
 use Rattle.land_sheet.proofs.extracts.extract.extract_to.Goals as goal
 
--- the list is not given
+-- the list is denied or fails
 pub returns-in_err-listed-clause-extracted : goal.returns-in_err-listed-clause-extracted
 returns-in_err-listed-clause-extracted g c honest =
     let alike : to_z w64 (of_z w64 c.args.clock) ≡ c.args.clock = search rules in
     let so = subst (λ (clock : ℤ). IsListed (list_reply clock c.args.caller c.args.kind c.args.at (g.K.Keeper.timeline c.args.keeper.now)) (Err c.in_err-listed.field-0.0)) alike (c.in_err-listed.ensures.listed honest) in
     not_told _ _ (g.W.Write.contents c.args.writer.now) c.from_residual.result c.in_err-listed.field-0.0 c.from_residual.ensures.1 so
 
--- there was no memory for the header
+-- out of memory for the header
 pub returns-in_err-header-clause-extracted : goal.returns-in_err-header-clause-extracted
 returns-in_err-header-clause-extracted g c honest =
     not_told _ _ (g.W.Write.contents c.args.writer.now) c.from_residual-in_err-header.result _ c.from_residual-in_err-header.ensures.1 refl
 
--- the header is written, and rows are
+-- the header is written, and rows follow
 pub returns-in-Ok-clause-extracted : goal.returns-in-Ok-clause-extracted
 returns-in-Ok-clause-extracted g c honest =
     let alike : to_z w64 (of_z w64 c.args.clock) ≡ c.args.clock = search rules in
@@ -50,7 +50,7 @@ returns-in-Ok-clause-extracted g c honest =
     (ap₂ (λ (r : Register) (ns : List ℕ). rows_at r c.args.kind ns) (ap₂ register_at same (alike_at ∙ moment)) numbers) (c.write_parts.ensures.put honest) in
     extracted _ _ a d c.write_parts.result lists (put_then (header_text c.args.kind) (rows_at (register_at tl t) c.args.kind (seen_of (register_at tl t) c.args.caller c.args.kind)) 0 c.in-Ok.written a b d c.write_parts.result first rows)
 
--- the header is cut short
+-- the header is truncated
 pub returns-clause-extracted : goal.returns-clause-extracted
 returns-clause-extracted g c honest =
     let alike : to_z w64 (of_z w64 c.args.clock) ≡ c.args.clock = search rules in

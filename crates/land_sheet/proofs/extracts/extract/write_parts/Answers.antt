@@ -8,7 +8,7 @@ use Rattle.land_sheet.specs.Extracts.{rows_at}
 use Rattle.land_sheet.specs.Extracts.Writing.{rows_of}
 use Rattle.land_sheet.proofs.extracts.extract.write_parts.Goals as goal
 
--- a part is cut short
+-- a part is truncated
 pub returns-in_err-written-in-Ok-clause-put : goal.returns-in_err-written-in-Ok-clause-put
 returns-in_err-written-in-Ok-clause-put g c honest =
     let tl = g.K.Keeper.timeline c.args.keeper.now in

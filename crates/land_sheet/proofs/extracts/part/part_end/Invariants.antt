@@ -1,7 +1,7 @@
 use Rattle.std.proofs.Common.{◌<◌, ◌≤◌, ◌+◌, ◌*◌, ◌-◌, slice_index}
 use Rattle.land_sheet.proofs.extracts.part.part_end.Given as goal
 
--- the part has a number, ends within the list, has few numbers, and is dense
+-- the part has a number, ends within the list, has at most 256 numbers, and is dense
 abbrev pub invariant-loop-end : goal.invariant-loop-end
 invariant-loop-end l = record {
   further : l.begin < l.end;

@@ -16,7 +16,7 @@ seen_stand : (r : Register) (caller : Caller) (k : Kind) (result : Result (List 
 seen_stand r caller k (Ok it) is = subst (λ (numbers : List ℕ). AllStand r k numbers) (sym is) (all_stand r caller k)
 seen_stand r caller k (Err fault) is = tt
 
--- what is seen stands
+-- each number that is seen exists
 pub returns-clause-stand : goal.returns-clause-stand
 returns-clause-stand g c honest =
     let r = register_at (g.K.Keeper.timeline c.args.keeper.now) c.args.at in

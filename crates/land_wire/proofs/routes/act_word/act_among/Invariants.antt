@@ -1,4 +1,4 @@
--- The act is among those that were not looked at.
+-- The act is among those that were not compared yet.
 use Rattle.std.proofs.Common.{◌≡◌, drop, bytes_eq}
 use Rattle.std.specs.List.{find}
 use Rattle.land_wire.specs.Routes.ActWords.{act_word}

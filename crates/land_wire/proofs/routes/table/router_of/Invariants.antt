@@ -1,4 +1,4 @@
--- The router holds the entries that were looked at, and each of the others is free.
+-- The router contains the entries that were added, and each of the others has no conflict with it.
 use Rattle.std.proofs.Common.{◌≡◌, [], take, drop, true}
 use Rattle.std.specs.List.{fold}
 use Rattle.land_wire.specs.Routes.Table.{are_free, with_entry}

@@ -24,7 +24,7 @@ unfolding outline_of
 returns-in-Ok c =
     ring_is c.one_answer.ensures c.args.text.now _ c.in-Ok.ensures.ring (answer_of c.args.text.now) (c.outlines_have_their_answers.ensures c.args.text.now)
 
--- a fault that was compared with want of memory and is not the same
+-- a fault that was compared with out of memory, and differs from it
 other : (f : ShapeFault) (b : Bool) → b ≡ sameb the_type f shape.NoMemory → b ≡ false → f ≢ shape.NoMemory
 other f b e differs h = false≢true (sym differs ∙ (e ∙ ap (λ g. sameb the_type g shape.NoMemory) h))
 

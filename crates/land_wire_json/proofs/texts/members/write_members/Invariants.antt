@@ -5,7 +5,7 @@ use Rattle.serde_json.specs.View.{items_of}
 use Rattle.serde_json.specs.Written.{items_outline}
 use Rattle.land_wire_json.proofs.texts.members.write_members.Given as goal
 
--- what is written so far, and what is to come
+-- the tokens written, and the tokens that follow
 abbrev pub invariant-loop-member : goal.invariant-loop-member
 invariant-loop-member l = record {
   told : l.out.tokens ++ items_tokens (items_outline (items_of (map member_data (drop l.member-index l.members))))

@@ -5,7 +5,7 @@ use Rattle.serde_json.specs.View.{items_of}
 use Rattle.serde_json.specs.Written.{items_outline}
 use Rattle.land_wire_json.proofs.texts.members.write_numbers.Given as goal
 
--- what is written so far, and what is to come
+-- the tokens written, and the tokens that follow
 abbrev pub invariant-loop-number : goal.invariant-loop-number
 invariant-loop-number l = record {
   told : l.out.tokens ++ items_tokens (items_outline (items_of (map number_data (drop l.number-index l.numbers))))

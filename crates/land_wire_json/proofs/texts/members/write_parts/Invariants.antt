@@ -5,7 +5,7 @@ use Rattle.serde_json.specs.View.{items_of}
 use Rattle.serde_json.specs.Written.{items_outline}
 use Rattle.land_wire_json.proofs.texts.members.write_parts.Given as goal
 
--- what is written so far, and what is to come
+-- the tokens written, and the tokens that follow
 abbrev pub invariant-loop-part : goal.invariant-loop-part
 invariant-loop-part l = record {
   told : l.out.tokens ++ items_tokens (items_outline (items_of (map part_data (drop l.part-index l.parts))))

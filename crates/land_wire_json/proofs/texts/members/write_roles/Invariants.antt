@@ -5,7 +5,7 @@ use Rattle.serde_json.specs.View.{items_of}
 use Rattle.serde_json.specs.Written.{items_outline}
 use Rattle.land_wire_json.proofs.texts.members.write_roles.Given as goal
 
--- what is written so far, and what is to come
+-- the tokens written, and the tokens that follow
 abbrev pub invariant-loop-role : goal.invariant-loop-role
 invariant-loop-role l = record {
   told : l.out.tokens ++ items_tokens (items_outline (items_of (map role_data (drop l.role-index l.roles))))

@@ -6,7 +6,7 @@ use Rattle.land_keep.specs.Timeline.{register_at}
 use Rattle.land_sheet.proofs.ExtractRows.{result_given}
 use Rattle.land_sheet.proofs.extracts.seen.Seen.next.Goals as goal
 
--- the row is that of the first number that is left
+-- the row is that of the first remaining number
 pub returns-clause-gives : goal.returns-clause-gives
 returns-clause-gives g c honest stand =
     let it = c.args.self.now in
