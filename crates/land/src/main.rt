@@ -3,7 +3,7 @@
 
 use land_commands::host::Host;
 use land_commands::local_host::LocalHost;
-use land_commands::obey::obey;
+use land_commands::obey::run_args;
 use land_commands::program_fault::ProgramFault;
 use land_commands::run::complain;
 use land_desk::service::machine_clock::MachineClock;
@@ -39,7 +39,7 @@ fn start<R: Env + AllocGlobal, H: Host, I: Read, O: Write, E: Write, C: Clock>(
     clock: &mut C,
 ) -> u8 {
     match words(rt) {
-        Ok(words) => obey(host, &words, input, output, errors, clock),
+        Ok(words) => run_args(host, &words, input, output, errors, clock),
         Err(fault) => complain(errors, fault),
     }
 }

@@ -1,7 +1,7 @@
 //! Extracts of the register in a file.
 ghost use Rattle.land_commands.specs.Extracting.{IsExtractedOver, IsExtracting};
 
-use crate::filed::found;
+use crate::filed::open_register;
 use crate::host::Host;
 use crate::refusal::Refusal;
 use land_core::caller::Caller;
@@ -36,7 +36,7 @@ pub fn extract<H: Host, O: Write>(
 ) -> Result<(), Refusal>
     ensures { IsExtracting H.Store.Store (H.holds file.now) wanted (O.contents output.old) (O.contents output.new) result }
 {
-    let tables = found(host, file)?;
+    let tables = open_register(host, file)?;
     let (done, _left) = extract_tables(host.alloc(), tables, wanted, output);
     match done {
         Ok(_written) => Ok(()),

@@ -16,7 +16,7 @@ use std::alloc::{AllocError, Global};
 use std::io::Write;
 
 /// Makes a new register in a file, which is made where it is not there. A file that has tables is left as it is.
-pub fn make<H: Host>(host: &mut H, file: &str) -> Result<(), ProgramFault>
+pub fn create_register<H: Host>(host: &mut H, file: &str) -> Result<(), ProgramFault>
     ensures { IsMaking H.Store.Store (H.holds file.now) H.is_closed result }
 {
     let conn = host.open_new(file)?;
@@ -36,7 +36,7 @@ pub(crate) fn close<H: Host>(conn: Connection<H::Store>) -> Result<(), ProgramFa
 }
 
 /// The register in a file, which is left as it is.
-pub(crate) fn found<H: Host>(host: &mut H, file: &str) -> Result<Tables<H::Store>, ProgramFault>
+pub(crate) fn open_register<H: Host>(host: &mut H, file: &str) -> Result<Tables<H::Store>, ProgramFault>
     ensures finding { IsFinding H.Store.Store (H.holds file.now) result }
     ensures port { H.coming host.new ≡ H.coming host.old }
 {
@@ -55,7 +55,7 @@ pub fn check<H: Host, O: Write>(
 ) -> Result<(), ProgramFault>
     ensures { IsChecking H.Store.Store (H.holds file.now) (O.contents output.old) (O.contents output.new) result }
 {
-    let tables = found(host, file)?;
+    let tables = open_register(host, file)?;
     let line = sound_line(host.alloc(), tables.last(), tables.next())?;
     match send(output, line.as_bytes()) {
         Ok(()) => Ok(()),
@@ -87,7 +87,7 @@ pub fn serve_file<H: Host, C: Clock>(
       clock_after = clock.new;
     }) result }
 {
-    let tables = found(host, file)?;
+    let tables = open_register(host, file)?;
     let Ok(mut listener) = host.listen(port) else {
         return Err(ProgramFault::Listen);
     };

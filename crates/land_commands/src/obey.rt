@@ -12,7 +12,7 @@ use std::io::{Read, Write};
 
 /// Does what these words ask for, of which the first is the program's name, over the streams and the machine's clock that are handed in, and
 /// gives the status: 0, or 1 for a fault, which is told on `errors`; 2 where the words are refused, which `clap` tells on `errors`.
-pub fn obey<H: Host, I: Read, O: Write, E: Write, C: Clock>(
+pub fn run_args<H: Host, I: Read, O: Write, E: Write, C: Clock>(
     host: &mut H,
     words: &[String],
     input: &mut I,

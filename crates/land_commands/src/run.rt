@@ -9,7 +9,7 @@ ghost use Rattle.land_tables.specs.Office.{IsCreated};
 ghost use Rattle.sqlite.specs.Steps.{over_memory};
 
 use crate::extracting::{Wanted, extract};
-use crate::filed::{check, make, serve_file};
+use crate::filed::{check, create_register, serve_file};
 use crate::host::Host;
 use crate::migrating::migrate;
 use crate::program_fault::ProgramFault;
@@ -44,7 +44,7 @@ pub fn run_command<H: Host, I: Read, O: Write, E: Write, C: Clock>(
             let served = talk(host.alloc(), clock, input, output);
             conclude(errors, served)
         }
-        Command::New { file } => settle(errors, make(host, file)),
+        Command::New { file } => settle(errors, create_register(host, file)),
         Command::Serve {
             file,
             port,

@@ -6,7 +6,7 @@ mod commands;
 pub mod laws;
 mod matching;
 mod options;
-mod reading;
+mod parse;
 pub mod words_fault;
 
-pub use reading::read_words;
+pub use parse::read_words;

@@ -156,7 +156,7 @@ module _ {C : Type 0} (hears : State C → Request → Reply → State C → Typ
 
   last_asked : (bytes left : List ℕ) (from : State C) (x : Exchange) (xs : List Exchange) (rest : List ℕ) (now : State C)
       → Goes hears bytes from (x ∷ xs) rest now → rest ≡ [] → left ≡ []
-      → (items : List Item) × (last : List ℕ) × Begins bytes items last × (length items ≡ length xs) × AsksForOne last left
+      → (items : List Item) × (at_last : List ℕ) × Begins bytes items at_last × (length items ≡ length xs) × AsksForOne at_last left
   last_asked bytes left from x [] rest now so none all =
       ([], bytes, refl, refl, (x.item, so.0, so.2.0, none_after x.item (closes x.reply) bytes so.0 left so.3 (sym so.4.0 ∙ none) all))
   last_asked bytes left from x (y ∷ ys) rest now so none all =

@@ -56,7 +56,7 @@ pub struct Answer {
 
 /// Answers a request that was read, or the fault in it. Where there is no room for the answer's bytes it is 501, and
 /// nothing is changed.
-pub fn exchange<K: Keeper, C: Clock>(
+pub fn handle<K: Keeper, C: Clock>(
     alloc: Global,
     keeper: &mut K,
     clock: &mut C,
@@ -73,7 +73,7 @@ pub fn exchange<K: Keeper, C: Clock>(
     ensures was { K.honest keeper.new → K.honest keeper.old }
 {
     match request {
-        Err(WireFault::NoMemory) => failed(StoreFault::NoMemory, ends, head),
+        Err(WireFault::NoMemory) => store_failure(StoreFault::NoMemory, ends, head),
         Err(fault) => answered_or_failed(alloc, &Reply::Fault(fault.number()), ends, head),
         Ok(request) => exchange_request(alloc, keeper, clock, &request, ends, head),
     }
@@ -98,14 +98,14 @@ fn exchange_request<K: Keeper, C: Clock>(
 {
     let reading = clock.read();
     let prepared = match prepare(alloc, keeper, reading, request) {
-        Err(fault) => return failed(fault, ends, head),
+        Err(fault) => return store_failure(fault, ends, head),
         Ok(prepared) => prepared,
     };
     let Some(answer) = answered(alloc, prepared.reply(), ends, head) else {
-        return failed(StoreFault::NoMemory, ends, head);
+        return store_failure(StoreFault::NoMemory, ends, head);
     };
     match finish(alloc, keeper, prepared) {
-        Err(fault) => failed(fault, ends, head),
+        Err(fault) => store_failure(fault, ends, head),
         Ok(_) => answer,
     }
 }
@@ -123,7 +123,7 @@ fn answered_or_failed(alloc: Global, wanted: &Reply, ends: bool, head: bool) -> 
 {
     match answered(alloc, wanted, ends, head) {
         Some(answer) => answer,
-        None => failed(StoreFault::NoMemory, ends, head),
+        None => store_failure(StoreFault::NoMemory, ends, head),
     }
 }
 
@@ -150,7 +150,7 @@ fn answered(alloc: Global, reply: &Reply, ends: bool, head: bool) -> Option<Answ
 }
 
 /// The answer of a store fault, which wants no memory.
-fn failed(fault: StoreFault, ends: bool, head: bool) -> Answer
+fn store_failure(fault: StoreFault, ends: bool, head: bool) -> Answer
     ensures { IsAnswer result (reply.Store (keep_number fault)) ends head }
 {
     let last = ends || fault != StoreFault::NoMemory;

@@ -100,7 +100,7 @@ fn serve_items<R: Read, W: Write, K: Keeper, C: Clock>(
     ensures bound { IfBoth (R.remaining reader.old.reader.now) (R.remaining reader.new.reader.now)
         (IsSpent (1024 * reader.old.left) (1024 * reader.new.left)) }
     ensures same_reference { reader.new.reader.ghost_name ≡ reader.old.reader.ghost_name }
-    ensures failed { IfErr result (λ fault. fault ≡ DeskFault.Read → (reader.new.left ≡ 0) ⊎ (reader.new.left < reader.old.left)) }
+    ensures read_fault { IfErr result (λ fault. fault ≡ DeskFault.Read → (reader.new.left ≡ 0) ⊎ (reader.new.left < reader.old.left)) }
 {
     let mut buffer = Vec::new(alloc);
     let mut replies = 0;

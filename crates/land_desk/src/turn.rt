@@ -17,7 +17,7 @@ ghost use Rattle.land_wire.specs.Reading.{reading};
 ghost use Rattle.land_wire.specs.Routes.Table.{FindsRoutes};
 ghost use Rattle.land_wire_json.specs.Bodies.WireFaults.{Gives};
 
-use crate::exchange::{Answer, exchange, refuse};
+use crate::exchange::{Answer, handle, refuse};
 use crate::serve::DeskFault;
 use httparse::spans::{HeaderSpan, RequestSpans};
 use land_core::ask::Request;
@@ -83,7 +83,7 @@ pub(crate) fn take_turn<R: Read, W: Write, K: Keeper, C: Clock>(
     ensures fewer { reader.new.left ≤ reader.old.left }
     ensures progress { IfOk result (λ turn. turn ≡ Turn.More
         → length buffer.new.items + 1024 * reader.new.left < length buffer.old.items + 1024 * reader.old.left) }
-    ensures failed { IfErr result (λ fault. fault ≡ DeskFault.Read → (reader.new.left ≡ 0) ⊎ (reader.new.left < reader.old.left)) }
+    ensures read_fault { IfErr result (λ fault. fault ≡ DeskFault.Read → (reader.new.left ≡ 0) ⊎ (reader.new.left < reader.old.left)) }
 {
     match read_item(reader, buffer, headers) {
         Err(StreamFault::Read) => Err(DeskFault::Read),
@@ -134,7 +134,7 @@ fn answer_request<K: Keeper, C: Clock>(
     let request = request_at(alloc, router, buffer, headers, &spans, length);
     let last = ends(&spans, buffer, headers);
     let head = is_head(&spans, buffer, headers);
-    exchange(alloc, keeper, clock, request, last, head)
+    handle(alloc, keeper, clock, request, last, head)
 }
 
 /// The request that stands at the front of the buffer, or its first fault.

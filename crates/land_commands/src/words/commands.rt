@@ -165,10 +165,10 @@ pub fn land<'a>(alloc: Global, choices: Choices<'a>) -> Result<Command<'a>, Allo
     let about =
         "A land register: parties, their rights, restrictions and responsibilities, and the land that these are of";
     let land = of_commands(named(alloc, "land", about, MORE));
-    let talking = with_command(land, talk(alloc)?)?;
-    let making = with_command(talking, make(alloc)?)?;
-    let serving = with_command(making, serve(alloc)?)?;
-    let checking = with_command(serving, check(alloc)?)?;
-    let migrating = with_command(checking, migrate(alloc)?)?;
-    with_command(migrating, extract(alloc, choices)?)
+    let with_talk = with_command(land, talk(alloc)?)?;
+    let with_new = with_command(with_talk, make(alloc)?)?;
+    let with_serve = with_command(with_new, serve(alloc)?)?;
+    let with_check = with_command(with_serve, check(alloc)?)?;
+    let with_migrate = with_command(with_check, migrate(alloc)?)?;
+    with_command(with_migrate, extract(alloc, choices)?)
 }

@@ -34,4 +34,4 @@ AsksForOne bytes left = (item : Item) × (rest : List ℕ) × IsItem bytes item 
 abbrev pub AsksFor : (items : ℕ) → (bytes left : List ℕ) → Type 0
 AsksFor n bytes left =
     ((n ≡ 0) × (left ≡ []))
-    ⊎ ((items : List Item) × (last : List ℕ) × Begins bytes items last × (n ≡ length items + 1) × AsksForOne last left)
+    ⊎ ((items : List Item) × (at_last : List ℕ) × Begins bytes items at_last × (n ≡ length items + 1) × AsksForOne at_last left)

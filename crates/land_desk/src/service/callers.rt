@@ -35,8 +35,8 @@ impl<'a, M: time::Clock> CallReader<'a, M> {
         let served = self.watch.now()?;
         let mut piece = [0; 4096];
         for _ in 0..MOST_READS {
-            let rest = self.watch.rest(served)?;
-            self.stream.set_read_timeout(Some(rest))?;
+            let left = self.watch.linger_left(served)?;
+            self.stream.set_read_timeout(Some(left))?;
             if self.stream.read(&mut piece)? == 0 {
                 return Ok(());
             }

@@ -1,7 +1,7 @@
 //! How long a connection is waited for.
 ghost use Rattle.std.specs.Prelude.{◌≡◌, ◌≤◌, IfOk};
 ghost use Rattle.std.specs.Duration.{as_nanos};
-ghost use Rattle.land_desk.specs.Service.Waiting.{after, patience, waited};
+ghost use Rattle.land_desk.specs.Service.Waiting.{idle_timeout, linger, read_timeout_after};
 
 use std::cell::Cell;
 use std::time::{Duration, Instant};
@@ -18,7 +18,7 @@ const AFTER: u64 = 1;
 
 /// How long the next bytes of a request are waited for that has taken so long already.
 pub fn wait_after(taken: Duration) -> Duration
-    ensures { as_nanos result ≡ waited (as_nanos taken) }
+    ensures { as_nanos result ≡ read_timeout_after (as_nanos taken) }
 {
     let most = Duration::from_secs(PATIENCE);
     let left = Duration::from_secs(WHOLE).saturating_sub(taken);
@@ -30,7 +30,7 @@ pub fn wait_after(taken: Duration) -> Duration
 #[derive(Drop)]
 pub struct Stopwatch<M> {
     machine: M,
-    begun: Cell<Option<Instant>>,
+    started_at: Cell<Option<Instant>>,
 }
 
 impl<M: time::Clock> Stopwatch<M> {
@@ -38,7 +38,7 @@ impl<M: time::Clock> Stopwatch<M> {
     pub fn new(machine: M) -> Stopwatch<M> {
         Stopwatch {
             machine,
-            begun: Cell::new(None),
+            started_at: Cell::new(None),
         }
     }
 
@@ -49,30 +49,30 @@ impl<M: time::Clock> Stopwatch<M> {
 
     /// Bytes of a request came, perhaps its first ones.
     pub fn start(&self) -> io::Result<()> {
-        if self.begun.get().is_none() {
-            self.begun.set(Some(self.now()?));
+        if self.started_at.get().is_none() {
+            self.started_at.set(Some(self.now()?));
         }
         Ok(())
     }
 
     /// A connection is new, or a reply was written: the next bytes begin a request.
     pub fn reset(&self) {
-        self.begun.set(None);
+        self.started_at.set(None);
     }
 
     /// How long the next bytes are waited for: not at all where the request at hand has taken its time.
     pub fn wait(&self) -> io::Result<Duration>
-        ensures { IfOk result (λ wait. as_nanos wait ≤ patience) }
+        ensures { IfOk result (λ wait. as_nanos wait ≤ idle_timeout) }
     {
-        match self.begun.get() {
-            Some(begun) => Ok(wait_after(begun.elapsed(&self.machine)?)),
+        match self.started_at.get() {
+            Some(started_at) => Ok(wait_after(started_at.elapsed(&self.machine)?)),
             None => Ok(Duration::from_secs(PATIENCE)),
         }
     }
 
     /// How long a connection is still read on that was served at this moment.
-    pub fn rest(&self, served: Instant) -> io::Result<Duration>
-        ensures { IfOk result (λ rest. as_nanos rest ≤ after) }
+    pub fn linger_left(&self, served: Instant) -> io::Result<Duration>
+        ensures { IfOk result (λ left. as_nanos left ≤ linger) }
     {
         let gone = served.elapsed(&self.machine)?;
         Ok(Duration::from_secs(AFTER).saturating_sub(gone))

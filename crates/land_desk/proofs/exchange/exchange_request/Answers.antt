@@ -24,7 +24,7 @@ returns-in-Err-clause-heard g c from at =
     (fault_tells Prepared before closed c.in-Err.fault closes)
     c.in-Err.ensures.was (was_open Prepared before closed c.in-Err.fault closes) (λ trust is_open. c.in-Err.ensures.same (trust, is_open))
     from at in
-    (it.0, (reply.Store (number_of c.in-Err.fault), it.1, c.failed.ensures), it.2)
+    (it.0, (reply.Store (number_of c.in-Err.fault), it.1, c.store_failure.ensures), it.2)
 
 pub returns-in_default-clause-heard : goal.returns-in_default-clause-heard
 returns-in_default-clause-heard g c from at =
@@ -39,7 +39,7 @@ returns-in_default-clause-heard g c from at =
     (fault_tells Prepared before closed NoMemory unsaid)
     c.in-Ok.ensures.was (λ is_open. opened.0) (λ trust is_open. c.in-Ok.ensures.same (trust, is_open))
     from at in
-    (it.0, (reply.Store 501, it.1, c.failed-in_default.ensures), it.2)
+    (it.0, (reply.Store 501, it.1, c.store_failure-in_default.ensures), it.2)
 
 pub returns-in-Err-finish-clause-heard : goal.returns-in-Err-finish-clause-heard
 returns-in-Err-finish-clause-heard g c from at =
@@ -58,7 +58,7 @@ returns-in-Err-finish-clause-heard g c from at =
     (λ trust. c.in-Ok.ensures.was (c.in-Err-finish.ensures.was trust)) (λ is_open. opened.0)
     (λ trust is_open. c.in-Err-finish.ensures.err (trust, is_open) ∙ c.in-Ok.ensures.same (c.in-Err-finish.ensures.was trust, opened.1))
     from at in
-    (it.0, (reply.Store (number_of fault), it.1, c.failed-in-Err-finish.ensures), it.2)
+    (it.0, (reply.Store (number_of fault), it.1, c.store_failure-in-Err-finish.ensures), it.2)
 
 pub returns-in-Ok-finish-clause-heard : goal.returns-in-Ok-finish-clause-heard
 returns-in-Ok-finish-clause-heard g c from at =

@@ -209,6 +209,6 @@ returns-in-Err-clause-bound g c =
     (1024 * c.args.reader.now.left) (length c.loop-fault.buffer.items + 1024 * c.loop-fault.reader.left)
     (length c.take_turn.new.buffer.items + 1024 * c.take_turn.new.reader.left) c.loop-fault.invariant.5 c.in-Err.ensures.bound)
 
-pub returns-in-Err-clause-failed : goal.returns-in-Err-clause-failed
-returns-in-Err-clause-failed g c is =
-    called_before c.args.reader.now.left c.loop-fault.reader.left c.take_turn.new.reader.left c.loop-fault.invariant.8 (c.in-Err.ensures.failed is)
+pub returns-in-Err-clause-read_fault : goal.returns-in-Err-clause-read_fault
+returns-in-Err-clause-read_fault g c is =
+    called_before c.args.reader.now.left c.loop-fault.reader.left c.take_turn.new.reader.left c.loop-fault.invariant.8 (c.in-Err.ensures.read_fault is)

@@ -146,16 +146,16 @@ returns-in-Ok-Fault-clause-progress g c =
     none_more _ c.say.result (answer_bytes c.refuse.result.bytes) c.refuse.result.last (g.W.Write.contents c.args.writer.now) (g.W.Write.contents c.say.new.writer)
     c.refuse.ensures.2.1 c.say.ensures
 
-pub returns-in-Ok-Request-clause-failed : goal.returns-in-Ok-Request-clause-failed
-returns-in-Ok-Request-clause-failed g c =
+pub returns-in-Ok-Request-clause-read_fault : goal.returns-in-Ok-Request-clause-read_fault
+returns-in-Ok-Request-clause-read_fault g c =
     none_unread _ c.say-turn.result (answer_bytes c.answer_request-answer.result.bytes) c.answer_request-answer.result.last
     (g.W.Write.contents c.args.writer.now) (g.W.Write.contents c.say-turn.new.writer) c.say-turn.ensures
 
-pub returns-in-Ok-Fault-clause-failed : goal.returns-in-Ok-Fault-clause-failed
-returns-in-Ok-Fault-clause-failed g c =
+pub returns-in-Ok-Fault-clause-read_fault : goal.returns-in-Ok-Fault-clause-read_fault
+returns-in-Ok-Fault-clause-read_fault g c =
     none_unread _ c.say.result (answer_bytes c.refuse.result.bytes) c.refuse.result.last (g.W.Write.contents c.args.writer.now) (g.W.Write.contents c.say.new.writer)
     c.say.ensures
 
-pub returns-in-Err-Read-clause-failed : goal.returns-in-Err-Read-clause-failed
-returns-in-Err-Read-clause-failed g c is =
+pub returns-in-Err-Read-clause-read_fault : goal.returns-in-Err-Read-clause-read_fault
+returns-in-Err-Read-clause-read_fault g c is =
     called _ c.args.reader.now.left c.args.reader.now.left c.read_item.new.reader.left (omega arith) (c.in-Err-Read.ensures.failed c.in-Err-Read.field-0-is)

@@ -2,7 +2,7 @@ use Rattle.std.proofs.Common.{◌≡◌, ℕ, pos, List, Option, Some, None, cod
 use Rattle.clap.specs.Words.{Row}
 use Rattle.land_commands.specs.Words.Names.{IsCallerOf, IsNumberOf}
 use Rattle.land_core.specs.declared.caller.Caller.{Caller}
-use Rattle.land_commands.proofs.words.reading.caller_of.Goals as goal
+use Rattle.land_commands.proofs.words.parse.caller_of.Goals as goal
 
 -- nobody asks where there is no party
 partyless : (rows : List Row) (party : Option ℕ) → IsNumberOf rows (codes "party") (pos 1) (pos 1000000000) (option_map pos party) → party ≡ None

@@ -1,7 +1,7 @@
 use Rattle.std.proofs.Common.{map, string_bytes, subst, sym}
 use Rattle.land_commands.proofs.FaultlessWords.{named_by_words}
 use Rattle.land_commands.specs.Words.Names.{IsFoundAs}
-use Rattle.land_commands.proofs.words.reading.read_words.Goals as goal
+use Rattle.land_commands.proofs.words.parse.read_words.Goals as goal
 
 pub unreachable-requires : goal.unreachable-requires
 unreachable-requires c =

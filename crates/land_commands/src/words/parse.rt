@@ -27,11 +27,11 @@ pub fn read_words<'a>(alloc: Global, words: &'a [String]) -> Result<Command<'a>,
             Some(command) => Ok(command),
             None => unreachable!(),
         },
-        Err(error) => Err(refusal(alloc, &error)),
+        Err(error) => Err(clap_fault(alloc, &error)),
     }
 }
 
-fn refusal(alloc: Global, error: &Error) -> WordsFault
+fn clap_fault(alloc: Global, error: &Error) -> WordsFault
     ensures { IsRefusalOf error.now result }
 {
     if error.kind() == ErrorKind::OutOfMemory {

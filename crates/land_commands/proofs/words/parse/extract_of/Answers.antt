@@ -6,7 +6,7 @@ use Rattle.land_commands.specs.declared.words.command.Command.{Command}
 use Rattle.land_core.specs.declared.caller.Caller.{Caller}
 use Rattle.land_core.specs.declared.kind.Kind.{Kind}
 use Rattle.land_core.specs.declared.role.Role.{Role}
-use Rattle.land_commands.proofs.words.reading.extract_of.Goals as goal
+use Rattle.land_commands.proofs.words.parse.extract_of.Goals as goal
 
 -- the options of no extract are there
 abbrev Lacks : List Row → Type 0

@@ -1,7 +1,7 @@
 use Rattle.std.proofs.Common.{inl, inr, subst}
 use Rattle.std.specs.Prelude.{OnOk}
 use Rattle.land_commands.proofs.Filings.{made_and_closed}
-use Rattle.land_commands.proofs.filed.make.Goals as goal
+use Rattle.land_commands.proofs.filed.create_register.Goals as goal
 
 -- the register was made, and its file is closed or is not
 pub returns-in-Ok : goal.returns-in-Ok

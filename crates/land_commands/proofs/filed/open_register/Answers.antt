@@ -1,5 +1,5 @@
 use Rattle.std.proofs.Common.{inr}
-use Rattle.land_commands.proofs.filed.found.Goals as goal
+use Rattle.land_commands.proofs.filed.open_register.Goals as goal
 
 -- the store was opened, and is refused
 pub returns-clause-finding : goal.returns-clause-finding

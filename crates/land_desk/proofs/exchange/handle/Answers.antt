@@ -6,10 +6,10 @@ use Rattle.land_keep.specs.declared.reply.Reply.TheVariants as reply
 use Rattle.land_wire_json.specs.Bodies.WireFaults.{Gives}
 use Rattle.land_wire_json.specs.declared.bodies.wire_fault.WireFault.{WireFault}
 use Rattle.land_wire_json.specs.declared.bodies.wire_fault.WireFault.TheVariants.{NoMemory}
-use Rattle.land_desk.proofs.exchange.exchange.Goals as goal
+use Rattle.land_desk.proofs.exchange.handle.Goals as goal
 
 pub returns-in-Err-NoMemory-clause-told : goal.returns-in-Err-NoMemory-clause-told
-returns-in-Err-NoMemory-clause-told g c q gives from at = (from, (reply.Store 501, inl (refl, refl), c.failed.ensures), at)
+returns-in-Err-NoMemory-clause-told g c q gives from at = (from, (reply.Store 501, inl (refl, refl), c.store_failure.ensures), at)
 
 pub returns-in-Err : goal.returns-in-Err
 returns-in-Err g c =
