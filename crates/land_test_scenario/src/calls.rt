@@ -107,7 +107,7 @@ impl<'a> Connections for Calls<'a> {
         Ok((reader, sink))
     }
 
-    fn end(_reader: &mut Pieces<'static>, writer: &mut &'a mut Sink) {
+    fn close_connection(_reader: &mut Pieces<'static>, writer: &mut &'a mut Sink) {
         writer.is_ended = true;
     }
 }

@@ -95,7 +95,7 @@ impl<'a, M: time::Clock + Drop> Connections for Callers<'a, M> {
         Ok((reader, CallWriter { stream, watch }))
     }
 
-    fn end(reader: &mut CallReader<'a, M>, writer: &mut CallWriter<'a, M>) {
+    fn close_connection(reader: &mut CallReader<'a, M>, writer: &mut CallWriter<'a, M>) {
         if writer.stream.shutdown(Shutdown::Write).is_ok() {
             match reader.drain() {
                 Ok(()) | Err(_) => {}

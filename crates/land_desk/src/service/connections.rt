@@ -21,5 +21,5 @@ pub trait Connections {
         ensures { Comes (coming self.old) (coming self.new) (brought Self.Reader.remaining result) };
 
     /// Ends a connection that was served, so that its last reply arrives. Nothing but the connection is at hand.
-    fn end(reader: &mut Self::Reader, writer: &mut Self::Writer);
+    fn close_connection(reader: &mut Self::Reader, writer: &mut Self::Writer);
 }

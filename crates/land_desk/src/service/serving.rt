@@ -65,7 +65,7 @@ fn serve_next<L: Connections, K: Keeper, C: Clock>(
         return Err(ServiceFault::Accept);
     };
     match serve(alloc, &mut reader, &mut writer, keeper, clock) {
-        Ok(_) => L::end(&mut reader, &mut writer),
+        Ok(_) => L::close_connection(&mut reader, &mut writer),
         Err(_) => {}
     }
     if keeper.is_closed() {
