@@ -7,8 +7,8 @@ use Rattle.std.proofs.lemmas.List.{drop-append-le, length-map, nil_from_length}
 use Rattle.httparse.specs.declared.spans.HeaderSpan.{HeaderSpan}
 use Rattle.httparse.specs.declared.spans.RequestSpans.{RequestSpans}
 use Rattle.land_core.specs.declared.ask.Request.{Request}
-use Rattle.land_desk.specs.Serving.{Exchange, Goes, SoFar, closes}
-use Rattle.land_desk.specs.Serving.Asking.{AsksFor, AsksForOne, Begins, IfBoth, IsAskedFor, TakesAtMost}
+use Rattle.land_desk.specs.Serving.{Exchange, ServesPrefix, SoFar, closes}
+use Rattle.land_desk.specs.Serving.Asking.{AsksFor, AsksForOne, BeginsWith, IfBoth, IsAskedFor, TakesAtMost}
 use Rattle.land_desk.specs.Turns.{IsAsked, IsSpent, IsWritten}
 use Rattle.land_desk.specs.declared.serve.DeskFault.{DeskFault}
 use Rattle.land_desk.specs.declared.serve.DeskFault.TheVariants as desk
@@ -88,7 +88,7 @@ none_behind buffer rest e = nil_from_length rest (omega (arith, length-append bu
 
 -- no byte was left
 pub end_asked : (start left : Option (List ℕ)) (buffer : List ℕ) (fr : Front) → fr ≡ front.End → Keeps start (prepend_known buffer left)
-    → IfSome (prepend_known buffer left) (λ s. IsFrontOf s fr) → IfBoth start left (λ bytes rest. IsAsked bytes buffer rest (Ok turn.End))
+    → IfSome (prepend_known buffer left) (λ s. IsFrontOf s fr) → IfBoth start left (λ bytes rest. IsAsked bytes buffer rest (Ok turn.Eof))
 end_asked None left buffer fr is keeps item = tt
 end_asked (Some bytes) None buffer fr is keeps item = absurd keeps
 end_asked (Some bytes) (Some rest) buffer fr is keeps item =
@@ -96,25 +96,25 @@ end_asked (Some bytes) (Some rest) buffer fr is keeps item =
     (sym keeps ∙ none, none_behind buffer rest none)
 
 -- the item was the last to be asked for, or the connection goes on with little that is read ahead
-after_item : (bytes buffer left text : List ℕ) (last : Bool) (u v : Option (List ℕ)) (result : Result Turn DeskFault) → AsksForOne bytes left
-    → (last ≡ false → length buffer < 1024) → IsWritten text last u v result → IsAsked bytes buffer left result
+after_item : (bytes buffer left text : List ℕ) (close_after : Bool) (u v : Option (List ℕ)) (result : Result Turn DeskFault) → AsksForOne bytes left
+    → (close_after ≡ false → length buffer < 1024) → IsWritten text close_after u v result → IsAsked bytes buffer left result
 after_item bytes buffer left text true u v (Ok t) asks short wrote = subst (λ (t : Turn). IsAsked bytes buffer left (Ok t)) (sym wrote.0) asks
 after_item bytes buffer left text false u v (Ok t) asks short wrote = subst (λ (t : Turn). IsAsked bytes buffer left (Ok t)) (sym wrote.0) (short refl)
-after_item bytes buffer left text last u v (Err e) asks short wrote = tt
+after_item bytes buffer left text close_after u v (Err e) asks short wrote = tt
 
-pub fault_asked : (start left u v : Option (List ℕ)) (buffer text : List ℕ) (fr : Front) (f : FrameFault) (last : Bool) (result : Result Turn DeskFault)
+pub fault_asked : (start left u v : Option (List ℕ)) (buffer text : List ℕ) (fr : Front) (f : FrameFault) (close_after : Bool) (result : Result Turn DeskFault)
     → fr ≡ front.Fault f → Keeps start (prepend_known buffer left) → IfSome (prepend_known buffer left) (λ s. IsFrontOf s fr) → IsReadFor buffer fr
-    → last ≡ true → IsWritten text last u v result → IfBoth start left (λ bytes rest. IsAsked bytes buffer rest result)
-fault_asked None left u v buffer text fr f last result is keeps item read ends wrote = tt
-fault_asked (Some bytes) None u v buffer text fr f last result is keeps item read ends wrote = absurd keeps
-fault_asked (Some bytes) (Some rest) u v buffer text fr f last result is keeps item read ends wrote =
+    → close_after ≡ true → IsWritten text close_after u v result → IfBoth start left (λ bytes rest. IsAsked bytes buffer rest result)
+fault_asked None left u v buffer text fr f close_after result is keeps item read ends wrote = tt
+fault_asked (Some bytes) None u v buffer text fr f close_after result is keeps item read ends wrote = absurd keeps
+fault_asked (Some bytes) (Some rest) u v buffer text fr f close_after result is keeps item read ends wrote =
     let here = subst (λ (x : Front). IsFrontOf (buffer ++ rest) x) is item in
     let much = subst (λ (x : Front). IsReadFor buffer x) is read in
     let asks : IsAskedFor (buffer ++ rest) (faulty f) [] rest = elim much as (λ _. IsAskedFor (buffer ++ rest) (faulty f) [] rest) [
       | inl cut ↦ inl cut
       | inr just ↦ inr (buffer, refl, just)
     ] in
-    after_item bytes buffer rest text last u v result (subst (λ (t : List ℕ). AsksForOne t rest) keeps (faulty f, [], here, asks))
+    after_item bytes buffer rest text close_after u v result (subst (λ (t : List ℕ). AsksForOne t rest) keeps (faulty f, [], here, asks))
     (λ more. absurd (false≢true (sym more ∙ ends))) wrote
 
 -- behind a request that was read as far as was asked for
@@ -127,24 +127,24 @@ request_one buffer rest spans n item inside short = (
   (drop (spans.len + n) buffer, drop-append-le (spans.len + n) buffer rest inside, omega (arith, short, length-drop (spans.len + n) buffer)),
 )
 
-pub request_asked : (start left u v : Option (List ℕ)) (buffer new text : List ℕ) (headers : List HeaderSpan) (fr : Front) (spans : RequestSpans) (n : ℕ) (last : Bool)
+pub request_asked : (start left u v : Option (List ℕ)) (buffer new text : List ℕ) (headers : List HeaderSpan) (fr : Front) (spans : RequestSpans) (n : ℕ) (close_after : Bool)
     (result : Result Turn DeskFault) → fr ≡ front.Request spans n → Keeps start (prepend_known buffer left) → IfSome (prepend_known buffer left) (λ s. IsFrontOf s fr)
-    → IsFrontIn buffer headers fr → IsReadFor buffer fr → new ≡ drop (spans.len + n) buffer → IsWritten text last u v result
+    → IsFrontIn buffer headers fr → IsReadFor buffer fr → new ≡ drop (spans.len + n) buffer → IsWritten text close_after u v result
     → IfBoth start left (λ bytes rest. IsAsked bytes new rest result)
-request_asked None left u v buffer new text headers fr spans n last result is keeps item at read gone wrote = tt
-request_asked (Some bytes) None u v buffer new text headers fr spans n last result is keeps item at read gone wrote = absurd keeps
-request_asked (Some bytes) (Some rest) u v buffer new text headers fr spans n last result is keeps item at read gone wrote =
+request_asked None left u v buffer new text headers fr spans n close_after result is keeps item at read gone wrote = tt
+request_asked (Some bytes) None u v buffer new text headers fr spans n close_after result is keeps item at read gone wrote = absurd keeps
+request_asked (Some bytes) (Some rest) u v buffer new text headers fr spans n close_after result is keeps item at read gone wrote =
     let here = subst (λ (x : Front). IsFrontOf (buffer ++ rest) x) is item in
     let inside = subst (λ (x : Front). IsFrontIn buffer headers x) is at in
     let much = subst (λ (x : Front). IsReadFor buffer x) is read in
-    after_item bytes new rest text last u v result (subst (λ (t : List ℕ). AsksForOne t rest) keeps (request_one buffer rest spans n here inside.2 much))
+    after_item bytes new rest text close_after u v result (subst (λ (t : List ℕ). AsksForOne t rest) keeps (request_one buffer rest spans n here inside.2 much))
     (λ more. omega (arith, much, inside.2, ap length gone, length-drop (spans.len + n) buffer)) wrote
 
 -- ---- what was asked for in all turns
 
 module _ {C : Type 0} (hears : State C → Request → Reply → State C → Type 0) where
-  begun : (bytes : List ℕ) (from : State C) (xs : List Exchange) (rest : List ℕ) (now : State C) → Goes hears bytes from xs rest now
-      → Begins bytes (map (λ x. x.item) xs) rest
+  begun : (bytes : List ℕ) (from : State C) (xs : List Exchange) (rest : List ℕ) (now : State C) → ServesPrefix hears bytes from xs rest now
+      → BeginsWith bytes (map (λ x. x.item) xs) rest
   begun bytes from [] rest now so = so.0
   begun bytes from (x ∷ xs) rest now so = (so.0, so.2.0, begun so.0 so.1 xs rest now so.4)
 
@@ -155,8 +155,8 @@ module _ {C : Type 0} (hears : State C → Request → Reply → State C → Typ
   none_after (faulty f) closed bytes mid left stays none all = absurd (false≢true (sym stays))
 
   last_asked : (bytes left : List ℕ) (from : State C) (x : Exchange) (xs : List Exchange) (rest : List ℕ) (now : State C)
-      → Goes hears bytes from (x ∷ xs) rest now → rest ≡ [] → left ≡ []
-      → (items : List Item) × (at_last : List ℕ) × Begins bytes items at_last × (length items ≡ length xs) × AsksForOne at_last left
+      → ServesPrefix hears bytes from (x ∷ xs) rest now → rest ≡ [] → left ≡ []
+      → (items : List Item) × (at_last : List ℕ) × BeginsWith bytes items at_last × (length items ≡ length xs) × AsksForOne at_last left
   last_asked bytes left from x [] rest now so none all =
       ([], bytes, refl, refl, (x.item, so.0, so.2.0, none_after x.item (closes x.reply) bytes so.0 left so.3 (sym so.4.0 ∙ none) all))
   last_asked bytes left from x (y ∷ ys) rest now so none all =
@@ -164,7 +164,7 @@ module _ {C : Type 0} (hears : State C → Request → Reply → State C → Typ
       (x.item ∷ more.0, more.1, (so.0, so.2.0, more.2), omega (arith, more.3), more.4)
 
   ended : (bytes left : List ℕ) (from : State C) (xs : List Exchange) (rest : List ℕ) (now : State C) (n : ℕ)
-      → Goes hears bytes from xs rest now → rest ≡ [] → left ≡ [] → length xs ≡ n → AsksFor n bytes left
+      → ServesPrefix hears bytes from xs rest now → rest ≡ [] → left ≡ [] → length xs ≡ n → AsksFor n bytes left
   ended bytes left from [] rest now n so none all count = inl (sym count, all)
   ended bytes left from (x ∷ xs) rest now n so none all count =
       let it = last_asked bytes left from x xs rest now so none all in
@@ -172,7 +172,7 @@ module _ {C : Type 0} (hears : State C → Request → Reply → State C → Typ
 
   module _ (from : State C) (stood : State C → Type 0) where
     -- the input ended
-    pub asked_to_end : (start before left w u : Option (List ℕ)) (old new : List ℕ) (n : ℕ) (t : Turn) → t ≡ turn.End
+    pub asked_to_end : (start before left w u : Option (List ℕ)) (old new : List ℕ) (n : ℕ) (t : Turn) → t ≡ turn.Eof
         → IfBoth start before (λ bytes rest. (now : State C) × SoFar hears bytes rest from now w u n × stood now)
         → IfBoth start before (λ bytes rest. length old ≤ 1024)
         → (length old ≤ 1024 → IfBoth before left (λ rest after. IsAsked rest new after (Ok t)))
@@ -185,7 +185,7 @@ module _ {C : Type 0} (hears : State C → Request → Reply → State C → Typ
         ended bytes after from so.1.0 rest so.0 n so.1.1 one.0 one.1 so.1.3
 
     -- the connection ended
-    pub asked_to_last : (start before left w u : Option (List ℕ)) (old new : List ℕ) (n : ℕ) (t : Turn) → t ≡ turn.Last
+    pub asked_to_last : (start before left w u : Option (List ℕ)) (old new : List ℕ) (n : ℕ) (t : Turn) → t ≡ turn.Close
         → IfBoth start before (λ bytes rest. (now : State C) × SoFar hears bytes rest from now w u n × stood now)
         → IfBoth start before (λ bytes rest. length old ≤ 1024)
         → (length old ≤ 1024 → IfBoth before left (λ rest after. IsAsked rest new after (Ok t)))
@@ -199,7 +199,7 @@ module _ {C : Type 0} (hears : State C → Request → Reply → State C → Typ
         inr (items, rest, begun bytes from so.1.0 rest so.0 so.1.1, omega (arith, so.1.3, length-map so.1.0 (λ (x : Exchange). x.item)), one)
 
 -- little is read ahead where the connection goes on
-pub kept_short : (start before left : Option (List ℕ)) (old new : List ℕ) (t : Turn) → t ≡ turn.More → IfBoth start before (λ bytes rest. length old ≤ 1024)
+pub kept_short : (start before left : Option (List ℕ)) (old new : List ℕ) (t : Turn) → t ≡ turn.KeepAlive → IfBoth start before (λ bytes rest. length old ≤ 1024)
     → (length old ≤ 1024 → IfBoth before left (λ rest after. IsAsked rest new after (Ok t)))
     → IfBoth start (prepend_known new left) (λ bytes rest. length new ≤ 1024)
 kept_short None before left old new t is short asked = tt
@@ -237,27 +237,27 @@ request_gone buffer new headers fr spans n could can is shown dropped bound =
     let here = subst (λ (x : Front). IsFrontIn buffer headers x) is shown in
     omega (arith, bound, ap length dropped, length-drop (spans.len + n) buffer, request_takes buffer headers spans n here, here.2)
 
-pub if_more : (P : Type 0) (result : Result Turn DeskFault) → P → IfOk result (λ t. t ≡ turn.More → P)
+pub if_more : (P : Type 0) (result : Result Turn DeskFault) → P → IfOk result (λ t. t ≡ turn.KeepAlive → P)
 if_more P (Ok t) p = λ is. p
 if_more P (Err e) p = tt
 
-last_is_not_more : (P : Type 0) → turn.Last ≡ turn.More → P
+last_is_not_more : (P : Type 0) → turn.Close ≡ turn.KeepAlive → P
 last_is_not_more P e = cc
 
 -- no connection stays open after its last reply
-pub none_more : (P : Type 0) (result : Result Turn DeskFault) (text : List ℕ) (last : Bool) (u v : Option (List ℕ)) → last ≡ true → IsWritten text last u v result
-    → IfOk result (λ t. t ≡ turn.More → P)
+pub none_more : (P : Type 0) (result : Result Turn DeskFault) (text : List ℕ) (close_after : Bool) (u v : Option (List ℕ)) → close_after ≡ true → IsWritten text close_after u v result
+    → IfOk result (λ t. t ≡ turn.KeepAlive → P)
 none_more P (Ok t) text true u v ends wrote = λ is. last_is_not_more P (sym wrote.0 ∙ is)
 none_more P (Ok t) text false u v ends wrote = absurd (false≢true ends)
-none_more P (Err e) text last u v ends wrote = tt
+none_more P (Err e) text close_after u v ends wrote = tt
 
 -- a reply that could not be written is not a failed read
-pub none_unread : (P : Type 0) (result : Result Turn DeskFault) (text : List ℕ) (last : Bool) (u v : Option (List ℕ)) → IsWritten text last u v result
+pub none_unread : (P : Type 0) (result : Result Turn DeskFault) (text : List ℕ) (close_after : Bool) (u v : Option (List ℕ)) → IsWritten text close_after u v result
     → IfErr result (λ e. e ≡ desk.Read → P)
-none_unread P (Ok t) text last u v wrote = tt
-none_unread P (Err desk.Write) text last u v wrote = λ is. cc
-none_unread P (Err desk.Read) text last u v wrote = absurd wrote
-none_unread P (Err desk.NoMemory) text last u v wrote = absurd wrote
+none_unread P (Ok t) text close_after u v wrote = tt
+none_unread P (Err desk.Write) text close_after u v wrote = λ is. cc
+none_unread P (Err desk.Read) text close_after u v wrote = absurd wrote
+none_unread P (Err desk.NoMemory) text close_after u v wrote = absurd wrote
 
 -- the reader was called, or may be called no more
 pub called : (P : Type 0) (first before after : ℕ) → before ≤ first → ((after ≡ 0) ⊎ ((after < before) × P)) → (after ≡ 0) ⊎ (after < first)

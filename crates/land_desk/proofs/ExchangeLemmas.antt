@@ -4,7 +4,7 @@ use Rattle.std.specs.Prelude.{ℤ, ◌⊎◌, MatchOption}
 use Rattle.std.proofs.lemmas.Bool.{false≢true}
 use Rattle.land_core.specs.declared.ask.Request.{Request}
 use Rattle.land_desk.specs.Responses.{HasMoment}
-use Rattle.land_desk.specs.Serving.{Brings, HearsIf, Told}
+use Rattle.land_desk.specs.Serving.{ForwardSimulation, HearsIf, HandlesOr501}
 use Rattle.land_keep.proofs.Steps.{finished_element}
 use Rattle.land_keep.specs.Keeping.{IsAt, IsPrepared, ShowsAsked, TellsOf, after_writing}
 use Rattle.land_keep.specs.Machine.{Element, State, at_of}
@@ -23,7 +23,7 @@ module _ {C : Type 0} (reads : C → ℤ → C → Type 0) (was_honest honest : 
   -- a reply to which nothing changes
   pub stays : (r : Reply) → ((tl : Timeline) → Element before reading q tl r tl closed) → TellsOf before r closed
       → (honest → was_honest) → (closed ≡ false → before ≡ false) → (honest → closed ≡ false → after ≡ shown)
-      → Brings (IsAt was_honest before shown clock) (IsAt honest closed after clock_after) (λ from to. HearsIf honest reads from q r to)
+      → ForwardSimulation (IsAt was_honest before shown clock) (IsAt honest closed after clock_after) (λ from to. HearsIf honest reads from q r to)
   stays r element tells was was_open same from at =
       let to : State C = record { closed = closed; timeline = from.timeline; clock = clock_after } in (
         to,
@@ -43,7 +43,7 @@ module _ {C : Type 0} (reads : C → ℤ → C → Type 0) (was_honest honest : 
   -- a step of the machine
   pub steps : (p : Prepared) → before ≡ false → closed ≡ false → (honest → was_honest)
       → (honest → IsPrepared p reading q shown) → (honest → after ≡ after_writing p.writing shown)
-      → Brings (IsAt was_honest before shown clock) (IsAt honest closed after clock_after) (λ from to. HearsIf honest reads from q p.reply to)
+      → ForwardSimulation (IsAt was_honest before shown clock) (IsAt honest closed after clock_after) (λ from to. HearsIf honest reads from q p.reply to)
   steps p was_open is_open was prepared written from at =
       let to : State C = record { closed = closed; timeline = after_writing p.writing from.timeline; clock = clock_after } in
       let same : honest → shown ≡ from.timeline = λ trust. at.2 (was trust, was_open) in (
@@ -60,9 +60,9 @@ module _ {C : Type 0} (reads : C → ℤ → C → Type 0) (was_honest honest : 
 
 -- a request that could not be read is told its fault, or 501, and nothing changes
 pub fault_is_told : {C : Type 0} (hears : State C → Request → Reply → State C → Type 0) (q : Result Request WireFault) (fault : WireFault) (wanted r : Reply) (from : State C)
-    → q ≡ Err fault → wanted ≡ reply.Fault (fault_number fault) → (r ≡ wanted) ⊎ (r ≡ reply.Store 501) → Told hears q from r from
-fault_is_told hears q fault wanted r from is said (inl e) = subst (λ (x : Result Request WireFault). Told hears x from r from) (sym is) (inr (e ∙ said, refl))
-fault_is_told hears q fault wanted r from is said (inr e) = inl (e, refl)
+    → q ≡ Err fault → wanted ≡ reply.Fault (fault_number fault) → (r ≡ wanted) ⊎ (r ≡ reply.Store 501) → HandlesOr501 hears q from r from
+fault_is_told hears q fault wanted r from is sent (inl e) = subst (λ (x : Result Request WireFault). HandlesOr501 hears x from r from) (sym is) (inr (e ∙ sent, refl))
+fault_is_told hears q fault wanted r from is sent (inr e) = inl (e, refl)
 
 -- ---- a title sheet shows a moment that there is
 

@@ -3,7 +3,7 @@ use Rattle.std.proofs.Common.{◌≡◌, ℕ, ℤ, ◌+◌, List, [], ◌∷◌,
 use Rattle.std.specs.Io.KnownBytes.{prepend_known}
 use Rattle.land_core.specs.declared.ask.Request.{Request}
 use Rattle.land_desk.proofs.ServingLemmas.{begins, goes_on, nothing_done}
-use Rattle.land_desk.specs.Serving.{Answers, Brings, Exchange, Goes, Hears, HearsIf, IsServed, IsServing, One, Serves, ServesTo, SoFar, Told}
+use Rattle.land_desk.specs.Serving.{RepliesTo, ForwardSimulation, Exchange, ServesPrefix, Hears, HearsIf, IsServed, IsServing, ServesItem, Serves, ServesTo, SoFar, HandlesOr501}
 use Rattle.land_desk.specs.Serving.Asking.{IfBoth}
 use Rattle.land_desk.specs.Turns.{IsTurn}
 use Rattle.land_desk.specs.declared.serve.DeskFault.{DeskFault}
@@ -33,20 +33,20 @@ heard_honestly reads honest trust from asked r to h = (h.0, h.1, h.3 trust)
 
 module _ {C : Type 0} (hears later : State C → Request → Reply → State C → Type 0)
     (weaken : (from : State C) (asked : Request) (r : Reply) (to : State C) → hears from asked r to → later from asked r to) where
-  told_later : (q : Result Request WireFault) (from : State C) (r : Reply) (to : State C) → Told hears q from r to → Told later q from r to
+  told_later : (q : Result Request WireFault) (from : State C) (r : Reply) (to : State C) → HandlesOr501 hears q from r to → HandlesOr501 later q from r to
   told_later (Err fault) from r to (inl none) = inl none
   told_later (Err fault) from r to (inr heard) = inr heard
   told_later (Ok asked) from r to (inl none) = inl none
   told_later (Ok asked) from r to (inr heard) = inr (weaken from asked r to heard)
 
-  answers_later : (from : State C) (item : Item) (r : Reply) (to : State C) → Answers hears from item r to → Answers later from item r to
+  answers_later : (from : State C) (item : Item) (r : Reply) (to : State C) → RepliesTo hears from item r to → RepliesTo later from item r to
   answers_later from (request h body) r to is = told_later (reading h.method h.target (field_map (fields_of h)) body) from r to is
   answers_later from (faulty f) r to is = is
 
-  one_later : (bytes : List ℕ) (from : State C) (x : Exchange) (rest : List ℕ) (to : State C) → One hears bytes from x rest to → One later bytes from x rest to
+  one_later : (bytes : List ℕ) (from : State C) (x : Exchange) (rest : List ℕ) (to : State C) → ServesItem hears bytes from x rest to → ServesItem later bytes from x rest to
   one_later bytes from x rest to one = (one.0, answers_later from x.item x.reply to one.1, one.2)
 
-  goes_later : (bytes : List ℕ) (from : State C) (xs : List Exchange) (rest : List ℕ) (to : State C) → Goes hears bytes from xs rest to → Goes later bytes from xs rest to
+  goes_later : (bytes : List ℕ) (from : State C) (xs : List Exchange) (rest : List ℕ) (to : State C) → ServesPrefix hears bytes from xs rest to → ServesPrefix later bytes from xs rest to
   goes_later bytes from [] rest to so = so
   goes_later bytes from (x ∷ xs) rest to so =
       (so.0, so.1, one_later bytes from x so.0 so.1 so.2, so.3, goes_later so.0 so.1 xs rest to so.4)
@@ -76,9 +76,9 @@ module _ {C : Type 0} (hears later : State C → Request → Reply → State C �
     both_map (Some bytes) (Some rest) P Q next holds = next bytes rest holds
 
     -- the connection goes on
-    pub keeps_on : (start before after w u v : Option (List ℕ)) (n : ℕ) (t : Turn) → t ≡ turn.More
+    pub keeps_on : (start before after w u v : Option (List ℕ)) (n : ℕ) (t : Turn) → t ≡ turn.KeepAlive
         → IfBoth start before (λ bytes rest. (now : State C) × SoFar hears bytes rest from now w u n × stood now)
-        → IfSome before (λ rest. Brings stood stands (λ now to. IsTurn later rest now to after u v (Ok t)))
+        → IfSome before (λ rest. ForwardSimulation stood stands (λ now to. IsTurn later rest now to after u v (Ok t)))
         → IfBoth start after (λ bytes rest. (to : State C) × SoFar later bytes rest from to w v (n + 1) × stands to)
     keeps_on None before after w u v n t is so brings = tt
     keeps_on (Some bytes) None after w u v n t is so brings = absurd so
@@ -93,7 +93,7 @@ module _ {C : Type 0} (hears later : State C → Request → Reply → State C �
         → ((now to : State C) → IfBoth start before (λ bytes rest. SoFar later bytes rest from now w u n) → IfSome before (λ rest. way rest now to)
         → IfSome start (λ bytes. Serves later bytes from to w v result))
         → IfBoth start before (λ bytes rest. (now : State C) × SoFar hears bytes rest from now w u n × stood now)
-        → IfSome before (λ rest. Brings stood stands (way rest))
+        → IfSome before (λ rest. ForwardSimulation stood stands (way rest))
         → IfSome start (λ bytes. ServesTo later bytes from stands w v result)
     comes_to None before w u v n result way concludes so brings = tt
     comes_to (Some bytes) None w u v n result way concludes so brings = absurd so

@@ -5,7 +5,7 @@ use Rattle.std.specs.Io.KnownBytes.{Appends, prepend_known}
 use Rattle.std.proofs.KnownBytes.{Appends-trans, Appends-nil}
 use Rattle.std.proofs.lemmas.Bool.{false≢true}
 use Rattle.land_core.specs.declared.ask.Request.{Request}
-use Rattle.land_desk.specs.Serving.{Exchange, One, Goes, IsServed, Serves, ServedItems, SoFar, closes, closing, said_all}
+use Rattle.land_desk.specs.Serving.{Exchange, ServesItem, ServesPrefix, IsServed, Serves, ServedItems, SoFar, closes, closing, said_all}
 use Rattle.land_desk.specs.Serving.Asking.{IfBoth}
 use Rattle.land_desk.specs.Turns.{IsTurn}
 use Rattle.land_desk.specs.declared.serve.DeskFault.{DeskFault}
@@ -19,34 +19,34 @@ use Rattle.land_wire.specs.Framing.Items.{Item, request, faulty, AreItems, IsIte
 
 module _ {C : Type 0} (hears : State C → Request → Reply → State C → Type 0) where
   goes_more : (bytes rest mid : List ℕ) (from now to : State C) (xs : List Exchange) (x : Exchange)
-      → Goes hears bytes from xs rest now → One hears rest now x mid to → closing x ≡ false
-      → Goes hears bytes from (xs ++ x ∷ []) mid to
+      → ServesPrefix hears bytes from xs rest now → ServesItem hears rest now x mid to → closing x ≡ false
+      → ServesPrefix hears bytes from (xs ++ x ∷ []) mid to
   goes_more bytes rest mid from now to [] x so one stays =
-      let here = subst (λ (t : List ℕ). One hears t from x mid to) so.0 (subst (λ (s : State C). One hears rest s x mid to) so.1 one) in
+      let here = subst (λ (t : List ℕ). ServesItem hears t from x mid to) so.0 (subst (λ (s : State C). ServesItem hears rest s x mid to) so.1 one) in
       (mid, to, here, stays, (refl, refl))
   goes_more bytes rest mid from now to (y ∷ xs) x so one stays =
       (so.0, so.1, so.2, so.3, goes_more so.0 rest mid so.1 now to xs x so.4 one stays)
 
   -- the input ends
   goes_to_end : (bytes rest : List ℕ) (from now : State C) (xs : List Exchange)
-      → Goes hears bytes from xs rest now → rest ≡ [] → IsServed hears bytes from xs now
+      → ServesPrefix hears bytes from xs rest now → rest ≡ [] → IsServed hears bytes from xs now
   goes_to_end bytes rest from now [] so none = (sym so.0 ∙ none, so.1)
   goes_to_end bytes rest from now (x ∷ xs) so none =
       (so.0, so.1, so.2, (λ e. absurd (false≢true (sym so.3 ∙ e))), (λ e. goes_to_end so.0 rest so.1 now xs so.4 none))
 
   -- the connection ends
   goes_to_last : (bytes rest mid : List ℕ) (from now to : State C) (xs : List Exchange) (x : Exchange)
-      → Goes hears bytes from xs rest now → One hears rest now x mid to → closing x ≡ true
+      → ServesPrefix hears bytes from xs rest now → ServesItem hears rest now x mid to → closing x ≡ true
       → IsServed hears bytes from (xs ++ x ∷ []) to
-  goes_to_last bytes rest mid from now to [] x so one last =
-      let here = subst (λ (t : List ℕ). One hears t from x mid to) so.0 (subst (λ (s : State C). One hears rest s x mid to) so.1 one) in
-      (mid, to, here, (λ e. (refl, refl)), (λ e. absurd (false≢true (sym e ∙ last))))
-  goes_to_last bytes rest mid from now to (y ∷ xs) x so one last =
-      (so.0, so.1, so.2, (λ e. absurd (false≢true (sym so.3 ∙ e))), (λ e. goes_to_last so.0 rest mid so.1 now to xs x so.4 one last))
+  goes_to_last bytes rest mid from now to [] x so one close_after =
+      let here = subst (λ (t : List ℕ). ServesItem hears t from x mid to) so.0 (subst (λ (s : State C). ServesItem hears rest s x mid to) so.1 one) in
+      (mid, to, here, (λ e. (refl, refl)), (λ e. absurd (false≢true (sym e ∙ close_after))))
+  goes_to_last bytes rest mid from now to (y ∷ xs) x so one close_after =
+      (so.0, so.1, so.2, (λ e. absurd (false≢true (sym so.3 ∙ e))), (λ e. goes_to_last so.0 rest mid so.1 now to xs x so.4 one close_after))
 
-  said_more : (xs : List Exchange) (x : Exchange) → said_all xs ++ x.said ≡ said_all (xs ++ x ∷ [])
-  said_more [] x = sym (append-nil x.said)
-  said_more (y ∷ xs) x = append_assoc y.said (said_all xs) x.said ∙ ap (λ (t : List ℕ). y.said ++ t) (said_more xs x)
+  said_more : (xs : List Exchange) (x : Exchange) → said_all xs ++ x.sent ≡ said_all (xs ++ x ∷ [])
+  said_more [] x = sym (append-nil x.sent)
+  said_more (y ∷ xs) x = append_assoc y.sent (said_all xs) x.sent ∙ ap (λ (t : List ℕ). y.sent ++ t) (said_more xs x)
 
   count_more : (xs : List Exchange) (x : Exchange) (n : ℕ) → length xs ≡ n → length (xs ++ x ∷ []) ≡ n + 1
   count_more xs x n e = omega (arith, length-append xs (x ∷ []), e)
@@ -61,7 +61,7 @@ module _ {C : Type 0} (hears : State C → Request → Reply → State C → Typ
   nothing_done None w from = tt
   nothing_done (Some bytes) w from = (bytes, 0, ([], (refl, refl), Appends-nil w, refl))
 
-  pub goes_on : (start before after : Option (List ℕ)) (from now to : State C) (w u v : Option (List ℕ)) (n : ℕ) (t : Turn) → t ≡ turn.More
+  pub goes_on : (start before after : Option (List ℕ)) (from now to : State C) (w u v : Option (List ℕ)) (n : ℕ) (t : Turn) → t ≡ turn.KeepAlive
       → IfBoth start before (λ bytes rest. SoFar hears bytes rest from now w u n)
       → IfSome before (λ rest. IsTurn hears rest now to after u v (Ok t))
       → IfBoth start after (λ bytes rest. SoFar hears bytes rest from to w v (n + 1))
@@ -74,11 +74,11 @@ module _ {C : Type 0} (hears : State C → Request → Reply → State C → Typ
       subst (λ (o : Option (List ℕ)). IfBoth (Some bytes) o (λ bytes rest. SoFar hears bytes rest from to w v (n + 1))) (sym one.5) (
         xs ++ x ∷ [],
         goes_more bytes rest one.1 from now to xs x so.1 one.2 one.3,
-        subst (λ (t : List ℕ). Appends w v t) (said_more xs x) (Appends-trans w u v (said_all xs) x.said so.2 one.4),
+        subst (λ (t : List ℕ). Appends w v t) (said_more xs x) (Appends-trans w u v (said_all xs) x.sent so.2 one.4),
         count_more xs x n so.3,
       )
 
-  pub serves_end : (start before after : Option (List ℕ)) (from now to : State C) (w u v : Option (List ℕ)) (n : ℕ) (t : Turn) → t ≡ turn.End
+  pub serves_end : (start before after : Option (List ℕ)) (from now to : State C) (w u v : Option (List ℕ)) (n : ℕ) (t : Turn) → t ≡ turn.Eof
       → IfBoth start before (λ bytes rest. SoFar hears bytes rest from now w u n)
       → IfSome before (λ rest. IsTurn hears rest now to after u v (Ok t))
       → IfSome start (λ bytes. Serves hears bytes from to w v (Ok (record { replies = n })))
@@ -92,7 +92,7 @@ module _ {C : Type 0} (hears : State C → Request → Reply → State C → Typ
         sym so.3,
       )
 
-  pub serves_last : (start before after : Option (List ℕ)) (from now to : State C) (w u v : Option (List ℕ)) (n : ℕ) (t : Turn) → t ≡ turn.Last
+  pub serves_last : (start before after : Option (List ℕ)) (from now to : State C) (w u v : Option (List ℕ)) (n : ℕ) (t : Turn) → t ≡ turn.Close
       → IfBoth start before (λ bytes rest. SoFar hears bytes rest from now w u n)
       → IfSome before (λ rest. IsTurn hears rest now to after u v (Ok t))
       → IfSome start (λ bytes. Serves hears bytes from to w v (Ok (record { replies = n + 1 })))
@@ -102,7 +102,7 @@ module _ {C : Type 0} (hears : State C → Request → Reply → State C → Typ
       let one = subst (λ (r : Turn). IsTurn hears rest now to after u v (Ok r)) is given in (
         so.0 ++ one.0 ∷ [],
         goes_to_last bytes rest one.1 from now to so.0 one.0 so.1 one.2 one.3,
-        subst (λ (t : List ℕ). Appends w v t) (said_more so.0 one.0) (Appends-trans w u v (said_all so.0) one.0.said so.2 one.4),
+        subst (λ (t : List ℕ). Appends w v t) (said_more so.0 one.0) (Appends-trans w u v (said_all so.0) one.0.sent so.2 one.4),
         sym (count_more so.0 one.0 n so.3),
       )
 
@@ -110,7 +110,7 @@ module _ {C : Type 0} (hears : State C → Request → Reply → State C → Typ
       → SoFar hears bytes rest from now w u n → to ≡ now → Appends u v [] → SoFar hears bytes rest from to w v n
   same_after bytes rest from now to w u v n so same none = (
     so.0,
-    subst (λ (s : State C). Goes hears bytes from so.0 rest s) (sym same) so.1,
+    subst (λ (s : State C). ServesPrefix hears bytes from so.0 rest s) (sym same) so.1,
     subst (λ (t : List ℕ). Appends w v t) (append-nil (said_all so.0)) (Appends-trans w u v (said_all so.0) [] so.2 none),
     so.3,
   )
@@ -130,7 +130,7 @@ module _ {C : Type 0} (hears : State C → Request → Reply → State C → Typ
     one.2,
     so.1,
     one.3,
-    Appends-trans w u v (said_all so.0) (take one.2 one.0.said) so.2 one.4,
+    Appends-trans w u v (said_all so.0) (take one.2 one.0.sent) so.2 one.4,
   )
   serves_fault (Some bytes) (Some rest) after from now to w u v n desk.Read so one =
       (rest, n, same_after bytes rest from now to w u v n so one.0 one.1)

@@ -3,7 +3,7 @@ pub mod Coming
 pub mod Reading
 pub mod Waiting
 use Rattle.std.specs.Prelude.{◌≡◌, ◌<◌, ◌≤◌, ℕ, ℤ, Bool, true, false, List, [], ◌∷◌, ◌++◌, length, map, Option, Some, None, Result, Ok, Err}
-use Rattle.land_desk.specs.Serving.{Hears, IsServing, Moves}
+use Rattle.land_desk.specs.Serving.{Hears, IsServing, Reachable}
 use Rattle.land_desk.specs.declared.serve.DeskFault.{DeskFault}
 use Rattle.land_desk.specs.declared.serve.Served.{Served}
 use Rattle.land_desk.specs.declared.service.serving.ServiceFault.{ServiceFault}
@@ -19,7 +19,7 @@ pub record Connection : Type 0 where
 
 -- a connection is served by a run of the machine: over its bytes, where they are known, else over requests that it brought
 abbrev pub ServesOver : {C : Type 0} → (reads : C → ℤ → C → Type 0) → (bytes old new : Option (List ℕ)) → Result Served DeskFault → State C → State C → Type 0
-ServesOver reads None old new outcome from to = Moves (Hears reads) from to
+ServesOver reads None old new outcome from to = Reachable (Hears reads) from to
 ServesOver reads (Some bytes) old new outcome from to = IsServing reads bytes from to old new outcome
 
 abbrev pub IsConnection : {C : Type 0} → (reads : C → ℤ → C → Type 0) → State C → Connection → State C → Type 0

@@ -40,14 +40,14 @@ asks_head (faulty f) = false
 pub record Exchange : Type 0 where
   pub item : Item
   pub reply : Reply
-  pub said : List ℕ
+  pub sent : List ℕ
 
 -- the connection ends after it
 abbrev pub closing : Exchange → Bool
 closing x = is_last x.item || closes x.reply
 
 abbrev pub said_all : List Exchange → List ℕ
-said_all xs = flat_map (λ x. x.said) xs
+said_all xs = flat_map (λ x. x.sent) xs
 
 -- ---- what is told of a request
 
@@ -63,22 +63,22 @@ HearsIf honest reads from asked r to =
     × (honest → Element from.closed clock asked from.timeline r to.timeline to.closed)
 
 -- from each state at which a keeper stood, a way leads to one at which it stands
-abbrev pub Brings : {C : Type 0} → (stood stands : State C → Type 0) → (way : State C → State C → Type 0) → Type 0
-Brings {C} stood stands way = (from : State C) → stood from → (to : State C) × way from to × stands to
+abbrev pub ForwardSimulation : {C : Type 0} → (stood stands : State C → Type 0) → (way : State C → State C → Type 0) → Type 0
+ForwardSimulation {C} stood stands way = (from : State C) → stood from → (to : State C) × way from to × stands to
 
 -- what is told of a request that was read, or of its first fault, and where it leaves the machine
-abbrev pub Heard : {C : Type 0} → (State C → Request → Reply → State C → Type 0) → Result Request WireFault → State C → Reply → State C → Type 0
-Heard hears (Err fault) from r to = (r ≡ reply.Fault (fault_number fault)) × (to ≡ from)
-Heard hears (Ok asked) from r to = hears from asked r to
+abbrev pub Handles : {C : Type 0} → (State C → Request → Reply → State C → Type 0) → Result Request WireFault → State C → Reply → State C → Type 0
+Handles hears (Err fault) from r to = (r ≡ reply.Fault (fault_number fault)) × (to ≡ from)
+Handles hears (Ok asked) from r to = hears from asked r to
 
 -- 501 may be told in place of it, and changes nothing
-abbrev pub Told : {C : Type 0} → (State C → Request → Reply → State C → Type 0) → Result Request WireFault → State C → Reply → State C → Type 0
-Told hears q from r to = ((r ≡ reply.Store 501) × (to ≡ from)) ⊎ Heard hears q from r to
+abbrev pub HandlesOr501 : {C : Type 0} → (State C → Request → Reply → State C → Type 0) → Result Request WireFault → State C → Reply → State C → Type 0
+HandlesOr501 hears q from r to = ((r ≡ reply.Store 501) × (to ≡ from)) ⊎ Handles hears q from r to
 
 -- the reply to an item: to a request that can be read, the machine's; to any other, its fault
-abbrev pub Answers : {C : Type 0} → (State C → Request → Reply → State C → Type 0) → State C → Item → Reply → State C → Type 0
-Answers hears from (request h body) r to = Told hears (reading h.method h.target (field_map (fields_of h)) body) from r to
-Answers hears from (faulty f) r to = ((r ≡ reply.Fault (number_of f)) ⊎ (r ≡ reply.Store 501)) × (to ≡ from)
+abbrev pub RepliesTo : {C : Type 0} → (State C → Request → Reply → State C → Type 0) → State C → Item → Reply → State C → Type 0
+RepliesTo hears from (request h body) r to = HandlesOr501 hears (reading h.method h.target (field_map (fields_of h)) body) from r to
+RepliesTo hears from (faulty f) r to = ((r ≡ reply.Fault (number_of f)) ⊎ (r ≡ reply.Store 501)) × (to ≡ from)
 
 -- ---- what is heard of a stream, whether its bytes are known or not
 
@@ -95,37 +95,37 @@ HearsAll hears from [] (r ∷ replies) to = ⊥
 HearsAll hears from (asked ∷ requests) [] to = ⊥
 
 -- the machine comes from one state to another by requests that it hears, and by nothing else
-abbrev pub Moves : {C : Type 0} → (State C → Request → Reply → State C → Type 0) → State C → State C → Type 0
-Moves hears from to = (requests : List Request) × (replies : List Reply) × HearsAll hears from requests replies to
+abbrev pub Reachable : {C : Type 0} → (State C → Request → Reply → State C → Type 0) → State C → State C → Type 0
+Reachable hears from to = (requests : List Request) × (replies : List Reply) × HearsAll hears from requests replies to
 
 -- it comes to some state at which a keeper stands
 abbrev pub MovesTo : {C : Type 0} → (State C → Request → Reply → State C → Type 0) → State C → (stands : State C → Type 0) → Type 0
-MovesTo {C} hears from stands = (to : State C) × Moves hears from to × stands to
+MovesTo {C} hears from stands = (to : State C) × Reachable hears from to × stands to
 
 -- ---- what is served of bytes
 
 -- the item at the front of the bytes is answered, its reply is said, and rest is left
-abbrev pub One : {C : Type 0} → (State C → Request → Reply → State C → Type 0) → List ℕ → State C → Exchange → List ℕ → State C → Type 0
-One hears bytes from x rest to =
-    IsItem bytes x.item rest × Answers hears from x.item x.reply to × IsResponse x.reply (closing x) (asks_head x.item) x.said
+abbrev pub ServesItem : {C : Type 0} → (State C → Request → Reply → State C → Type 0) → List ℕ → State C → Exchange → List ℕ → State C → Type 0
+ServesItem hears bytes from x rest to =
+    IsItem bytes x.item rest × RepliesTo hears from x.item x.reply to × IsResponse x.reply (closing x) (asks_head x.item) x.sent
 
 -- so many items are answered one after another, and none of them ends the connection; rest is left
-abbrev pub Goes : {C : Type 0} → (State C → Request → Reply → State C → Type 0) → List ℕ → State C → List Exchange → List ℕ → State C → Type 0
-Goes hears bytes from [] rest to = (rest ≡ bytes) × (to ≡ from)
-Goes {C} hears bytes from (x ∷ xs) rest to =
-    (mid : List ℕ) × (next : State C) × One hears bytes from x mid next × (closing x ≡ false) × Goes hears mid next xs rest to
+abbrev pub ServesPrefix : {C : Type 0} → (State C → Request → Reply → State C → Type 0) → List ℕ → State C → List Exchange → List ℕ → State C → Type 0
+ServesPrefix hears bytes from [] rest to = (rest ≡ bytes) × (to ≡ from)
+ServesPrefix {C} hears bytes from (x ∷ xs) rest to =
+    (mid : List ℕ) × (next : State C) × ServesItem hears bytes from x mid next × (closing x ≡ false) × ServesPrefix hears mid next xs rest to
 
 -- the items of the bytes are answered, until nothing is left or one ends the connection
 abbrev pub IsServed : {C : Type 0} → (State C → Request → Reply → State C → Type 0) → List ℕ → State C → List Exchange → State C → Type 0
 IsServed hears bytes from [] to = (bytes ≡ []) × (to ≡ from)
 IsServed {C} hears bytes from (x ∷ xs) to =
-    (mid : List ℕ) × (next : State C) × One hears bytes from x mid next
+    (mid : List ℕ) × (next : State C) × ServesItem hears bytes from x mid next
     × (closing x ≡ true → (xs ≡ []) × (to ≡ next)) × (closing x ≡ false → IsServed hears mid next xs to)
 
 -- the replies to some items have been written, and no others; rest is left
 abbrev pub SoFar : {C : Type 0} → (State C → Request → Reply → State C → Type 0) → (bytes rest : List ℕ) → (from to : State C) → (old new : Option (List ℕ)) → (replies : ℕ) → Type 0
 SoFar hears bytes rest from to old new replies =
-    (xs : List Exchange) × Goes hears bytes from xs rest to × Appends old new (said_all xs) × (length xs ≡ replies)
+    (xs : List Exchange) × ServesPrefix hears bytes from xs rest to × Appends old new (said_all xs) × (length xs ≡ replies)
 
 -- serving bytes: all replies are written, and counted
 abbrev pub Serves : {C : Type 0} → (State C → Request → Reply → State C → Type 0) → List ℕ → State C → State C → (old new : Option (List ℕ)) → Result Served DeskFault → Type 0
@@ -134,7 +134,7 @@ Serves hears bytes from to old new (Ok served) =
 -- after a failed write a front of the response has gone out behind those before it, and the change stands
 Serves {C} hears bytes from to old new (Err desk.Write) =
     (xs : List Exchange) × (x : Exchange) × (rest after : List ℕ) × (now : State C) × (n : ℕ)
-    × Goes hears bytes from xs rest now × One hears rest now x after to × Appends old new (said_all xs ++ take n x.said)
+    × ServesPrefix hears bytes from xs rest now × ServesItem hears rest now x after to × Appends old new (said_all xs ++ take n x.sent)
 -- after a failed read, or where there was no memory for the input, the replies to the items before it have gone out
 Serves hears bytes from to old new (Err desk.Read) = (rest : List ℕ) × (n : ℕ) × SoFar hears bytes rest from to old new n
 Serves hears bytes from to old new (Err desk.NoMemory) = (rest : List ℕ) × (n : ℕ) × SoFar hears bytes rest from to old new n

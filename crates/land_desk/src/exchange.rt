@@ -3,8 +3,8 @@ ghost use Rattle.std.specs.Prelude.{◌≡◌, ◌||◌, ◌⊎◌, true, false,
 ghost use Rattle.land_core.specs.Acts.{is_well_formed_request};
 ghost use Rattle.land_core.specs.declared.ask.Request.{Request as AskedRequest};
 ghost use Rattle.land_desk.specs.Responses.{HasMoment};
-ghost use Rattle.land_desk.specs.Serving.{Brings, closes, Heard, HearsIf, Told};
-ghost use Rattle.land_desk.specs.Turns.{IsAnswer, answer_bytes};
+ghost use Rattle.land_desk.specs.Serving.{ForwardSimulation, closes, Handles, HearsIf, HandlesOr501};
+ghost use Rattle.land_desk.specs.Turns.{IsResponseTo, answer_bytes};
 ghost use Rattle.land_keep.specs.Faults.{number_of as keep_number};
 ghost use Rattle.land_keep.specs.Keeping.{IsAt};
 ghost use Rattle.land_keep.specs.Machine.{at_of};
@@ -28,9 +28,9 @@ use std::alloc::Global;
 #[derive(Debug, Drop)]
 pub enum AnswerBytes {
     /// Made for this reply.
-    Made(Vec<u8>),
+    Owned(Vec<u8>),
     /// Those of a store fault, which are always at hand.
-    Kept(&'static [u8]),
+    Static(&'static [u8]),
 }
 
 impl AnswerBytes {
@@ -39,19 +39,19 @@ impl AnswerBytes {
         ensures { result.now ≡ answer_bytes self.now }
     {
         match self {
-            AnswerBytes::Made(bytes) => bytes.as_slice(),
-            AnswerBytes::Kept(bytes) => bytes,
+            AnswerBytes::Owned(bytes) => bytes.as_slice(),
+            AnswerBytes::Static(bytes) => bytes,
         }
     }
 }
 
 /// The bytes of an answer, and whether the connection ends after it.
 #[derive(Debug, Drop)]
-pub struct Answer {
+pub struct Response {
     /// What is written.
     pub bytes: AnswerBytes,
     /// Whether the connection ends.
-    pub last: bool,
+    pub close_after: bool,
 }
 
 /// Answers a request that was read, or the fault in it. Where there is no room for the answer's bytes it is 501, and
@@ -63,13 +63,13 @@ pub fn handle<K: Keeper, C: Clock>(
     request: Result<Request, WireFault>,
     ends: bool,
     head: bool,
-) -> Answer
+) -> Response
     requires well_formed { IfOk request (λ asked. is_well_formed_request asked ≡ true) }
     requires moment { IfOk request (λ asked. IsStated (at_of asked.ask)) }
-    ensures told { (q : Result AskedRequest WireFault) → Gives (λ asked. asked) request q → Brings
+    ensures told { (q : Result AskedRequest WireFault) → Gives (λ asked. asked) request q → ForwardSimulation
         (IsAt (K.honest keeper.old) (K.closed keeper.old) (K.timeline keeper.old) clock.old)
         (IsAt (K.honest keeper.new) (K.closed keeper.new) (K.timeline keeper.new) clock.new)
-        (λ from to. (r : Reply) × Told (HearsIf (K.honest keeper.new) C.reads) q from r to × IsAnswer result r ends head) }
+        (λ from to. (r : Reply) × HandlesOr501 (HearsIf (K.honest keeper.new) C.reads) q from r to × IsResponseTo result r ends head) }
     ensures was { K.honest keeper.new → K.honest keeper.old }
 {
     match request {
@@ -87,13 +87,13 @@ fn exchange_request<K: Keeper, C: Clock>(
     request: &Request,
     ends: bool,
     head: bool,
-) -> Answer
+) -> Response
     requires well_formed { is_well_formed_request request.now ≡ true }
     requires moment { IsStated (at_of request.now.ask) }
-    ensures heard { Brings
+    ensures heard { ForwardSimulation
         (IsAt (K.honest keeper.old) (K.closed keeper.old) (K.timeline keeper.old) clock.old)
         (IsAt (K.honest keeper.new) (K.closed keeper.new) (K.timeline keeper.new) clock.new)
-        (λ from to. (r : Reply) × Heard (HearsIf (K.honest keeper.new) C.reads) (Ok request.now) from r to × IsAnswer result r ends head) }
+        (λ from to. (r : Reply) × Handles (HearsIf (K.honest keeper.new) C.reads) (Ok request.now) from r to × IsResponseTo result r ends head) }
     ensures was { K.honest keeper.new → K.honest keeper.old }
 {
     let reading = clock.read();
@@ -101,7 +101,7 @@ fn exchange_request<K: Keeper, C: Clock>(
         Err(fault) => return store_failure(fault, ends, head),
         Ok(prepared) => prepared,
     };
-    let Some(answer) = answered(alloc, prepared.reply(), ends, head) else {
+    let Some(answer) = try_respond(alloc, prepared.reply(), ends, head) else {
         return store_failure(StoreFault::NoMemory, ends, head);
     };
     match finish(alloc, keeper, prepared) {
@@ -111,52 +111,52 @@ fn exchange_request<K: Keeper, C: Clock>(
 }
 
 /// Answers an item that is a fault of framing: the connection ends after it.
-pub fn refuse(alloc: Global, fault: FrameFault) -> Answer
-    ensures { (r : Reply) × ((r ≡ reply.Fault (number_of fault)) ⊎ (r ≡ reply.Store 501)) × IsAnswer result r true false }
+pub fn reject(alloc: Global, fault: FrameFault) -> Response
+    ensures { (r : Reply) × ((r ≡ reply.Fault (number_of fault)) ⊎ (r ≡ reply.Store 501)) × IsResponseTo result r true false }
 {
     answered_or_failed(alloc, &Reply::Fault(fault.number()), true, false)
 }
 
-fn answered_or_failed(alloc: Global, wanted: &Reply, ends: bool, head: bool) -> Answer
+fn answered_or_failed(alloc: Global, wanted: &Reply, ends: bool, head: bool) -> Response
     requires { HasMoment wanted.now }
-    ensures { (r : Reply) × ((r ≡ wanted.now) ⊎ (r ≡ reply.Store 501)) × IsAnswer result r ends head }
+    ensures { (r : Reply) × ((r ≡ wanted.now) ⊎ (r ≡ reply.Store 501)) × IsResponseTo result r ends head }
 {
-    match answered(alloc, wanted, ends, head) {
+    match try_respond(alloc, wanted, ends, head) {
         Some(answer) => answer,
         None => store_failure(StoreFault::NoMemory, ends, head),
     }
 }
 
 /// The answer of a reply, or none where there is no room for its bytes.
-fn answered(alloc: Global, reply: &Reply, ends: bool, head: bool) -> Option<Answer>
+fn try_respond(alloc: Global, reply: &Reply, ends: bool, head: bool) -> Option<Response>
     requires { HasMoment reply.now }
-    ensures { MatchOption result (Unit {0}) (λ a. IsAnswer a reply.now ends head) }
+    ensures { MatchOption result (Unit {0}) (λ a. IsResponseTo a reply.now ends head) }
 {
-    let last = ends || closes(reply);
+    let close_after = ends || closes(reply);
     let text = body_text(alloc, reply).ok()?;
     let bytes = response_bytes(
         alloc,
         Status::of(reply),
         Medium::of(reply),
         text.as_str(),
-        last,
+        close_after,
         head,
     )
     .ok()?;
-    Some(Answer {
-        bytes: AnswerBytes::Made(bytes),
-        last,
+    Some(Response {
+        bytes: AnswerBytes::Owned(bytes),
+        close_after,
     })
 }
 
 /// The answer of a store fault, which wants no memory.
-fn store_failure(fault: StoreFault, ends: bool, head: bool) -> Answer
-    ensures { IsAnswer result (reply.Store (keep_number fault)) ends head }
+fn store_failure(fault: StoreFault, ends: bool, head: bool) -> Response
+    ensures { IsResponseTo result (reply.Store (keep_number fault)) ends head }
 {
-    let last = ends || fault != StoreFault::NoMemory;
-    Answer {
-        bytes: AnswerBytes::Kept(store_response(fault.number(), last, head)),
-        last,
+    let close_after = ends || fault != StoreFault::NoMemory;
+    Response {
+        bytes: AnswerBytes::Static(store_response(fault.number(), close_after, head)),
+        close_after,
     }
 }
 

@@ -116,13 +116,13 @@ fn serve_items<R: Read, W: Write, K: Keeper, C: Clock>(
             headers,
         ) {
             Err(fault) => return Err(fault),
-            Ok(Turn::End) => return Ok(Served { replies }),
-            Ok(Turn::Last) => {
+            Ok(Turn::Eof) => return Ok(Served { replies }),
+            Ok(Turn::Close) => {
                 return Ok(Served {
                     replies: replies + 1,
                 });
             }
-            Ok(Turn::More) => replies += 1,
+            Ok(Turn::KeepAlive) => replies += 1,
         }
     }
 }

@@ -4,7 +4,7 @@ ghost use Rattle.std.specs.Io.KnownBytes.{prepend_known};
 ghost use Rattle.httparse.specs.Grammar.{RequestHead};
 ghost use Rattle.httparse.specs.Spans.{IsRequestAt, span_bytes};
 ghost use Rattle.land_core.specs.Acts.{is_well_formed_request};
-ghost use Rattle.land_desk.specs.Serving.{Brings, HearsIf, MayHear};
+ghost use Rattle.land_desk.specs.Serving.{ForwardSimulation, HearsIf, MayHear};
 ghost use Rattle.land_desk.specs.Serving.Asking.{IfBoth};
 ghost use Rattle.land_desk.specs.Turns.{IsAsked, IsSpent, IsTurn, IsWritten, Spoken, answer_bytes};
 ghost use Rattle.land_keep.specs.Keeping.{IsAt};
@@ -17,7 +17,7 @@ ghost use Rattle.land_wire.specs.Reading.{reading};
 ghost use Rattle.land_wire.specs.Routes.Table.{FindsRoutes};
 ghost use Rattle.land_wire_json.specs.Bodies.WireFaults.{Gives};
 
-use crate::exchange::{Answer, handle, refuse};
+use crate::exchange::{Response, handle, reject};
 use crate::serve::DeskFault;
 use httparse::spans::{HeaderSpan, RequestSpans};
 use land_core::ask::Request;
@@ -41,11 +41,11 @@ use std::io::{Read, Write};
 #[derive(Clone, Copy, Debug, PartialEq, Eq)]
 pub enum Turn {
     /// No byte was left.
-    End,
+    Eof,
     /// A reply was given after which the connection ends.
-    Last,
+    Close,
     /// A reply was given, and the connection goes on.
-    More,
+    KeepAlive,
 }
 
 /// Serves the item at the front of what the buffer holds and the reader has left, which is not asked once the item is
@@ -63,13 +63,13 @@ pub(crate) fn take_turn<R: Read, W: Write, K: Keeper, C: Clock>(
     requires routed { FindsRoutes router.now }
     requires room { 2731 ≤ length headers.old }
     ensures room { length headers.new ≡ length headers.old }
-    ensures turn { IfSome (prepend_known buffer.old.items (R.remaining reader.old.reader.now)) (λ bytes. Brings
+    ensures turn { IfSome (prepend_known buffer.old.items (R.remaining reader.old.reader.now)) (λ bytes. ForwardSimulation
         (IsAt (K.honest keeper.old) (K.closed keeper.old) (K.timeline keeper.old) clock.old)
         (IsAt (K.honest keeper.new) (K.closed keeper.new) (K.timeline keeper.new) clock.new)
         (λ from to. IsTurn (HearsIf (K.honest keeper.new) C.reads) bytes from to
         (prepend_known buffer.new.items (R.remaining reader.new.reader.now))
         (W.contents writer.old) (W.contents writer.new) result)) }
-    ensures hears { Brings
+    ensures hears { ForwardSimulation
         (IsAt (K.honest keeper.old) (K.closed keeper.old) (K.timeline keeper.old) clock.old)
         (IsAt (K.honest keeper.new) (K.closed keeper.new) (K.timeline keeper.new) clock.new)
         (MayHear (HearsIf (K.honest keeper.new) C.reads)) }
@@ -81,20 +81,20 @@ pub(crate) fn take_turn<R: Read, W: Write, K: Keeper, C: Clock>(
         (IsSpent (length buffer.old.items + 1024 * reader.old.left) (length buffer.new.items + 1024 * reader.new.left)) }
     ensures same_reference { reader.new.reader.ghost_name ≡ reader.old.reader.ghost_name }
     ensures fewer { reader.new.left ≤ reader.old.left }
-    ensures progress { IfOk result (λ turn. turn ≡ Turn.More
+    ensures progress { IfOk result (λ turn. turn ≡ Turn.KeepAlive
         → length buffer.new.items + 1024 * reader.new.left < length buffer.old.items + 1024 * reader.old.left) }
     ensures read_fault { IfErr result (λ fault. fault ≡ DeskFault.Read → (reader.new.left ≡ 0) ⊎ (reader.new.left < reader.old.left)) }
 {
     match read_item(reader, buffer, headers) {
         Err(StreamFault::Read) => Err(DeskFault::Read),
         Err(StreamFault::NoMemory) => Err(DeskFault::NoMemory),
-        Ok(Front::End) => Ok(Turn::End),
-        Ok(Front::Fault(fault)) => say(writer, &refuse(alloc, fault)),
+        Ok(Front::End) => Ok(Turn::Eof),
+        Ok(Front::Fault(fault)) => write_response(writer, &reject(alloc, fault)),
         Ok(Front::Request(spans, length)) => {
             let answer = answer_request(
                 alloc, router, keeper, clock, buffer, headers, spans, length,
             );
-            let turn = say(writer, &answer);
+            let turn = write_response(writer, &answer);
             drop_front(buffer, spans.len + length);
             turn
         }
@@ -102,13 +102,13 @@ pub(crate) fn take_turn<R: Read, W: Write, K: Keeper, C: Clock>(
 }
 
 /// Writes an answer.
-fn say<W: Write>(writer: &mut W, answer: &Answer) -> Result<Turn, DeskFault>
-    ensures { IsWritten (answer_bytes answer.now.bytes) answer.now.last (W.contents writer.old) (W.contents writer.new) result }
+fn write_response<W: Write>(writer: &mut W, answer: &Response) -> Result<Turn, DeskFault>
+    ensures { IsWritten (answer_bytes answer.now.bytes) answer.now.close_after (W.contents writer.old) (W.contents writer.new) result }
 {
     match send(writer, answer.bytes.as_slice()) {
         Err(_) => Err(DeskFault::Write),
-        Ok(()) if answer.last => Ok(Turn::Last),
-        Ok(()) => Ok(Turn::More),
+        Ok(()) if answer.close_after => Ok(Turn::Close),
+        Ok(()) => Ok(Turn::KeepAlive),
     }
 }
 
@@ -122,19 +122,19 @@ fn answer_request<K: Keeper, C: Clock>(
     headers: &[HeaderSpan],
     spans: RequestSpans,
     length: usize,
-) -> Answer
+) -> Response
     requires routed { FindsRoutes router.now }
     requires at_front { IsRequestIn buffer.now headers.now spans length }
-    ensures spoken { (more : List ℕ) → Brings
+    ensures spoken { (more : List ℕ) → ForwardSimulation
         (IsAt (K.honest keeper.old) (K.closed keeper.old) (K.timeline keeper.old) clock.old)
         (IsAt (K.honest keeper.new) (K.closed keeper.new) (K.timeline keeper.new) clock.new)
         (λ from to. Spoken (HearsIf (K.honest keeper.new) C.reads) (buffer.now ++ more) from result (drop (spans.len + length) buffer.now ++ more) to) }
     ensures was { K.honest keeper.new → K.honest keeper.old }
 {
     let request = request_at(alloc, router, buffer, headers, &spans, length);
-    let last = ends(&spans, buffer, headers);
+    let close_after = ends(&spans, buffer, headers);
     let head = is_head(&spans, buffer, headers);
-    handle(alloc, keeper, clock, request, last, head)
+    handle(alloc, keeper, clock, request, close_after, head)
 }
 
 /// The request that stands at the front of the buffer, or its first fault.

@@ -15,9 +15,9 @@ abbrev pub TakesAtMost : (most : ℕ) → (bytes left : List ℕ) → Type 0
 TakesAtMost most bytes left = (taken : List ℕ) × (bytes ≡ taken ++ left) × (length taken ≤ most)
 
 -- these items stand at the front of the bytes, and the rest follows them
-abbrev pub Begins : List ℕ → List Item → List ℕ → Type 0
-Begins bytes [] rest = rest ≡ bytes
-Begins bytes (item ∷ items) rest = (mid : List ℕ) × IsItem bytes item mid × Begins mid items rest
+abbrev pub BeginsWith : List ℕ → List Item → List ℕ → Type 0
+BeginsWith bytes [] rest = rest ≡ bytes
+BeginsWith bytes (item ∷ items) rest = (mid : List ℕ) × IsItem bytes item mid × BeginsWith mid items rest
 
 -- nothing was asked once the item at the front of the bytes was there: rest follows it, and so much is left in the reader
 abbrev pub IsAskedFor : (bytes : List ℕ) → Item → (rest left : List ℕ) → Type 0
@@ -34,4 +34,4 @@ AsksForOne bytes left = (item : Item) × (rest : List ℕ) × IsItem bytes item 
 abbrev pub AsksFor : (items : ℕ) → (bytes left : List ℕ) → Type 0
 AsksFor n bytes left =
     ((n ≡ 0) × (left ≡ []))
-    ⊎ ((items : List Item) × (at_last : List ℕ) × Begins bytes items at_last × (n ≡ length items + 1) × AsksForOne at_last left)
+    ⊎ ((items : List Item) × (at_last : List ℕ) × BeginsWith bytes items at_last × (n ≡ length items + 1) × AsksForOne at_last left)

@@ -47,8 +47,8 @@ impl<'a, M: time::Clock> CallReader<'a, M> {
 
 impl<'a, M: time::Clock> Read for CallReader<'a, M> {
     fn read(&mut self, buf: &mut [u8]) -> io::Result<usize> {
-        let wait = self.watch.wait()?;
-        self.stream.set_read_timeout(Some(wait))?;
+        let next_timeout = self.watch.next_timeout()?;
+        self.stream.set_read_timeout(Some(next_timeout))?;
         let count = self.stream.read(buf)?;
         self.watch.start()?;
         Ok(count)

@@ -11,17 +11,17 @@ use std::{io, time};
 pub(crate) const PATIENCE: u64 = 30;
 
 /// So many seconds a request may take, from its first bytes to its last.
-const WHOLE: u64 = 60;
+const REQUEST_TIMEOUT: u64 = 60;
 
 /// So many seconds a connection is read on after its last reply.
-const AFTER: u64 = 1;
+const LINGER: u64 = 1;
 
 /// How long the next bytes of a request are waited for that has taken so long already.
 pub fn wait_after(taken: Duration) -> Duration
     ensures { as_nanos result ≡ read_timeout_after (as_nanos taken) }
 {
     let most = Duration::from_secs(PATIENCE);
-    let left = Duration::from_secs(WHOLE).saturating_sub(taken);
+    let left = Duration::from_secs(REQUEST_TIMEOUT).saturating_sub(taken);
     if left < most { left } else { most }
 }
 
@@ -61,8 +61,8 @@ impl<M: time::Clock> Stopwatch<M> {
     }
 
     /// How long the next bytes are waited for: not at all where the request at hand has taken its time.
-    pub fn wait(&self) -> io::Result<Duration>
-        ensures { IfOk result (λ wait. as_nanos wait ≤ idle_timeout) }
+    pub fn next_timeout(&self) -> io::Result<Duration>
+        ensures { IfOk result (λ next_timeout. as_nanos next_timeout ≤ idle_timeout) }
     {
         match self.started_at.get() {
             Some(started_at) => Ok(wait_after(started_at.elapsed(&self.machine)?)),
@@ -75,6 +75,6 @@ impl<M: time::Clock> Stopwatch<M> {
         ensures { IfOk result (λ left. as_nanos left ≤ linger) }
     {
         let gone = served.elapsed(&self.machine)?;
-        Ok(Duration::from_secs(AFTER).saturating_sub(gone))
+        Ok(Duration::from_secs(LINGER).saturating_sub(gone))
     }
 }

@@ -78,6 +78,6 @@ returns-in-Ok-finish-clause-heard g c from at =
     from at in
     (it.0, (c.in-Ok.prepared.reply, it.1, rw c.reply.ensures at c.in-Some.ensures), it.2)
 
-pub answered-requires : goal.answered-requires
-answered-requires g c =
+pub try_respond-requires : goal.try_respond-requires
+try_respond-requires g c =
     rw c.reply.ensures (shown_has_moment c.args.request.now c.in-Ok.prepared.reply c.requires.moment c.in-Ok.ensures.moment)

@@ -1,7 +1,7 @@
 use Rattle.std.proofs.Common.{◌≢◌, Result, ap, inl, inr, refl, rules, subst, sym}
 use Rattle.land_core.specs.declared.ask.Request.{Request}
 use Rattle.land_desk.proofs.ExchangeLemmas.{fault_is_told}
-use Rattle.land_desk.specs.Serving.{HearsIf, Told}
+use Rattle.land_desk.specs.Serving.{HearsIf, HandlesOr501}
 use Rattle.land_keep.specs.declared.reply.Reply.TheVariants as reply
 use Rattle.land_wire_json.specs.Bodies.WireFaults.{Gives}
 use Rattle.land_wire_json.specs.declared.bodies.wire_fault.WireFault.{WireFault}
@@ -38,7 +38,7 @@ returns-in-Ok-clause-told g c q gives from at =
       it.0,
       (
         it.1.0,
-        subst (λ (x : Result Request WireFault). Told hears x from it.1.0 it.0) (sym q_is) (inr it.1.1),
+        subst (λ (x : Result Request WireFault). HandlesOr501 hears x from it.1.0 it.0) (sym q_is) (inr it.1.1),
         it.1.2,
       ),
       it.2,

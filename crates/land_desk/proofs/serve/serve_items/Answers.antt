@@ -10,11 +10,11 @@ use Rattle.land_keep.specs.Keeping.{IsAt}
 use Rattle.land_keep.specs.Machine.{State}
 use Rattle.land_desk.proofs.serve.serve_items.Goals as goal
 
-pub returns-in-Ok-End-clause-served : goal.returns-in-Ok-End-clause-served
-returns-in-Ok-End-clause-served g c =
+pub returns-in-Ok-Eof-clause-served : goal.returns-in-Ok-Eof-clause-served
+returns-in-Ok-Eof-clause-served g c =
     let hears = HearsIf (g.K.Keeper.honest c.loop-fault.keeper) g.C.Clock.reads in
     let later = HearsIf (g.K.Keeper.honest c.take_turn.new.keeper) g.C.Clock.reads in
-    let weaken = heard_later g.C.Clock.reads (g.K.Keeper.honest c.loop-fault.keeper) (g.K.Keeper.honest c.take_turn.new.keeper) c.in-Ok-End.ensures.was in
+    let weaken = heard_later g.C.Clock.reads (g.K.Keeper.honest c.loop-fault.keeper) (g.K.Keeper.honest c.take_turn.new.keeper) c.in-Ok-Eof.ensures.was in
     let from : State g.row.C.Denot = record { closed = g.K.Keeper.closed c.args.keeper.now; timeline = g.K.Keeper.timeline c.args.keeper.now; clock = c.args.clock.now } in
     let start = g.R.Read.remaining c.args.reader.now.reader.now in
     let before = prepend_known c.loop-fault.buffer.items (g.R.Read.remaining c.loop-fault.reader.reader.now) in
@@ -26,15 +26,15 @@ returns-in-Ok-End-clause-served g c =
     (λ s. IsAt (g.K.Keeper.honest c.loop-fault.keeper) (g.K.Keeper.closed c.loop-fault.keeper) (g.K.Keeper.timeline c.loop-fault.keeper) c.loop-fault.clock s)
     (λ s. IsAt (g.K.Keeper.honest c.take_turn.new.keeper) (g.K.Keeper.closed c.take_turn.new.keeper) (g.K.Keeper.timeline c.take_turn.new.keeper) c.take_turn.new.clock s)
     from start before w u v c.loop-fault.replies (Ok (record { replies = c.loop-fault.replies }))
-    (λ rest now to. IsTurn later rest now to after u v (Ok c.in-Ok-End.field-0))
-    (λ now to so turn. serves_end later start before after from now to w u v c.loop-fault.replies _ c.in-Ok-End.field-0-is so turn)
-    c.loop-fault.invariant.1 c.in-Ok-End.ensures.turn
+    (λ rest now to. IsTurn later rest now to after u v (Ok c.in-Ok-Eof.field-0))
+    (λ now to so turn. serves_end later start before after from now to w u v c.loop-fault.replies _ c.in-Ok-Eof.field-0-is so turn)
+    c.loop-fault.invariant.1 c.in-Ok-Eof.ensures.turn
 
-pub returns-in-Ok-Last-clause-served : goal.returns-in-Ok-Last-clause-served
-returns-in-Ok-Last-clause-served g c =
+pub returns-in-Ok-Close-clause-served : goal.returns-in-Ok-Close-clause-served
+returns-in-Ok-Close-clause-served g c =
     let hears = HearsIf (g.K.Keeper.honest c.loop-fault.keeper) g.C.Clock.reads in
     let later = HearsIf (g.K.Keeper.honest c.take_turn.new.keeper) g.C.Clock.reads in
-    let weaken = heard_later g.C.Clock.reads (g.K.Keeper.honest c.loop-fault.keeper) (g.K.Keeper.honest c.take_turn.new.keeper) c.in-Ok-Last.ensures.was in
+    let weaken = heard_later g.C.Clock.reads (g.K.Keeper.honest c.loop-fault.keeper) (g.K.Keeper.honest c.take_turn.new.keeper) c.in-Ok-Close.ensures.was in
     let from : State g.row.C.Denot = record { closed = g.K.Keeper.closed c.args.keeper.now; timeline = g.K.Keeper.timeline c.args.keeper.now; clock = c.args.clock.now } in
     let start = g.R.Read.remaining c.args.reader.now.reader.now in
     let before = prepend_known c.loop-fault.buffer.items (g.R.Read.remaining c.loop-fault.reader.reader.now) in
@@ -46,9 +46,9 @@ returns-in-Ok-Last-clause-served g c =
     (λ s. IsAt (g.K.Keeper.honest c.loop-fault.keeper) (g.K.Keeper.closed c.loop-fault.keeper) (g.K.Keeper.timeline c.loop-fault.keeper) c.loop-fault.clock s)
     (λ s. IsAt (g.K.Keeper.honest c.take_turn.new.keeper) (g.K.Keeper.closed c.take_turn.new.keeper) (g.K.Keeper.timeline c.take_turn.new.keeper) c.take_turn.new.clock s)
     from start before w u v c.loop-fault.replies (Ok (record { replies = c.loop-fault.replies + 1 }))
-    (λ rest now to. IsTurn later rest now to after u v (Ok c.in-Ok-Last.field-0))
-    (λ now to so turn. serves_last later start before after from now to w u v c.loop-fault.replies _ c.in-Ok-Last.field-0-is so turn)
-    c.loop-fault.invariant.1 c.in-Ok-Last.ensures.turn
+    (λ rest now to. IsTurn later rest now to after u v (Ok c.in-Ok-Close.field-0))
+    (λ now to so turn. serves_last later start before after from now to w u v c.loop-fault.replies _ c.in-Ok-Close.field-0-is so turn)
+    c.loop-fault.invariant.1 c.in-Ok-Close.ensures.turn
 
 pub returns-in-Err-clause-served : goal.returns-in-Err-clause-served
 returns-in-Err-clause-served g c =
@@ -74,7 +74,7 @@ pub loop-fault-preserved : goal.loop-fault-preserved
 loop-fault-preserved g c =
     let hears = HearsIf (g.K.Keeper.honest c.loop-fault.keeper) g.C.Clock.reads in
     let later = HearsIf (g.K.Keeper.honest c.take_turn.new.keeper) g.C.Clock.reads in
-    let weaken = heard_later g.C.Clock.reads (g.K.Keeper.honest c.loop-fault.keeper) (g.K.Keeper.honest c.take_turn.new.keeper) c.in-Ok-More.ensures.was in
+    let weaken = heard_later g.C.Clock.reads (g.K.Keeper.honest c.loop-fault.keeper) (g.K.Keeper.honest c.take_turn.new.keeper) c.in-Ok-KeepAlive.ensures.was in
     let from : State g.row.C.Denot = record { closed = g.K.Keeper.closed c.args.keeper.now; timeline = g.K.Keeper.timeline c.args.keeper.now; clock = c.args.clock.now } in
     let start = g.R.Read.remaining c.args.reader.now.reader.now in
     let before = prepend_known c.loop-fault.buffer.items (g.R.Read.remaining c.loop-fault.reader.reader.now) in
@@ -82,24 +82,24 @@ loop-fault-preserved g c =
     let w = g.W.Write.contents c.args.writer.now in
     let u = g.W.Write.contents c.loop-fault.writer in
     let v = g.W.Write.contents c.take_turn.new.writer in (
-      omega (arith, c.loop-fault.invariant.0, c.in-Ok-More.ensures.room),
+      omega (arith, c.loop-fault.invariant.0, c.in-Ok-KeepAlive.ensures.room),
       keeps_on hears later weaken
           (λ s. IsAt (g.K.Keeper.honest c.loop-fault.keeper) (g.K.Keeper.closed c.loop-fault.keeper) (g.K.Keeper.timeline c.loop-fault.keeper) c.loop-fault.clock s)
           (λ s. IsAt (g.K.Keeper.honest c.take_turn.new.keeper) (g.K.Keeper.closed c.take_turn.new.keeper) (g.K.Keeper.timeline c.take_turn.new.keeper) c.take_turn.new.clock s)
-          from start before after w u v c.loop-fault.replies c.in-Ok-More.field-0 c.in-Ok-More.field-0-is
-          c.loop-fault.invariant.1 c.in-Ok-More.ensures.turn,
+          from start before after w u v c.loop-fault.replies c.in-Ok-KeepAlive.field-0 c.in-Ok-KeepAlive.field-0-is
+          c.loop-fault.invariant.1 c.in-Ok-KeepAlive.ensures.turn,
       moves_on hears later weaken
           (λ s. IsAt (g.K.Keeper.honest c.loop-fault.keeper) (g.K.Keeper.closed c.loop-fault.keeper) (g.K.Keeper.timeline c.loop-fault.keeper) c.loop-fault.clock s)
           (λ s. IsAt (g.K.Keeper.honest c.take_turn.new.keeper) (g.K.Keeper.closed c.take_turn.new.keeper) (g.K.Keeper.timeline c.take_turn.new.keeper) c.take_turn.new.clock s)
-          from c.loop-fault.invariant.2 c.in-Ok-More.ensures.hears,
-      (λ trust. c.loop-fault.invariant.3 (c.in-Ok-More.ensures.was trust)),
+          from c.loop-fault.invariant.2 c.in-Ok-KeepAlive.ensures.hears,
+      (λ trust. c.loop-fault.invariant.3 (c.in-Ok-KeepAlive.ensures.was trust)),
       kept_short start before (g.R.Read.remaining c.take_turn.new.reader.reader.now) c.loop-fault.buffer.items c.take_turn.new.buffer.items
-          c.in-Ok-More.field-0 c.in-Ok-More.field-0-is c.loop-fault.invariant.4 c.in-Ok-More.ensures.asked,
+          c.in-Ok-KeepAlive.field-0 c.in-Ok-KeepAlive.field-0-is c.loop-fault.invariant.4 c.in-Ok-KeepAlive.ensures.asked,
       spent_on start before after (1024 * c.args.reader.now.left) (length c.loop-fault.buffer.items + 1024 * c.loop-fault.reader.left)
-          (length c.take_turn.new.buffer.items + 1024 * c.take_turn.new.reader.left) c.loop-fault.invariant.5 c.in-Ok-More.ensures.bound,
-      c.in-Ok-More.ensures.same_reference ∙ c.loop-fault.invariant.6,
-      omega (arith, c.loop-fault.invariant.7, c.in-Ok-More.ensures.progress c.in-Ok-More.field-0-is),
-      omega (arith, c.loop-fault.invariant.8, c.in-Ok-More.ensures.fewer),
+          (length c.take_turn.new.buffer.items + 1024 * c.take_turn.new.reader.left) c.loop-fault.invariant.5 c.in-Ok-KeepAlive.ensures.bound,
+      c.in-Ok-KeepAlive.ensures.same_reference ∙ c.loop-fault.invariant.6,
+      omega (arith, c.loop-fault.invariant.7, c.in-Ok-KeepAlive.ensures.progress c.in-Ok-KeepAlive.field-0-is),
+      omega (arith, c.loop-fault.invariant.8, c.in-Ok-KeepAlive.ensures.fewer),
     )
 
 pub loop-fault-init : goal.loop-fault-init
@@ -118,27 +118,27 @@ loop-fault-init g c =
       omega arith,
     )
 
-pub returns-in-Ok-End-clause-moves : goal.returns-in-Ok-End-clause-moves
-returns-in-Ok-End-clause-moves g c =
+pub returns-in-Ok-Eof-clause-moves : goal.returns-in-Ok-Eof-clause-moves
+returns-in-Ok-Eof-clause-moves g c =
     let hears = HearsIf (g.K.Keeper.honest c.loop-fault.keeper) g.C.Clock.reads in
     let later = HearsIf (g.K.Keeper.honest c.take_turn.new.keeper) g.C.Clock.reads in
-    let weaken = heard_later g.C.Clock.reads (g.K.Keeper.honest c.loop-fault.keeper) (g.K.Keeper.honest c.take_turn.new.keeper) c.in-Ok-End.ensures.was in
+    let weaken = heard_later g.C.Clock.reads (g.K.Keeper.honest c.loop-fault.keeper) (g.K.Keeper.honest c.take_turn.new.keeper) c.in-Ok-Eof.ensures.was in
     moves_on hears later weaken
     (λ s. IsAt (g.K.Keeper.honest c.loop-fault.keeper) (g.K.Keeper.closed c.loop-fault.keeper) (g.K.Keeper.timeline c.loop-fault.keeper) c.loop-fault.clock s)
     (λ s. IsAt (g.K.Keeper.honest c.take_turn.new.keeper) (g.K.Keeper.closed c.take_turn.new.keeper) (g.K.Keeper.timeline c.take_turn.new.keeper) c.take_turn.new.clock s)
     (record { closed = g.K.Keeper.closed c.args.keeper.now; timeline = g.K.Keeper.timeline c.args.keeper.now; clock = c.args.clock.now })
-    c.loop-fault.invariant.2 c.in-Ok-End.ensures.hears
+    c.loop-fault.invariant.2 c.in-Ok-Eof.ensures.hears
 
-pub returns-in-Ok-Last-clause-moves : goal.returns-in-Ok-Last-clause-moves
-returns-in-Ok-Last-clause-moves g c =
+pub returns-in-Ok-Close-clause-moves : goal.returns-in-Ok-Close-clause-moves
+returns-in-Ok-Close-clause-moves g c =
     let hears = HearsIf (g.K.Keeper.honest c.loop-fault.keeper) g.C.Clock.reads in
     let later = HearsIf (g.K.Keeper.honest c.take_turn.new.keeper) g.C.Clock.reads in
-    let weaken = heard_later g.C.Clock.reads (g.K.Keeper.honest c.loop-fault.keeper) (g.K.Keeper.honest c.take_turn.new.keeper) c.in-Ok-Last.ensures.was in
+    let weaken = heard_later g.C.Clock.reads (g.K.Keeper.honest c.loop-fault.keeper) (g.K.Keeper.honest c.take_turn.new.keeper) c.in-Ok-Close.ensures.was in
     moves_on hears later weaken
     (λ s. IsAt (g.K.Keeper.honest c.loop-fault.keeper) (g.K.Keeper.closed c.loop-fault.keeper) (g.K.Keeper.timeline c.loop-fault.keeper) c.loop-fault.clock s)
     (λ s. IsAt (g.K.Keeper.honest c.take_turn.new.keeper) (g.K.Keeper.closed c.take_turn.new.keeper) (g.K.Keeper.timeline c.take_turn.new.keeper) c.take_turn.new.clock s)
     (record { closed = g.K.Keeper.closed c.args.keeper.now; timeline = g.K.Keeper.timeline c.args.keeper.now; clock = c.args.clock.now })
-    c.loop-fault.invariant.2 c.in-Ok-Last.ensures.hears
+    c.loop-fault.invariant.2 c.in-Ok-Close.ensures.hears
 
 pub returns-in-Err-clause-moves : goal.returns-in-Err-clause-moves
 returns-in-Err-clause-moves g c =
@@ -151,8 +151,8 @@ returns-in-Err-clause-moves g c =
     (record { closed = g.K.Keeper.closed c.args.keeper.now; timeline = g.K.Keeper.timeline c.args.keeper.now; clock = c.args.clock.now })
     c.loop-fault.invariant.2 c.in-Err.ensures.hears
 
-pub returns-in-Ok-End-clause-asked : goal.returns-in-Ok-End-clause-asked
-returns-in-Ok-End-clause-asked g c =
+pub returns-in-Ok-Eof-clause-asked : goal.returns-in-Ok-Eof-clause-asked
+returns-in-Ok-Eof-clause-asked g c =
     asked_to_end (HearsIf (g.K.Keeper.honest c.loop-fault.keeper) g.C.Clock.reads)
     (record { closed = g.K.Keeper.closed c.args.keeper.now; timeline = g.K.Keeper.timeline c.args.keeper.now; clock = c.args.clock.now })
     (λ s. IsAt (g.K.Keeper.honest c.loop-fault.keeper) (g.K.Keeper.closed c.loop-fault.keeper) (g.K.Keeper.timeline c.loop-fault.keeper) c.loop-fault.clock s)
@@ -160,10 +160,10 @@ returns-in-Ok-End-clause-asked g c =
     (prepend_known c.loop-fault.buffer.items (g.R.Read.remaining c.loop-fault.reader.reader.now))
     (g.R.Read.remaining c.take_turn.new.reader.reader.now)
     (g.W.Write.contents c.args.writer.now) (g.W.Write.contents c.loop-fault.writer) c.loop-fault.buffer.items c.take_turn.new.buffer.items c.loop-fault.replies
-    c.in-Ok-End.field-0 c.in-Ok-End.field-0-is c.loop-fault.invariant.1 c.loop-fault.invariant.4 c.in-Ok-End.ensures.asked
+    c.in-Ok-Eof.field-0 c.in-Ok-Eof.field-0-is c.loop-fault.invariant.1 c.loop-fault.invariant.4 c.in-Ok-Eof.ensures.asked
 
-pub returns-in-Ok-Last-clause-asked : goal.returns-in-Ok-Last-clause-asked
-returns-in-Ok-Last-clause-asked g c =
+pub returns-in-Ok-Close-clause-asked : goal.returns-in-Ok-Close-clause-asked
+returns-in-Ok-Close-clause-asked g c =
     asked_to_last (HearsIf (g.K.Keeper.honest c.loop-fault.keeper) g.C.Clock.reads)
     (record { closed = g.K.Keeper.closed c.args.keeper.now; timeline = g.K.Keeper.timeline c.args.keeper.now; clock = c.args.clock.now })
     (λ s. IsAt (g.K.Keeper.honest c.loop-fault.keeper) (g.K.Keeper.closed c.loop-fault.keeper) (g.K.Keeper.timeline c.loop-fault.keeper) c.loop-fault.clock s)
@@ -171,7 +171,7 @@ returns-in-Ok-Last-clause-asked g c =
     (prepend_known c.loop-fault.buffer.items (g.R.Read.remaining c.loop-fault.reader.reader.now))
     (g.R.Read.remaining c.take_turn.new.reader.reader.now)
     (g.W.Write.contents c.args.writer.now) (g.W.Write.contents c.loop-fault.writer) c.loop-fault.buffer.items c.take_turn.new.buffer.items c.loop-fault.replies
-    c.in-Ok-Last.field-0 c.in-Ok-Last.field-0-is c.loop-fault.invariant.1 c.loop-fault.invariant.4 c.in-Ok-Last.ensures.asked
+    c.in-Ok-Close.field-0 c.in-Ok-Close.field-0-is c.loop-fault.invariant.1 c.loop-fault.invariant.4 c.in-Ok-Close.ensures.asked
 
 pub returns-in-Err-clause-asked : goal.returns-in-Err-clause-asked
 returns-in-Err-clause-asked g c =
@@ -182,23 +182,23 @@ returns-in-Err-clause-asked g c =
     (1024 * c.args.reader.now.left) (length c.loop-fault.buffer.items + 1024 * c.loop-fault.reader.left)
     (length c.take_turn.new.buffer.items + 1024 * c.take_turn.new.reader.left) c.loop-fault.invariant.5 c.in-Err.ensures.bound)
 
-pub returns-in-Ok-End-clause-bound : goal.returns-in-Ok-End-clause-bound
-returns-in-Ok-End-clause-bound g c =
+pub returns-in-Ok-Eof-clause-bound : goal.returns-in-Ok-Eof-clause-bound
+returns-in-Ok-Eof-clause-bound g c =
     let start = g.R.Read.remaining c.args.reader.now.reader.now in
     let left = g.R.Read.remaining c.take_turn.new.reader.reader.now in
     spent_all start left c.take_turn.new.buffer.items (1024 * c.args.reader.now.left) (1024 * c.take_turn.new.reader.left)
     (spent_on start (prepend_known c.loop-fault.buffer.items (g.R.Read.remaining c.loop-fault.reader.reader.now)) (prepend_known c.take_turn.new.buffer.items left)
     (1024 * c.args.reader.now.left) (length c.loop-fault.buffer.items + 1024 * c.loop-fault.reader.left)
-    (length c.take_turn.new.buffer.items + 1024 * c.take_turn.new.reader.left) c.loop-fault.invariant.5 c.in-Ok-End.ensures.bound)
+    (length c.take_turn.new.buffer.items + 1024 * c.take_turn.new.reader.left) c.loop-fault.invariant.5 c.in-Ok-Eof.ensures.bound)
 
-pub returns-in-Ok-Last-clause-bound : goal.returns-in-Ok-Last-clause-bound
-returns-in-Ok-Last-clause-bound g c =
+pub returns-in-Ok-Close-clause-bound : goal.returns-in-Ok-Close-clause-bound
+returns-in-Ok-Close-clause-bound g c =
     let start = g.R.Read.remaining c.args.reader.now.reader.now in
     let left = g.R.Read.remaining c.take_turn.new.reader.reader.now in
     spent_all start left c.take_turn.new.buffer.items (1024 * c.args.reader.now.left) (1024 * c.take_turn.new.reader.left)
     (spent_on start (prepend_known c.loop-fault.buffer.items (g.R.Read.remaining c.loop-fault.reader.reader.now)) (prepend_known c.take_turn.new.buffer.items left)
     (1024 * c.args.reader.now.left) (length c.loop-fault.buffer.items + 1024 * c.loop-fault.reader.left)
-    (length c.take_turn.new.buffer.items + 1024 * c.take_turn.new.reader.left) c.loop-fault.invariant.5 c.in-Ok-Last.ensures.bound)
+    (length c.take_turn.new.buffer.items + 1024 * c.take_turn.new.reader.left) c.loop-fault.invariant.5 c.in-Ok-Close.ensures.bound)
 
 pub returns-in-Err-clause-bound : goal.returns-in-Err-clause-bound
 returns-in-Err-clause-bound g c =

@@ -10,6 +10,6 @@ returns-clause-spoken g c more from at =
     let told = it.1 in (
       it.0,
       spoken (HearsIf (g.K.Keeper.honest c.handle.new.keeper) g.C.Clock.reads) c.args.buffer.now more c.args.headers.now c.args.spans c.args.length _ _
-          c.handle.result told.0 c.ends-last.result c.is_head-head.result is (c.ends-last.ensures h is.1.1) (c.is_head-head.ensures h is.1.1) told.1 told.2,
+          c.handle.result told.0 c.ends-close_after.result c.is_head-head.result is (c.ends-close_after.ensures h is.1.1) (c.is_head-head.ensures h is.1.1) told.1 told.2,
       it.2,
     )

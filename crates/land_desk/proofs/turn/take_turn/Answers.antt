@@ -14,11 +14,11 @@ returns-in-Ok-Fault-clause-turn g c =
     let hears = HearsIf (g.K.Keeper.honest c.args.keeper.now) g.C.Clock.reads in
     let start = prepend_known c.args.buffer.now.items (g.R.Read.remaining c.args.reader.now.reader.now) in
     let left = prepend_known c.read_item.new.buffer.items (g.R.Read.remaining c.read_item.new.reader.reader.now) in
-    stays_put hears start _ _ (λ bytes from to. IsTurn hears bytes from to left (g.W.Write.contents c.args.writer.now) (g.W.Write.contents c.say.new.writer) c.say.result)
+    stays_put hears start _ _ (λ bytes from to. IsTurn hears bytes from to left (g.W.Write.contents c.args.writer.now) (g.W.Write.contents c.write_response.new.writer) c.write_response.result)
     (λ s at. at)
-    (λ s. fault_told hears start left left (g.W.Write.contents c.args.writer.now) (g.W.Write.contents c.say.new.writer) c.in-Ok-Fault.field-0
-    c.in-Ok-Fault.fault c.refuse.result s c.say.result
-    c.in-Ok-Fault.field-0-is c.in-Ok-Fault.ensures.stream c.in-Ok-Fault.ensures.item c.refuse.ensures c.say.ensures)
+    (λ s. fault_told hears start left left (g.W.Write.contents c.args.writer.now) (g.W.Write.contents c.write_response.new.writer) c.in-Ok-Fault.field-0
+    c.in-Ok-Fault.fault c.reject.result s c.write_response.result
+    c.in-Ok-Fault.field-0-is c.in-Ok-Fault.ensures.stream c.in-Ok-Fault.ensures.item c.reject.ensures c.write_response.ensures)
 
 pub returns-in-Ok-Request-clause-turn : goal.returns-in-Ok-Request-clause-turn
 returns-in-Ok-Request-clause-turn g c =
@@ -28,7 +28,7 @@ returns-in-Ok-Request-clause-turn g c =
     (g.R.Read.remaining c.read_item.new.reader.reader.now) _ _ c.read_item.new.buffer.items
     (drop (c.in-Ok-Request.spans.len + c.in-Ok-Request.length) c.read_item.new.buffer.items) c.drop_front.new.buffer.items
     c.answer_request-answer.result _ _
-    c.say-turn.result c.in-Ok-Request.ensures.stream it c.drop_front.ensures c.say-turn.ensures
+    c.write_response-turn.result c.in-Ok-Request.ensures.stream it c.drop_front.ensures c.write_response-turn.ensures
 
 pub returns-in-Ok-End-clause-turn : goal.returns-in-Ok-End-clause-turn
 returns-in-Ok-End-clause-turn g c =
@@ -36,7 +36,7 @@ returns-in-Ok-End-clause-turn g c =
     let start = prepend_known c.args.buffer.now.items (g.R.Read.remaining c.args.reader.now.reader.now) in
     let left = prepend_known c.read_item.new.buffer.items (g.R.Read.remaining c.read_item.new.reader.reader.now) in
     let w = g.W.Write.contents c.args.writer.now in
-    stays_put hears start _ _ (λ bytes from to. IsTurn hears bytes from to left w w (Ok turn.End)) (λ s at. at)
+    stays_put hears start _ _ (λ bytes from to. IsTurn hears bytes from to left w w (Ok turn.Eof)) (λ s at. at)
     (λ s. end_told hears start left left w c.in-Ok-End.field-0 s c.in-Ok-End.field-0-is c.in-Ok-End.ensures.stream c.in-Ok-End.ensures.item)
 
 pub returns-in-Err-Read-clause-turn : goal.returns-in-Err-Read-clause-turn
@@ -92,17 +92,17 @@ returns-in-Ok-End-clause-asked g c small =
 pub returns-in-Ok-Fault-clause-asked : goal.returns-in-Ok-Fault-clause-asked
 returns-in-Ok-Fault-clause-asked g c small =
     fault_asked (prepend_known c.args.buffer.now.items (g.R.Read.remaining c.args.reader.now.reader.now)) (g.R.Read.remaining c.read_item.new.reader.reader.now)
-    (g.W.Write.contents c.args.writer.now) (g.W.Write.contents c.say.new.writer) c.read_item.new.buffer.items (answer_bytes c.refuse.result.bytes)
-    c.in-Ok-Fault.field-0 c.in-Ok-Fault.fault c.refuse.result.last c.say.result
-    c.in-Ok-Fault.field-0-is c.in-Ok-Fault.ensures.stream c.in-Ok-Fault.ensures.item (c.in-Ok-Fault.ensures.ahead small) c.refuse.ensures.2.1 c.say.ensures
+    (g.W.Write.contents c.args.writer.now) (g.W.Write.contents c.write_response.new.writer) c.read_item.new.buffer.items (answer_bytes c.reject.result.bytes)
+    c.in-Ok-Fault.field-0 c.in-Ok-Fault.fault c.reject.result.close_after c.write_response.result
+    c.in-Ok-Fault.field-0-is c.in-Ok-Fault.ensures.stream c.in-Ok-Fault.ensures.item (c.in-Ok-Fault.ensures.ahead small) c.reject.ensures.2.1 c.write_response.ensures
 
 pub returns-in-Ok-Request-clause-asked : goal.returns-in-Ok-Request-clause-asked
 returns-in-Ok-Request-clause-asked g c small =
     request_asked (prepend_known c.args.buffer.now.items (g.R.Read.remaining c.args.reader.now.reader.now)) (g.R.Read.remaining c.read_item.new.reader.reader.now)
-    (g.W.Write.contents c.args.writer.now) (g.W.Write.contents c.say-turn.new.writer) c.read_item.new.buffer.items c.drop_front.new.buffer.items
+    (g.W.Write.contents c.args.writer.now) (g.W.Write.contents c.write_response-turn.new.writer) c.read_item.new.buffer.items c.drop_front.new.buffer.items
     (answer_bytes c.answer_request-answer.result.bytes) c.read_item.new.headers c.in-Ok-Request.field-0 c.in-Ok-Request.spans c.in-Ok-Request.length
-    c.answer_request-answer.result.last c.say-turn.result c.in-Ok-Request.field-0-is c.in-Ok-Request.ensures.stream c.in-Ok-Request.ensures.item
-    c.in-Ok-Request.ensures.front (c.in-Ok-Request.ensures.ahead small) c.drop_front.ensures c.say-turn.ensures
+    c.answer_request-answer.result.close_after c.write_response-turn.result c.in-Ok-Request.field-0-is c.in-Ok-Request.ensures.stream c.in-Ok-Request.ensures.item
+    c.in-Ok-Request.ensures.front (c.in-Ok-Request.ensures.ahead small) c.drop_front.ensures c.write_response-turn.ensures
 
 pub returns-in-Err-Read-clause-bound : goal.returns-in-Err-Read-clause-bound
 returns-in-Err-Read-clause-bound g c =
@@ -137,24 +137,24 @@ returns-in-Ok-Request-clause-bound g c =
 
 pub returns-in-Ok-Request-clause-progress : goal.returns-in-Ok-Request-clause-progress
 returns-in-Ok-Request-clause-progress g c =
-    if_more _ c.say-turn.result (request_gone c.read_item.new.buffer.items c.drop_front.new.buffer.items c.read_item.new.headers c.in-Ok-Request.field-0
+    if_more _ c.write_response-turn.result (request_gone c.read_item.new.buffer.items c.drop_front.new.buffer.items c.read_item.new.headers c.in-Ok-Request.field-0
     c.in-Ok-Request.spans c.in-Ok-Request.length (length c.args.buffer.now.items + 1024 * c.args.reader.now.left) (1024 * c.read_item.new.reader.left)
     c.in-Ok-Request.field-0-is c.in-Ok-Request.ensures.front c.drop_front.ensures c.in-Ok-Request.ensures.bound)
 
 pub returns-in-Ok-Fault-clause-progress : goal.returns-in-Ok-Fault-clause-progress
 returns-in-Ok-Fault-clause-progress g c =
-    none_more _ c.say.result (answer_bytes c.refuse.result.bytes) c.refuse.result.last (g.W.Write.contents c.args.writer.now) (g.W.Write.contents c.say.new.writer)
-    c.refuse.ensures.2.1 c.say.ensures
+    none_more _ c.write_response.result (answer_bytes c.reject.result.bytes) c.reject.result.close_after (g.W.Write.contents c.args.writer.now) (g.W.Write.contents c.write_response.new.writer)
+    c.reject.ensures.2.1 c.write_response.ensures
 
 pub returns-in-Ok-Request-clause-read_fault : goal.returns-in-Ok-Request-clause-read_fault
 returns-in-Ok-Request-clause-read_fault g c =
-    none_unread _ c.say-turn.result (answer_bytes c.answer_request-answer.result.bytes) c.answer_request-answer.result.last
-    (g.W.Write.contents c.args.writer.now) (g.W.Write.contents c.say-turn.new.writer) c.say-turn.ensures
+    none_unread _ c.write_response-turn.result (answer_bytes c.answer_request-answer.result.bytes) c.answer_request-answer.result.close_after
+    (g.W.Write.contents c.args.writer.now) (g.W.Write.contents c.write_response-turn.new.writer) c.write_response-turn.ensures
 
 pub returns-in-Ok-Fault-clause-read_fault : goal.returns-in-Ok-Fault-clause-read_fault
 returns-in-Ok-Fault-clause-read_fault g c =
-    none_unread _ c.say.result (answer_bytes c.refuse.result.bytes) c.refuse.result.last (g.W.Write.contents c.args.writer.now) (g.W.Write.contents c.say.new.writer)
-    c.say.ensures
+    none_unread _ c.write_response.result (answer_bytes c.reject.result.bytes) c.reject.result.close_after (g.W.Write.contents c.args.writer.now) (g.W.Write.contents c.write_response.new.writer)
+    c.write_response.ensures
 
 pub returns-in-Err-Read-clause-read_fault : goal.returns-in-Err-Read-clause-read_fault
 returns-in-Err-Read-clause-read_fault g c is =
