@@ -19,7 +19,7 @@ use Rattle.land_commands.proofs.NumberRows.{AllPass}
 use Rattle.land_commands.specs.Words.Choices.{AreSpelled, Places, kind_word, kind_words, role_word, role_words}
 use Rattle.land_commands.specs.Words.Names.{HasMaybe, IsFoundAs}
 use Rattle.land_commands.specs.Words.Options.{moments, option_rule, parties}
-use Rattle.land_commands.specs.Words.Orders.{Order, to_extract}
+use Rattle.land_commands.specs.Words.PlainCommands.{PlainCommand, to_extract}
 use Rattle.land_commands.specs.declared.words.choices.Choices.{Choices}
 use Rattle.land_core.specs.declared.kind.Kind.{Kind}
 use Rattle.land_core.specs.declared.kind.Kind.TheVariants as kind
@@ -188,7 +188,7 @@ module _ (choices : Choices) (spelled : AreSpelled choices) (words : List Text)
       (one_keeps (codes "at") (Accepts false moments) (file_told ∷ clock_told ∷ party_told ∷ role_told choices.roles ∷ kind_told choices.kinds ∷ []) at_told [] refl refl (λ text h. h)))
 
   -- words of `extract` without a fault have a file, a clock, a party, a role and a kind, and a moment if any
-  pub extract_named : (order : Order) × IsFoundAs (Some (rows_at (extract_built choices) words)) order
+  pub extract_named : (order : PlainCommand) × IsFoundAs (Some (rows_at (extract_built choices) words)) order
   extract_named =
       let clock = clock_given in
       let party = party_given in

@@ -15,12 +15,12 @@ use Rattle.land_commands.specs.Words.Choices.{AreSpelled}
 use Rattle.land_commands.specs.Words.Commands.{land_app}
 use Rattle.land_commands.specs.Words.Names.{IsFoundAs, NamesBy}
 use Rattle.land_commands.specs.Words.Options.{counts, moments, ports}
-use Rattle.land_commands.specs.Words.Orders.{Order, to_talk, to_make, to_serve, to_check, to_migrate}
+use Rattle.land_commands.specs.Words.PlainCommands.{PlainCommand, to_talk, to_make, to_serve, to_check, to_migrate}
 use Rattle.land_commands.specs.declared.words.choices.Choices.{Choices}
 
 -- words of `talk` without a fault have a moment for its clock
 talk_named : (words : List Text) → level_fault talk_built [] nothing_held words false [] ≡ []
-    → (order : Order) × IsFoundAs (Some (rows_at talk_built words)) order
+    → (order : PlainCommand) × IsFoundAs (Some (rows_at talk_built words)) order
 talk_named words e =
     let none : Each HasNoDefault talk_built.rules = (refl, (refl, tt)) in
     let given = required_given talk_built none words e in
@@ -42,7 +42,7 @@ file_named name words e =
 
 -- words of `serve` without a fault have a file, a port and how many connections to serve
 serve_named : (words : List Text) → level_fault serve_built [] nothing_held words false [] ≡ []
-    → (order : Order) × IsFoundAs (Some (rows_at serve_built words)) order
+    → (order : PlainCommand) × IsFoundAs (Some (rows_at serve_built words)) order
 serve_named words e =
     let none : Each HasNoDefault serve_built.rules = (refl, (refl, (refl, (refl, tt)))) in
     let given = required_given serve_built none words e in
@@ -98,7 +98,7 @@ module _ (choices : Choices) (spelled : AreSpelled choices) where
   picked_named : (words : List Text) (talk make serve check migrate extract : Bool)
       → is_some (option_map (λ s. rows_at s words) (picked talk make serve check migrate extract)) ≡ true
       → option_map_or (λ s. level_fault s [] nothing_held words false []) (picked talk make serve check migrate extract) [] ≡ []
-      → (order : Order) × IsFoundAs (option_map (λ s. rows_at s words) (picked talk make serve check migrate extract)) order
+      → (order : PlainCommand) × IsFoundAs (option_map (λ s. rows_at s words) (picked talk make serve check migrate extract)) order
   picked_named words true make serve check migrate extract has e = talk_named words e
   picked_named words false true serve check migrate extract has e =
       let file = file_named (codes "new") words e in
@@ -115,7 +115,7 @@ module _ (choices : Choices) (spelled : AreSpelled choices) where
 
   -- the command at which the walk over the words stops
   command_named : (stop : Option (Text × List Text)) → is_some (entered (built (land_app choices)) stop) ≡ true
-      → entered_fault (built (land_app choices)) stop ≡ [] → (order : Order) × IsFoundAs (entered (built (land_app choices)) stop) order
+      → entered_fault (built (land_app choices)) stop ≡ [] → (order : PlainCommand) × IsFoundAs (entered (built (land_app choices)) stop) order
   command_named None has e = cc
   command_named (Some q) has e =
       picked_named q.1 (answers_to q.0 (label_of talk_built)) (answers_to q.0 (label_of (file_built (codes "new"))))
@@ -123,7 +123,7 @@ module _ (choices : Choices) (spelled : AreSpelled choices) where
       (answers_to q.0 (label_of (file_built (codes "migrate")))) (answers_to q.0 (label_of (extract_built choices))) has e
 
   -- words without a fault name a command
-  pub named_by_words : (words : List Text) → fault_of (land_app choices) words ≡ [] → (order : Order) × NamesBy choices words order
+  pub named_by_words : (words : List Text) → fault_of (land_app choices) words ≡ [] → (order : PlainCommand) × NamesBy choices words order
   named_by_words words e =
       let a = built (land_app choices) in
       let given = argument_words (land_app choices) words in

@@ -19,7 +19,7 @@ use Rattle.land_commands.specs.Words.Commands.{land_app}
 use Rattle.land_commands.specs.Words.Laws.{IsPlainText, PlainExtractLaw, extract_words}
 use Rattle.land_commands.specs.Words.Names.{NamesBy}
 use Rattle.land_commands.specs.Words.Options.{moments, parties}
-use Rattle.land_commands.specs.Words.Orders.{to_extract}
+use Rattle.land_commands.specs.Words.PlainCommands.{to_extract}
 use Rattle.land_commands.specs.declared.words.choices.Choices.{Choices}
 use Rattle.land_core.specs.declared.kind.Kind.{Kind}
 use Rattle.land_core.specs.declared.kind.Kind.TheVariants as kind

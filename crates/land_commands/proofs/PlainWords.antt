@@ -18,10 +18,10 @@ use Rattle.clap.specs.declared.builder.value_parser.Reading.TheVariants as readi
 use Rattle.clap.specs.declared.parser.matches.ValueSource.TheVariants.{CommandLine}
 use Rattle.land_commands.proofs.BuiltCommands.{file_built, serve_built, talk_built}
 use Rattle.land_commands.specs.Words.Commands.{land_app}
-use Rattle.land_commands.specs.Words.Laws.{IsPlainText, Writes}
+use Rattle.land_commands.specs.Words.Laws.{IsPlainText, IsNumeralIn}
 use Rattle.land_commands.specs.Words.Names.{NamesBy}
 use Rattle.land_commands.specs.Words.Options.{counts, moments, ports}
-use Rattle.land_commands.specs.Words.Orders.{to_talk, to_make, to_serve, to_check, to_migrate}
+use Rattle.land_commands.specs.Words.PlainCommands.{to_talk, to_make, to_serve, to_check, to_migrate}
 use Rattle.land_commands.specs.declared.words.choices.Choices.{Choices}
 
 pub none_of_both : (a b : Kinds) → a ≡ [] → b ≡ [] → or_else a b ≡ []
@@ -135,7 +135,7 @@ abbrev pub IsRead : (digits : Text) (least most number : ℕ) → Type 0
 IsRead digits least most number =
     IsPlainText digits × IsSignedIn (pos least) (pos most) digits × (signed_digits_value 10 digits ≡ pos number)
 
-pub written : (digits : Text) (least most number : ℕ) → most ≤ 9223372036854775807 → Writes digits least most number → IsRead digits least most number
+pub written : (digits : Text) (least most number : ℕ) → most ≤ 9223372036854775807 → IsNumeralIn digits least most number → IsRead digits least most number
 written [] least most number small writes = absurd (omega arith)
 written (x ∷ xs) least most number small writes =
     let minus = no_sign 45 x (omega arith) writes.0.1.0 in
@@ -187,7 +187,7 @@ talk_rows_below : (choices : Choices) (program digits : Text) → subcommand_of 
 unfolding clap_on_literals
 talk_rows_below choices program digits = refl
 
-pub plain_talk : (choices : Choices) (program digits : Text) (moment : ℕ) → Writes digits 0 4102444799999 moment
+pub plain_talk : (choices : Choices) (program digits : Text) (moment : ℕ) → IsNumeralIn digits 0 4102444799999 moment
     → NamesBy choices (program ∷ codes "talk" ∷ codes "--clock" ∷ digits ∷ []) (to_talk (pos moment))
 plain_talk choices program [] moment writes = absurd (omega arith)
 plain_talk choices program (x ∷ xs) moment writes =
@@ -393,7 +393,7 @@ unfolding clap_on_literals
 serve_rows_below choices program file port_digits count_digits = refl
 
 pub plain_service : (choices : Choices) (program file port_digits count_digits : Text) (port connections : ℕ) → IsPlainText file
-    → Writes port_digits 1 65535 port → Writes count_digits 1 1000000 connections
+    → IsNumeralIn port_digits 1 65535 port → IsNumeralIn count_digits 1 1000000 connections
     → NamesBy choices (program ∷ codes "serve" ∷ service file port_digits count_digits) (to_serve file port connections)
 plain_service choices program [] port_digits count_digits port connections plain port_written count_written = absurd plain
 plain_service choices program (x ∷ xs) [] count_digits port connections plain port_written count_written = absurd (omega arith)

@@ -22,15 +22,15 @@ use Rattle.sqlite.specs.State.{HasCleanDisk, State, Survives}
 use Rattle.sqlite.specs.Store.{Ghosts}
 
 -- a store shows what is held, if its disk is honest
-abbrev pub Shows : {S : Type 0} → Ghosts S → (holds : State → Type 0) → Held S → Type 0
-Shows g holds c = HasCleanDisk (state g c) → holds (state g c)
+abbrev pub HoldsFileState : {S : Type 0} → Ghosts S → (holds : State → Type 0) → Held S → Type 0
+HoldsFileState g holds c = HasCleanDisk (state g c) → holds (state g c)
 
 -- ---- a register is made
 
 -- a store was opened, and the tables of a new register were made in it; a crash leaves what was there, or the new register
-pub record IsMade {S : Type 0} (g : Ghosts S) (holds : State → Type 0) (o : Office S) : Type 0 where
+pub record IsCreatedIn {S : Type 0} (g : Ghosts S) (holds : State → Type 0) (o : Office S) : Type 0 where
   pub was : Held S
-  pub shows : Shows g holds was
+  pub shows : HoldsFileState g holds was
   pub created : IsCreated g o
   pub survives : Survives (state g was) (state g o.conn) (λ db. HoldsTimeline db new_timeline)
 
@@ -39,22 +39,22 @@ pub record IsUnmade {S : Type 0} (g : Ghosts S) (holds : State → Type 0) (faul
   pub was : Held S
   pub left : Held S
   pub why : StoreFault
-  pub shows : Shows g holds was
+  pub shows : HoldsFileState g holds was
   pub kept : IsKept (state g was) (state g left)
   pub told : fault ≡ fault_of_making why
 
 -- a register is made and its file is closed; or no file was opened, no register was made in it, or it was made and could not be closed
 abbrev pub IsMaking : {S T : Type 0} → Ghosts S → (holds : State → Type 0) → (closed : Held S → Type 0) → Result T ProgramFault → Type 0
-IsMaking {S} g holds closed (Ok done) = (o : Office S) × IsMade g holds o × closed o.conn
+IsMaking {S} g holds closed (Ok done) = (o : Office S) × IsCreatedIn g holds o × closed o.conn
 IsMaking {S} g holds closed (Err fault) =
-    IsFaultOfOpening fault ⊎ IsUnmade g holds fault ⊎ ((o : Office S) × IsMade g holds o × IsFaultOfClosing fault)
+    IsFaultOfOpening fault ⊎ IsUnmade g holds fault ⊎ ((o : Office S) × IsCreatedIn g holds o × IsFaultOfClosing fault)
 
 -- ---- a register is found
 
 -- a store was opened and taken for a register's
-pub record IsTaken {S : Type 0} (g : Ghosts S) (holds : State → Type 0) (o : Office S) : Type 0 where
+pub record IsOpened {S : Type 0} (g : Ghosts S) (holds : State → Type 0) (o : Office S) : Type 0 where
   pub was : Held S
-  pub shows : Shows g holds was
+  pub shows : HoldsFileState g holds was
   pub adopted : IsAdopted g was o
 
 -- a store was opened and not taken for a register's: why, and it is as it was, unless a call of it failed
@@ -62,7 +62,7 @@ pub record IsNotTaken {S : Type 0} (g : Ghosts S) (holds : State → Type 0) (fa
   pub was : Held S
   pub left : Held S
   pub why : AdoptFault
-  pub shows : Shows g holds was
+  pub shows : HoldsFileState g holds was
   pub refused : HasCleanDisk (state g left) → IsRefused the_second why (state g was).now
   pub same : HasCleanDisk (state g left) → why ≢ adopt.Store → IsSame (state g was) (state g left)
   pub told : fault ≡ fault_of_adopting why
@@ -73,7 +73,7 @@ IsNotFound g holds fault = IsFaultOfFinding fault ⊎ IsNotTaken g holds fault
 
 -- a register is found in a file, or is not
 abbrev pub IsFinding : {S : Type 0} → Ghosts S → (holds : State → Type 0) → Result (Office S) ProgramFault → Type 0
-IsFinding g holds (Ok o) = IsTaken g holds o
+IsFinding g holds (Ok o) = IsOpened g holds o
 IsFinding g holds (Err fault) = IsNotFound g holds fault
 
 -- ---- a register is checked
@@ -83,16 +83,16 @@ abbrev pub sound_text : (last : ℤ) → (next : ℕ) → List ℕ
 sound_text last next = codes "sound: last " ++ (signed_decimal last ++ (codes ", next " ++ (decimal next ++ codes "\n")))
 
 -- a front of a text is written, and not all of it
-abbrev pub IsCut : List ℕ → (old new : Option (List ℕ)) → Type 0
-IsCut text old new = (n : ℕ) × (n < length text) × Appends old new (take n text)
+abbrev pub IsTruncated : List ℕ → (old new : Option (List ℕ)) → Type 0
+IsTruncated text old new = (n : ℕ) × (n < length text) × Appends old new (take n text)
 
 -- the register is sound, and that is said; or none is found, and nothing is said; or there was no memory for the line, or it could not be written
 abbrev pub IsChecking : {S T : Type 0} → Ghosts S → (holds : State → Type 0) → (old new : Option (List ℕ)) → Result T ProgramFault → Type 0
-IsChecking {S} g holds old new (Ok done) = (o : Office S) × IsTaken g holds o × Appends old new (sound_text o.last o.next)
+IsChecking {S} g holds old new (Ok done) = (o : Office S) × IsOpened g holds o × Appends old new (sound_text o.last o.next)
 IsChecking {S} g holds old new (Err fault) =
     (IsNotFound g holds fault × Appends old new [])
-    ⊎ ((o : Office S) × IsTaken g holds o
-    × (((fault ≡ program.NoMemory) × Appends old new []) ⊎ ((fault ≡ program.Stream) × IsCut (sound_text o.last o.next) old new)))
+    ⊎ ((o : Office S) × IsOpened g holds o
+    × (((fault ≡ program.NoMemory) × Appends old new []) ⊎ ((fault ≡ program.Stream) × IsTruncated (sound_text o.last o.next) old new)))
 
 -- ---- a register is served
 
@@ -117,7 +117,7 @@ pub record Service (C : Type 0) : Type 1 where
 pub record IsServedFrom {S C T : Type 0} (g : Ghosts S) (holds : State → Type 0) (s : Service C) (r : Result T ServiceFault) : Type 0 where
   pub from : Office S
   pub to : Office S
-  pub taken : IsTaken g holds from
+  pub taken : IsOpened g holds from
   pub served : IsServedOver g s.reads s.wanted s.coming s.after from s.clock to s.clock_after r
 
 -- as many connections are served as are wanted, and the file is closed; or none is served: no register is found, or the port cannot be had; or the
@@ -126,6 +126,6 @@ abbrev pub IsFileService : {S C T : Type 0} → Ghosts S → (holds : State → 
 IsFileService {S} {C} {T} g holds closed s (Ok done) = (it : IsServedFrom {T = T} g holds s (Ok done)) × closed it.to.conn
 IsFileService {S} {C} {T} g holds closed s (Err fault) =
     IsNotFound g holds fault
-    ⊎ (((o : Office S) × IsTaken g holds o × (fault ≡ program.Listen))
+    ⊎ (((o : Office S) × IsOpened g holds o × (fault ≡ program.Listen))
     ⊎ (((why : ServiceFault) × IsServedFrom {T = T} g holds s (Err why) × (fault ≡ fault_of_service why))
     ⊎ ((done : T) × IsServedFrom {T = T} g holds s (Ok done) × IsFaultOfClosing fault)))

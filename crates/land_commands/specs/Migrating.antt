@@ -2,7 +2,7 @@
 use Rattle.std.specs.Prelude.{◌≡◌, ◌≢◌, ◌⊎◌, ℕ, ℤ, List, [], ◌++◌, codes, decimal, Option, Result, Ok, Err}
 use Rattle.std.specs.Fmt.{signed_decimal}
 use Rattle.std.specs.Io.KnownBytes.{Appends}
-use Rattle.land_commands.specs.Filed.{IsCut, Shows}
+use Rattle.land_commands.specs.Filed.{IsTruncated, HoldsFileState}
 use Rattle.land_commands.specs.ProgramFaults.{IsFaultOfClosing, IsFaultOfFinding, fault_of_adopting}
 use Rattle.land_commands.specs.declared.program_fault.ProgramFault.{ProgramFault}
 use Rattle.land_commands.specs.declared.program_fault.ProgramFault.TheVariants as program
@@ -19,7 +19,7 @@ use Rattle.sqlite.specs.Store.{Ghosts}
 -- a store was opened, and its register of the first version became one of the second; a crash leaves what was there, or all of the second
 pub record IsRaised {S : Type 0} (g : Ghosts S) (holds : State → Type 0) (o : Office S) : Type 0 where
   pub was : Held S
-  pub shows : Shows g holds was
+  pub shows : HoldsFileState g holds was
   pub migrated : IsMigrated g was o
   pub survives : Survives (state g was) (state g o.conn) (AreRaised (state g was).now)
 
@@ -29,7 +29,7 @@ pub record IsNotRaised {S : Type 0} (g : Ghosts S) (holds : State → Type 0) (f
   pub was : Held S
   pub left : Held S
   pub why : AdoptFault
-  pub shows : Shows g holds was
+  pub shows : HoldsFileState g holds was
   pub refused : HasCleanDisk (state g left) → IsRefused the_first why (state g was).now
   pub same : HasCleanDisk (state g left) → why ≢ adopt.Store → StaysSame (state g was) (state g left)
   pub either : LeavesOrRaises (state g was) (state g left)
@@ -51,4 +51,4 @@ IsMigrating {S} g holds closed old new (Ok done) = (o : Office S) × IsRaised g 
 IsMigrating {S} g holds closed old new (Err fault) =
     ((IsFaultOfFinding fault ⊎ IsNotRaised g holds fault) × Appends old new [])
     ⊎ ((o : Office S) × IsRaised g holds o
-    × ((IsFaultOfClosing fault × Appends old new []) ⊎ ((fault ≡ program.Stream) × closed o.conn × IsCut (migrated_text o.last o.next) old new)))
+    × ((IsFaultOfClosing fault × Appends old new []) ⊎ ((fault ≡ program.Stream) × closed o.conn × IsTruncated (migrated_text o.last o.next) old new)))

@@ -4,4 +4,4 @@ pub mod Commands
 pub mod Laws
 pub mod Names
 pub mod Options
-pub mod Orders
+pub mod PlainCommands

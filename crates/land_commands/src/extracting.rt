@@ -3,7 +3,7 @@ ghost use Rattle.land_commands.specs.Extracting.{IsExtractedOver, IsExtracting};
 
 use crate::filed::open_register;
 use crate::host::Host;
-use crate::refusal::Refusal;
+use crate::command_error::CommandError;
 use land_core::caller::Caller;
 use land_core::kind::Kind;
 use land_select::sql_keeper::SqlKeeper;
@@ -16,7 +16,7 @@ use std::io::Write;
 
 /// What an extract is asked for.
 #[derive(Clone, Copy, Debug)]
-pub struct Wanted {
+pub struct ExtractRequest {
     /// What the clock reads, in milliseconds since 1970 UTC.
     pub clock: i64,
     /// Who asks, in which role.
@@ -31,16 +31,16 @@ pub struct Wanted {
 pub fn extract<H: Host, O: Write>(
     host: &mut H,
     file: &str,
-    wanted: Wanted,
+    wanted: ExtractRequest,
     output: &mut O,
-) -> Result<(), Refusal>
+) -> Result<(), CommandError>
     ensures { IsExtracting H.Store.Store (H.holds file.now) wanted (O.contents output.old) (O.contents output.new) result }
 {
     let tables = open_register(host, file)?;
     let (done, _left) = extract_tables(host.alloc(), tables, wanted, output);
     match done {
         Ok(_written) => Ok(()),
-        Err(fault) => Err(Refusal::from(fault)),
+        Err(fault) => Err(CommandError::from(fault)),
     }
 }
 
@@ -48,12 +48,12 @@ pub fn extract<H: Host, O: Write>(
 fn extract_tables<S: Alter, O: Write>(
     alloc: Global,
     tables: Tables<S>,
-    wanted: Wanted,
+    wanted: ExtractRequest,
     output: &mut O,
 ) -> (Result<u64, ExtractFault>, Tables<S>)
     ensures { IsExtractedOver S.Store tables wanted result.1 (O.contents output.old) (O.contents output.new) result.0 }
 {
-    let Wanted {
+    let ExtractRequest {
         clock,
         caller,
         kind,

@@ -1,6 +1,6 @@
 //! What the program has of the machine that it runs on.
 ghost use Rattle.std.specs.Prelude.{◌≡◌, List, Option, ℕ, IfErr, IfOk, IfSome, OnOk};
-ghost use Rattle.land_commands.specs.Filed.{Shows};
+ghost use Rattle.land_commands.specs.Filed.{HoldsFileState};
 ghost use Rattle.land_commands.specs.ProgramFaults.{IsFaultOfClosing, IsFaultOfFinding, IsFaultOfOpening};
 ghost use Rattle.sqlite.specs.Held.{Held};
 ghost use Rattle.sqlite.specs.State.{State};
@@ -33,13 +33,13 @@ pub trait Host {
 
     /// Opens a file, or makes it. One that is neither empty nor a store is left as it is.
     fn open_new(&mut self, file: &str) -> Result<Connection<Self::Store>, ProgramFault>
-        ensures shows { IfOk result (Shows Self.Store.Store (holds file.now)) }
+        ensures shows { IfOk result (HoldsFileState Self.Store.Store (holds file.now)) }
         ensures fault { IfErr result IsFaultOfOpening }
         ensures port { coming self.new ≡ coming self.old };
 
     /// Opens a register's file. One that is not there is not made, and one that is empty or no store is left as it is.
     fn open_found(&mut self, file: &str) -> Result<Connection<Self::Store>, ProgramFault>
-        ensures shows { IfOk result (Shows Self.Store.Store (holds file.now)) }
+        ensures shows { IfOk result (HoldsFileState Self.Store.Store (holds file.now)) }
         ensures fault { IfErr result IsFaultOfFinding }
         ensures port { coming self.new ≡ coming self.old };
 

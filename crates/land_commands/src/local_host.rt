@@ -39,7 +39,7 @@ impl<'a> LocalHost<'a> {
 
 /// What stands under a name.
 #[derive(Clone, Copy, Debug, PartialEq, Eq)]
-enum Standing {
+enum FileKind {
     /// Nothing, as far as can be seen.
     Nothing,
     /// An empty file.
@@ -51,19 +51,19 @@ enum Standing {
 }
 
 /// What stands under a name. It is not opened for writing.
-fn standing_of(rt: &HostRuntime, file: &str) -> Standing {
+fn standing_of(rt: &HostRuntime, file: &str) -> FileKind {
     let Ok(stands) = fs::metadata(rt, file) else {
-        return Standing::Nothing;
+        return FileKind::Nothing;
     };
     if !stands.is_file() {
-        return Standing::Other;
+        return FileKind::Other;
     }
     if stands.len() == 0 {
-        return Standing::Empty;
+        return FileKind::Empty;
     }
     match begins_as_store(rt, file) {
-        Ok(true) => Standing::Store,
-        Ok(false) | Err(_) => Standing::Other,
+        Ok(true) => FileKind::Store,
+        Ok(false) | Err(_) => FileKind::Other,
     }
 }
 
@@ -132,7 +132,7 @@ impl<'a> Host for LocalHost<'a> {
         file: &str,
     ) -> Result<Connection<FileStore<FileFrom<Wary>>>, ProgramFault> {
         match standing_of(&self.rt, file) {
-            Standing::Other => Err(ProgramFault::Open),
+            FileKind::Other => Err(ProgramFault::Open),
             _ => open_store(&self.rt, file, Wary),
         }
     }
@@ -142,9 +142,9 @@ impl<'a> Host for LocalHost<'a> {
         file: &str,
     ) -> Result<Connection<FileStore<FileFrom<Wary>>>, ProgramFault> {
         match standing_of(&self.rt, file) {
-            Standing::Nothing | Standing::Other => Err(ProgramFault::Open),
-            Standing::Empty => Err(ProgramFault::NotOurs),
-            Standing::Store => open_store(&self.rt, file, Wary),
+            FileKind::Nothing | FileKind::Other => Err(ProgramFault::Open),
+            FileKind::Empty => Err(ProgramFault::NotOurs),
+            FileKind::Store => open_store(&self.rt, file, Wary),
         }
     }
 

@@ -4,7 +4,7 @@ ghost use Rattle.land_commands.specs.Program.{IsObeyed};
 
 use crate::host::Host;
 use crate::program_fault::ProgramFault;
-use crate::run::{complain, run_command, say};
+use crate::run::{complain, run_command, write_stderr};
 use crate::words::read_words;
 use crate::words::words_fault::WordsFault;
 use land_keep::clock::Clock;
@@ -27,7 +27,7 @@ pub fn run_args<H: Host, I: Read, O: Write, E: Write, C: Clock>(
     match read_words(host.alloc(), words) {
         Ok(command) => run_command(host, command, input, output, errors, clock),
         Err(WordsFault::Refused(text)) => {
-            say(errors, text.as_str());
+            write_stderr(errors, text.as_str());
             2
         }
         Err(WordsFault::NoMemory) => complain(errors, ProgramFault::NoMemory),

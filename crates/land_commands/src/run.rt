@@ -1,19 +1,19 @@
 //! The commands of the program.
 ghost use Rattle.std.specs.Prelude.{◌≡◌, [], string_bytes, IfOk, IfSome};
 ghost use Rattle.std.specs.Io.KnownBytes.{Appends};
-ghost use Rattle.land_commands.specs.Program.{IsDenied, IsEnding, IsRun, IsSaid, IsSettled, IsTalk, IsTold};
+ghost use Rattle.land_commands.specs.Program.{ReportsDenial, IsEnding, IsRun, WritesOrFails, ReportsDone, IsTalk, ReportsExtracted};
 ghost use Rattle.land_commands.specs.ProgramFaults.{line_of, status_of};
-ghost use Rattle.land_commands.specs.Refusals.{denied_text};
-ghost use Rattle.land_commands.specs.Words.Orders.{order_of};
+ghost use Rattle.land_commands.specs.CommandErrors.{denied_text};
+ghost use Rattle.land_commands.specs.Words.PlainCommands.{order_of};
 ghost use Rattle.land_tables.specs.Office.{IsCreated};
 ghost use Rattle.sqlite.specs.Steps.{over_memory};
 
-use crate::extracting::{Wanted, extract};
+use crate::extracting::{ExtractRequest, extract};
 use crate::filed::{check, create_register, serve_file};
 use crate::host::Host;
-use crate::migrating::migrate;
+use crate::migrate_command::migrate;
 use crate::program_fault::ProgramFault;
-use crate::refusal::Refusal;
+use crate::command_error::CommandError;
 use crate::set_clock::SetClock;
 use crate::words::command::Command;
 use land_desk::serve::{DeskFault, Served, serve};
@@ -42,16 +42,16 @@ pub fn run_command<H: Host, I: Read, O: Write, E: Write, C: Clock>(
     match command {
         Command::Talk { clock } => {
             let served = talk(host.alloc(), clock, input, output);
-            conclude(errors, served)
+            report_served(errors, served)
         }
-        Command::New { file } => settle(errors, create_register(host, file)),
+        Command::New { file } => report_done(errors, create_register(host, file)),
         Command::Serve {
             file,
             port,
             connections,
-        } => settle(errors, serve_file(host, file, port, connections, clock)),
-        Command::Check { file } => settle(errors, check(host, file, output)),
-        Command::Migrate { file } => settle(errors, migrate(host, file, output)),
+        } => report_done(errors, serve_file(host, file, port, connections, clock)),
+        Command::Check { file } => report_done(errors, check(host, file, output)),
+        Command::Migrate { file } => report_done(errors, migrate(host, file, output)),
         Command::Extract {
             file,
             clock,
@@ -59,14 +59,14 @@ pub fn run_command<H: Host, I: Read, O: Write, E: Write, C: Clock>(
             kind,
             at,
         } => {
-            let wanted = Wanted {
+            let wanted = ExtractRequest {
                 clock,
                 caller,
                 kind,
                 at,
             };
             let done = extract(host, file, wanted, output);
-            tell(host.alloc(), errors, done)
+            report_extracted(host.alloc(), errors, done)
         }
     }
 }
@@ -100,7 +100,7 @@ fn new_tables(alloc: Global) -> Result<Tables<MemStore>, AllocError>
 }
 
 /// The status after serving. A fault is told.
-fn conclude<E: Write>(errors: &mut E, served: Result<Served, DeskFault>) -> u8
+fn report_served<E: Write>(errors: &mut E, served: Result<Served, DeskFault>) -> u8
     ensures { IsEnding served (E.contents errors.old) (E.contents errors.new) result }
 {
     match served {
@@ -110,8 +110,8 @@ fn conclude<E: Write>(errors: &mut E, served: Result<Served, DeskFault>) -> u8
 }
 
 /// The status after a command over a file. A fault is told.
-fn settle<E: Write>(errors: &mut E, done: Result<(), ProgramFault>) -> u8
-    ensures { IsSettled done (E.contents errors.old) (E.contents errors.new) result }
+fn report_done<E: Write>(errors: &mut E, done: Result<(), ProgramFault>) -> u8
+    ensures { ReportsDone done (E.contents errors.old) (E.contents errors.new) result }
 {
     match done {
         Ok(()) => 0,
@@ -120,23 +120,23 @@ fn settle<E: Write>(errors: &mut E, done: Result<(), ProgramFault>) -> u8
 }
 
 /// The status after a command of which the policy decides. What refuses it is told.
-fn tell<E: Write>(alloc: Global, errors: &mut E, done: Result<(), Refusal>) -> u8
-    ensures { IsTold done (E.contents errors.old) (E.contents errors.new) result }
+fn report_extracted<E: Write>(alloc: Global, errors: &mut E, done: Result<(), CommandError>) -> u8
+    ensures { ReportsExtracted done (E.contents errors.old) (E.contents errors.new) result }
 {
     match done {
         Ok(()) => 0,
-        Err(Refusal::Denied(rule)) => deny(alloc, errors, rule),
-        Err(Refusal::Fault(fault)) => complain(errors, fault),
+        Err(CommandError::Denied(rule)) => report_denial(alloc, errors, rule),
+        Err(CommandError::Fault(fault)) => complain(errors, fault),
     }
 }
 
 /// Tells the rule that denies, and gives the status 1.
-fn deny<E: Write>(alloc: Global, errors: &mut E, rule: u8) -> u8
-    ensures { IsDenied rule (E.contents errors.old) (E.contents errors.new) result }
+fn report_denial<E: Write>(alloc: Global, errors: &mut E, rule: u8) -> u8
+    ensures { ReportsDenial rule (E.contents errors.old) (E.contents errors.new) result }
 {
     match denied_line(alloc, rule) {
         Ok(line) => {
-            say(errors, line.as_str());
+            write_stderr(errors, line.as_str());
             1
         }
         Err(_) => complain(errors, ProgramFault::NoMemory),
@@ -153,15 +153,15 @@ fn denied_line(alloc: Global, rule: u8) -> Result<String, AllocError>
 /// Tells a fault, and gives its status.
 pub fn complain<E: Write>(errors: &mut E, fault: ProgramFault) -> u8
     ensures status { result ≡ status_of fault }
-    ensures said { IsSaid (line_of fault) (E.contents errors.old) (E.contents errors.new) }
+    ensures said { WritesOrFails (line_of fault) (E.contents errors.old) (E.contents errors.new) }
 {
-    say(errors, fault.line());
+    write_stderr(errors, fault.line());
     fault.status()
 }
 
 /// Writes a text, or a front of it where the writer fails.
-pub fn say<E: Write>(errors: &mut E, text: &str)
-    ensures { IsSaid text.now (E.contents errors.old) (E.contents errors.new) }
+pub fn write_stderr<E: Write>(errors: &mut E, text: &str)
+    ensures { WritesOrFails text.now (E.contents errors.old) (E.contents errors.new) }
 {
     match send(errors, text.as_bytes()) {
         Ok(()) | Err(_) => {}

@@ -4,7 +4,7 @@ pub mod choices;
 pub mod command;
 mod commands;
 pub mod laws;
-mod matching;
+mod clap_matches;
 mod options;
 mod parse;
 pub mod words_fault;

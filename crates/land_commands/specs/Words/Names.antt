@@ -6,7 +6,7 @@ use Rattle.clap.specs.declared.error.Error.{Error}
 use Rattle.clap.specs.declared.error.kind.ErrorKind.TheVariants as kind
 use Rattle.land_commands.specs.Words.Choices.{AreSpelled, kind_word, role_word}
 use Rattle.land_commands.specs.Words.Commands.{land_app}
-use Rattle.land_commands.specs.Words.Orders.{Order, to_talk, to_make, to_serve, to_check, to_migrate, to_extract, order_of}
+use Rattle.land_commands.specs.Words.PlainCommands.{PlainCommand, to_talk, to_make, to_serve, to_check, to_migrate, to_extract, order_of}
 use Rattle.land_commands.specs.declared.words.choices.Choices.{Choices}
 use Rattle.land_commands.specs.declared.words.command.Command.{Command}
 use Rattle.land_commands.specs.declared.words.words_fault.WordsFault.{WordsFault}
@@ -53,7 +53,7 @@ IsCallerOf rows (Some caller) = HasCaller rows caller.party caller.role
 IsCallerOf rows None = (party : ℕ) (role : Role) → HasCaller rows party role → ⊥
 
 -- the word of a command
-abbrev pub word_of : Order → Text
+abbrev pub word_of : PlainCommand → Text
 word_of (to_talk clock) = codes "talk"
 word_of (to_make file) = codes "new"
 word_of (to_serve file port connections) = codes "serve"
@@ -63,7 +63,7 @@ word_of (to_extract file clock party role kind at) = codes "extract"
 
 -- a command's options are what `clap` found, each number in its range: moments go from 0 to the end of the year 2099,
 -- ports from 1 to 65535, parties from 1 to 1,000,000,000, and a million connections are served at most
-abbrev pub HasOptions : List Row → Order → Type 0
+abbrev pub HasOptions : List Row → PlainCommand → Type 0
 HasOptions rows (to_talk clock) = HasNumber rows (codes "clock") (pos 0) (pos 4102444799999) clock
 HasOptions rows (to_make file) = first_of (codes "file") rows ≡ Some file
 HasOptions rows (to_serve file port connections) =
@@ -76,17 +76,17 @@ HasOptions rows (to_extract file clock party role kind at) =
     × (first_of (codes "kind") rows ≡ Some (kind_word kind)) × HasMaybe rows (codes "at") (pos 0) (pos 4102444799999) at
 
 -- a command and its options are what `clap` found
-abbrev pub IsFoundAs : Option (Text × List Row) → Order → Type 0
+abbrev pub IsFoundAs : Option (Text × List Row) → PlainCommand → Type 0
 IsFoundAs found order = (rows : List Row) × (found ≡ Some (word_of order, rows)) × HasOptions rows order
 
 -- where roles and kinds are chosen from these words, the words of the command line name a command: `clap` finds no fault in them,
 -- and what it finds is that command with its options
-pub record NamesBy (choices : Choices) (words : List Text) (order : Order) : Type 0 where
+pub record NamesBy (choices : Choices) (words : List Text) (order : PlainCommand) : Type 0 where
   pub faultless : fault_of (land_app choices) words ≡ []
   pub found : IsFoundAs (subcommand_of (land_app choices) words) order
 
 -- the words name a command, wherever the program keeps the words of the roles and of the kinds
-abbrev pub Names : List Text → Order → Type 0
+abbrev pub Names : List Text → PlainCommand → Type 0
 Names words order = (choices : Choices) × AreSpelled choices × NamesBy choices words order
 
 -- `clap` finds a fault in the words
@@ -94,14 +94,14 @@ abbrev pub AreFaulty : List Text → Type 0
 AreFaulty words = (choices : Choices) × AreSpelled choices × (fault_of (land_app choices) words ≢ [])
 
 -- the command that was found, or none was
-abbrev pub IsNamedIn : Option (Text × List Row) → Option Order → Type 0
+abbrev pub IsNamedIn : Option (Text × List Row) → Option PlainCommand → Type 0
 IsNamedIn found (Some order) = IsFoundAs found order
-IsNamedIn found None = (order : Order) → IsFoundAs found order → ⊥
+IsNamedIn found None = (order : PlainCommand) → IsFoundAs found order → ⊥
 
 -- the options of the command of this word are what was found, or they are not
-abbrev pub IsOrderOf : (word : Text) → List Row → Option Order → Type 0
+abbrev pub IsOrderOf : (word : Text) → List Row → Option PlainCommand → Type 0
 IsOrderOf word rows (Some order) = (word_of order ≡ word) × HasOptions rows order
-IsOrderOf word rows None = (order : Order) → word_of order ≡ word → HasOptions rows order → ⊥
+IsOrderOf word rows None = (order : PlainCommand) → word_of order ≡ word → HasOptions rows order → ⊥
 
 -- an error of `clap` other than want of memory refuses the words
 abbrev pub IsRefusalOf : Error → WordsFault → Type 0

@@ -34,7 +34,7 @@ Examples:
 More on a command, with an example: land COMMAND --help";
 
 /// A command with what help says of it: what it does, and at the end an example.
-fn named<'a>(alloc: Global, name: &'a str, about: &'a str, example: &'a str) -> Command<'a>
+fn described_command<'a>(alloc: Global, name: &'a str, about: &'a str, example: &'a str) -> Command<'a>
     ensures { IsCommand (new_app name.entry.now) result }
 {
     Command::new(alloc, name).about(about).after_help(example)
@@ -69,7 +69,7 @@ fn talk<'a>(alloc: Global) -> Result<Command<'a>, AllocError>
     let about =
         "Answers the HTTP requests on standard input over a new register, which is kept in memory alone";
     let example = "Example: land talk --clock 1000 < requests.http";
-    let talk = named(alloc, "talk", about, example);
+    let talk = described_command(alloc, "talk", about, example);
     with_option(talk, clock_option(alloc))
 }
 
@@ -78,7 +78,7 @@ fn make<'a>(alloc: Global) -> Result<Command<'a>, AllocError>
 {
     let about = "Makes a new register in a file, and prints nothing";
     let example = "Example: land new --file town.land";
-    let make = named(alloc, "new", about, example);
+    let make = described_command(alloc, "new", about, example);
     let file = file_option(
         alloc,
         "The file to make; one that has tables is left as it is",
@@ -93,7 +93,7 @@ fn serve<'a>(alloc: Global) -> Result<Command<'a>, AllocError>
         "Answers HTTP connections on 127.0.0.1, one after another, over the register in a file";
     let example = "Example: land serve --file town.land --port 8080 --connections 1000
 While it runs: curl -H 'Register-Party: 1' -H 'Register-Role: stateAdministrator' http://127.0.0.1:8080/parties";
-    let serve = named(alloc, "serve", about, example);
+    let serve = described_command(alloc, "serve", about, example);
     let with_file = with_option(
         serve,
         file_option(alloc, "The file of the register, as 'land new' makes it"),
@@ -108,7 +108,7 @@ fn check<'a>(alloc: Global) -> Result<Command<'a>, AllocError>
     let about =
         "Says whether a file holds a sound register, with its last moment and its next number";
     let example = "Example: land check --file town.land";
-    let check = named(alloc, "check", about, example);
+    let check = described_command(alloc, "check", about, example);
     let file = file_option(alloc, "The file of the register");
     with_option(check, file)
 }
@@ -119,7 +119,7 @@ fn migrate<'a>(alloc: Global) -> Result<Command<'a>, AllocError>
     let about =
         "Makes of a register of version 1 in a file, which has no mandates, one of version 2";
     let example = "Example: land migrate --file town.land";
-    let migrate = named(alloc, "migrate", about, example);
+    let migrate = described_command(alloc, "migrate", about, example);
     let file = file_option(alloc, "The file of the register");
     with_option(migrate, file)
 }
@@ -151,7 +151,7 @@ fn extract<'a>(alloc: Global, choices: Choices<'a>) -> Result<Command<'a>, Alloc
         "Prints what a party sees of one kind in the register in a file, as CSV, and changes nothing";
     let example =
         "Example: land extract --file town.land --clock 1000 --party 3 --role citizen --kind rrr";
-    let extract = named(alloc, "extract", about, example);
+    let extract = described_command(alloc, "extract", about, example);
     let timed = with_clock(alloc, extract)?;
     let asked = with_caller(alloc, timed, choices.roles)?;
     let with_kind = with_option(asked, kind_option(alloc, choices.kinds))?;
@@ -164,7 +164,7 @@ pub fn land<'a>(alloc: Global, choices: Choices<'a>) -> Result<Command<'a>, Allo
 {
     let about =
         "A land register: parties, their rights, restrictions and responsibilities, and the land that these are of";
-    let land = of_commands(named(alloc, "land", about, MORE));
+    let land = of_commands(described_command(alloc, "land", about, MORE));
     let with_talk = with_command(land, talk(alloc)?)?;
     let with_new = with_command(with_talk, make(alloc)?)?;
     let with_serve = with_command(with_new, serve(alloc)?)?;

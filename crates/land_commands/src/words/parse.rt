@@ -3,11 +3,11 @@ ghost use Rattle.std.specs.Prelude.{map, pos, codes, option_map, string_bytes};
 ghost use Rattle.clap.specs.Words.{found_of, rows_of, subcommand_rows_of};
 ghost use Rattle.land_commands.specs.Words.Choices.{IsSpelled, kind_word, role_word};
 ghost use Rattle.land_commands.specs.Words.Names.{IsCallerOf, IsChosenOf, IsMaybeOf, IsNamedIn, IsNumberOf, IsOrderOf, IsReading, IsRefusalOf};
-ghost use Rattle.land_commands.specs.Words.Orders.{order_of};
+ghost use Rattle.land_commands.specs.Words.PlainCommands.{order_of};
 
 use crate::words::choices::all_choices;
 use crate::words::command::Command;
-use crate::words::matching::{command_found, matches, number_of, text_of};
+use crate::words::clap_matches::{command_found, matches, number_of, text_of};
 use crate::words::options::{LAST_PARTY, LAST_PORT, MOST_CONNECTIONS};
 use crate::words::words_fault::WordsFault;
 use clap::error::ErrorKind;

@@ -1,6 +1,6 @@
 use Rattle.std.proofs.Common.{ap₂, inr, of_z, refl, rules, subst, to_z, w64, ◌≡◌, ◌∙◌}
 use Rattle.std.specs.Io.KnownBytes.{Appends}
-use Rattle.land_commands.specs.Filed.{IsCut, sound_text}
+use Rattle.land_commands.specs.Filed.{IsTruncated, sound_text}
 use Rattle.land_commands.proofs.filed.check.Goals as goal
 
 -- the line is written
@@ -18,4 +18,4 @@ returns g c =
     let when : to_z w64 (of_z w64 c.last.result) ≡ c.last.result = search rules in
     let said : c.as_bytes.result.now ≡ sound_text o.last o.next = c.as_bytes.ensures.value ∙ c.in_ok-line.ensures ∙ ap₂ sound_text (when ∙ c.last.ensures.value) c.next.ensures.value in
     let sent = c.in-Err.ensures.err in
-    inr (o, c.in_ok-tables.ensures.finding, inr (refl, subst (λ text. IsCut text (g.O.Write.contents c.args.output.now) (g.O.Write.contents c.send.new.writer)) said (c.in-Err.field-0, sent.0, sent.1)))
+    inr (o, c.in_ok-tables.ensures.finding, inr (refl, subst (λ text. IsTruncated text (g.O.Write.contents c.args.output.now) (g.O.Write.contents c.send.new.writer)) said (c.in-Err.field-0, sent.0, sent.1)))

@@ -1,7 +1,7 @@
 use Rattle.std.proofs.Common.{◌≡◌, ap, arith, refl, ℕ, ℤ, pos, List, [], ◌∷◌, Option, Some, None, codes, option_map, rules}
 use Rattle.clap.specs.Words.{Row, Text}
 use Rattle.land_commands.specs.Words.Names.{HasOptions, IsCallerOf, IsNumberOf, IsOrderOf}
-use Rattle.land_commands.specs.Words.Orders.{to_talk, to_make, to_serve, to_check, to_migrate, to_extract, order_of}
+use Rattle.land_commands.specs.Words.PlainCommands.{to_talk, to_make, to_serve, to_check, to_migrate, to_extract, order_of}
 use Rattle.land_commands.specs.declared.words.command.Command.{Command}
 use Rattle.land_core.specs.declared.caller.Caller.{Caller}
 use Rattle.land_core.specs.declared.kind.Kind.{Kind}

@@ -1,5 +1,5 @@
 use Rattle.std.proofs.Common.{inr}
-use Rattle.land_commands.proofs.migrating.raised.Goals as goal
+use Rattle.land_commands.proofs.migrate_command.open_migrated.Goals as goal
 
 -- the store was opened, and is migrated
 pub returns-in-Ok : goal.returns-in-Ok
@@ -16,7 +16,7 @@ returns g c =
     inr (record {
       was = c.in_ok-conn.conn;
       left = c.in-Err.field-0-0;
-      why = c.in-Err.refusal;
+      why = c.in-Err.fault;
       shows = c.in_ok-conn.ensures.shows;
       refused = c.in-Err.ensures.refused;
       same = c.in-Err.ensures.same;

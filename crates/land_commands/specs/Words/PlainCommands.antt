@@ -7,15 +7,15 @@ use Rattle.land_core.specs.declared.kind.Kind.{Kind}
 use Rattle.land_core.specs.declared.role.Role.{Role}
 
 -- a command with the texts of its options, wherever these are kept
-pub data Order : Type 0 where
-  to_talk : (clock : ℤ) → Order
-  to_make : (file : Text) → Order
-  to_serve : (file : Text) (port connections : ℕ) → Order
-  to_check : (file : Text) → Order
-  to_migrate : (file : Text) → Order
-  to_extract : (file : Text) (clock : ℤ) (party : ℕ) (role : Role) (kind : Kind) (at : Option ℤ) → Order
+pub data PlainCommand : Type 0 where
+  to_talk : (clock : ℤ) → PlainCommand
+  to_make : (file : Text) → PlainCommand
+  to_serve : (file : Text) (port connections : ℕ) → PlainCommand
+  to_check : (file : Text) → PlainCommand
+  to_migrate : (file : Text) → PlainCommand
+  to_extract : (file : Text) (clock : ℤ) (party : ℕ) (role : Role) (kind : Kind) (at : Option ℤ) → PlainCommand
 
-abbrev pub order_of : Command → Order
+abbrev pub order_of : Command → PlainCommand
 order_of (Talk clock) = to_talk clock
 order_of (New file) = to_make file.now
 order_of (Serve file port connections) = to_serve file.now port connections

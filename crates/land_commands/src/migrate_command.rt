@@ -11,13 +11,13 @@ use std::alloc::{AllocError, Global};
 use std::io::Write;
 
 /// The register in a file, which the first version made, as one of the second. A file that is not migrated is left as it is.
-fn raised<H: Host>(host: &mut H, file: &str) -> Result<Tables<H::Store>, ProgramFault>
+fn open_migrated<H: Host>(host: &mut H, file: &str) -> Result<Tables<H::Store>, ProgramFault>
     ensures { IsRaising H.Store.Store (H.holds file.now) result }
 {
     let conn = host.open_found(file)?;
     match Tables::migrate(host.alloc(), conn) {
         Ok(tables) => Ok(tables),
-        Err((_, refusal)) => Err(ProgramFault::from(refusal)),
+        Err((_, fault)) => Err(ProgramFault::from(fault)),
     }
 }
 
@@ -30,7 +30,7 @@ pub fn migrate<H: Host, O: Write>(
 ) -> Result<(), ProgramFault>
     ensures { IsMigrating H.Store.Store (H.holds file.now) H.is_closed (O.contents output.old) (O.contents output.new) result }
 {
-    let tables = raised(host, file)?;
+    let tables = open_migrated(host, file)?;
     let line = migrated_line(host.alloc(), tables.last(), tables.next())?;
     close::<H>(tables.into_connection())?;
     match send(output, line.as_bytes()) {

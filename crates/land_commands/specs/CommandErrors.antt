@@ -2,17 +2,17 @@
 use Rattle.std.specs.Prelude.{ℕ, List, ◌++◌, codes, decimal}
 use Rattle.land_commands.specs.ProgramFaults.{fault_of_making}
 use Rattle.land_commands.specs.declared.program_fault.ProgramFault.TheVariants as program
-use Rattle.land_commands.specs.declared.refusal.Refusal.{Refusal}
-use Rattle.land_commands.specs.declared.refusal.Refusal.TheVariants.{Denied, Fault}
+use Rattle.land_commands.specs.declared.command_error.CommandError.{CommandError}
+use Rattle.land_commands.specs.declared.command_error.CommandError.TheVariants.{Denied, Fault}
 use Rattle.land_sheet.specs.declared.extracts.fault.ExtractFault.{ExtractFault}
 use Rattle.land_sheet.specs.declared.extracts.fault.ExtractFault.TheVariants as extract
 
 -- what is said of an extract that was not written to its end
-abbrev pub refusal_of : ExtractFault → Refusal
-refusal_of (extract.Denied rule) = Denied rule
-refusal_of (extract.Fault number) = Fault program.ToCome
-refusal_of (extract.Write written) = Fault program.Stream
-refusal_of (extract.Store fault written) = Fault (fault_of_making fault)
+abbrev pub command_error_of : ExtractFault → CommandError
+command_error_of (extract.Denied rule) = Denied rule
+command_error_of (extract.Fault number) = Fault program.ToCome
+command_error_of (extract.Write written) = Fault program.Stream
+command_error_of (extract.Store fault written) = Fault (fault_of_making fault)
 
 -- the line that is told of a denial
 abbrev pub denied_text : (rule : ℕ) → List ℕ

@@ -5,7 +5,7 @@ use Rattle.clap.proofs.OnLiterals.{clap_on_literals}
 use Rattle.clap.specs.Words.{App, fault_of, is_simple, is_simple_and_free, subcommand_of}
 use Rattle.land_commands.specs.Words.Commands.{land_app}
 use Rattle.land_commands.specs.declared.words.choices.Choices.{Choices}
-use Rattle.land_commands.proofs.words.matching.matches.Goals as goal
+use Rattle.land_commands.proofs.words.clap_matches.matches.Goals as goal
 
 simple : (choices : Choices) → is_simple (land_app choices) ≡ true
 unfolding clap_on_literals

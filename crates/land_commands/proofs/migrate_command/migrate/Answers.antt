@@ -1,10 +1,10 @@
 use Rattle.std.proofs.Common.{ap₂, inl, inr, of_z, refl, rules, subst, to_z, w64, ◌≡◌, ◌∙◌}
 use Rattle.std.specs.Io.KnownBytes.{Appends}
-use Rattle.land_commands.specs.Filed.{IsCut}
+use Rattle.land_commands.specs.Filed.{IsTruncated}
 use Rattle.land_commands.proofs.Filings.{raised_unsaid}
 use Rattle.land_commands.specs.Migrating.{migrated_text}
 use Rattle.land_commands.specs.declared.program_fault.ProgramFault.TheVariants.{NoMemory}
-use Rattle.land_commands.proofs.migrating.migrate.Goals as goal
+use Rattle.land_commands.proofs.migrate_command.migrate.Goals as goal
 
 -- there was no memory for the line
 pub returns-in_err-line : goal.returns-in_err-line
@@ -33,4 +33,4 @@ returns g c =
     let when : to_z w64 (of_z w64 c.last.result) ≡ c.last.result = search rules in
     let said : c.as_bytes.result.now ≡ migrated_text o.last o.next = c.as_bytes.ensures.value ∙ c.in_ok-line.ensures ∙ ap₂ migrated_text (when ∙ c.last.ensures.value) c.next.ensures.value in
     let sent = c.in-Err.ensures.err in
-    inr (o, c.in_ok-tables.ensures, inr (refl, subst g.H.Host.is_closed c.into_connection.ensures c.in_ok-close.ensures.closed, subst (λ text. IsCut text (g.O.Write.contents c.args.output.now) (g.O.Write.contents c.send.new.writer)) said (c.in-Err.field-0, sent.0, sent.1)))
+    inr (o, c.in_ok-tables.ensures, inr (refl, subst g.H.Host.is_closed c.into_connection.ensures c.in_ok-close.ensures.closed, subst (λ text. IsTruncated text (g.O.Write.contents c.args.output.now) (g.O.Write.contents c.send.new.writer)) said (c.in-Err.field-0, sent.0, sent.1)))

@@ -2,7 +2,7 @@ use Rattle.std.proofs.Common.{◌≡◌, ◌∙◌, ℕ, List, Bor, Option, Some
 use Rattle.clap.specs.Words.{Row, Text, found_of, rows_of, subcommand_name_of, subcommand_rows_of}
 use Rattle.clap.specs.declared.parser.matches.ArgMatches.{ArgMatches}
 use Rattle.clap.specs.declared.parser.matches.ArgMatches.TheViews.{out-ArgMatches}
-use Rattle.land_commands.proofs.words.matching.command_found.Goals as goal
+use Rattle.land_commands.proofs.words.clap_matches.command_found.Goals as goal
 
 pairs : (X A B : Type 0) (f : X → A) (g : X → B) (r : Option X) (o : Option (A × B)) → option_map f r ≡ option_map (λ p. p.0) o → option_map g r ≡ option_map (λ p. p.1) o
     → option_map (λ x. (f x, g x)) r ≡ o
