@@ -12,8 +12,8 @@ use Rattle.land_keep.specs.declared.reply.Reply.TheVariants as reply
 use Rattle.land_keep.specs.declared.store_fault.StoreFault.TheVariants.{NoMemory}
 use Rattle.land_desk.proofs.exchange.exchange_request.Goals as goal
 
-pub returns-in-Err-clause-heard : goal.returns-in-Err-clause-heard
-returns-in-Err-clause-heard g c from at =
+pub returns-in-Err-clause-reply : goal.returns-in-Err-clause-reply
+returns-in-Err-clause-reply g c from at =
     let before = g.K.Keeper.closed c.args.keeper.now in
     let closed = g.K.Keeper.closed c.prepare.new.keeper in
     let closes = c.in-Err.ensures.closes in
@@ -26,8 +26,8 @@ returns-in-Err-clause-heard g c from at =
     from at in
     (it.0, (reply.Store (number_of c.in-Err.fault), it.1, c.store_failure.ensures), it.2)
 
-pub returns-in_default-clause-heard : goal.returns-in_default-clause-heard
-returns-in_default-clause-heard g c from at =
+pub returns-in_default-clause-reply : goal.returns-in_default-clause-reply
+returns-in_default-clause-reply g c from at =
     let before = g.K.Keeper.closed c.args.keeper.now in
     let closed = g.K.Keeper.closed c.prepare.new.keeper in
     let opened = opens before closed c.in-Ok.prepared c.in-Ok.ensures.closes in
@@ -41,8 +41,8 @@ returns-in_default-clause-heard g c from at =
     from at in
     (it.0, (reply.Store 501, it.1, c.store_failure-in_default.ensures), it.2)
 
-pub returns-in-Err-finish-clause-heard : goal.returns-in-Err-finish-clause-heard
-returns-in-Err-finish-clause-heard g c from at =
+pub returns-in-Err-finish-clause-reply : goal.returns-in-Err-finish-clause-reply
+returns-in-Err-finish-clause-reply g c from at =
     let before = g.K.Keeper.closed c.args.keeper.now in
     let mid = g.K.Keeper.closed c.prepare.new.keeper in
     let closed = g.K.Keeper.closed c.finish.new.keeper in
@@ -60,8 +60,8 @@ returns-in-Err-finish-clause-heard g c from at =
     from at in
     (it.0, (reply.Store (number_of fault), it.1, c.store_failure-in-Err-finish.ensures), it.2)
 
-pub returns-in-Ok-finish-clause-heard : goal.returns-in-Ok-finish-clause-heard
-returns-in-Ok-finish-clause-heard g c from at =
+pub returns-in-Ok-finish-clause-reply : goal.returns-in-Ok-finish-clause-reply
+returns-in-Ok-finish-clause-reply g c from at =
     let before = g.K.Keeper.closed c.args.keeper.now in
     let mid = g.K.Keeper.closed c.prepare.new.keeper in
     let closed = g.K.Keeper.closed c.finish.new.keeper in

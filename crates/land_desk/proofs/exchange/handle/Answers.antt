@@ -8,15 +8,15 @@ use Rattle.land_wire_json.specs.declared.bodies.wire_fault.WireFault.{WireFault}
 use Rattle.land_wire_json.specs.declared.bodies.wire_fault.WireFault.TheVariants.{NoMemory}
 use Rattle.land_desk.proofs.exchange.handle.Goals as goal
 
-pub returns-in-Err-NoMemory-clause-told : goal.returns-in-Err-NoMemory-clause-told
-returns-in-Err-NoMemory-clause-told g c q gives from at = (from, (reply.Store 501, inl (refl, refl), c.store_failure.ensures), at)
+pub returns-in-Err-NoMemory-clause-reply : goal.returns-in-Err-NoMemory-clause-reply
+returns-in-Err-NoMemory-clause-reply g c q gives from at = (from, (reply.Store 501, inl (refl, refl), c.store_failure.ensures), at)
 
 pub returns-in-Err : goal.returns-in-Err
 returns-in-Err g c =
     let it = c.answered_or_failed.ensures in
     let other : c.in-Err.fault ≢ NoMemory = search rules in
     record {
-      told = λ q gives from at. (
+      reply = λ q gives from at. (
         from,
         (
           it.0,
@@ -30,9 +30,9 @@ returns-in-Err g c =
       was = λ trust. trust;
     }
 
-pub returns-in-Ok-clause-told : goal.returns-in-Ok-clause-told
-returns-in-Ok-clause-told g c q gives from at =
-    let it = c.exchange_request.ensures.heard from at in
+pub returns-in-Ok-clause-reply : goal.returns-in-Ok-clause-reply
+returns-in-Ok-clause-reply g c q gives from at =
+    let it = c.exchange_request.ensures.reply from at in
     let hears = HearsIf (g.K.Keeper.honest c.exchange_request.new.keeper) g.C.Clock.reads in
     let q_is = subst (λ (r : Result Request WireFault). Gives (λ (asked : Request). asked) r q) c.in-Ok.is gives in (
       it.0,

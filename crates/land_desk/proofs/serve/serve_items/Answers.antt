@@ -91,12 +91,12 @@ loop-fault-preserved g c =
       moves_on hears later weaken
           (λ s. IsAt (g.K.Keeper.honest c.loop-fault.keeper) (g.K.Keeper.closed c.loop-fault.keeper) (g.K.Keeper.timeline c.loop-fault.keeper) c.loop-fault.clock s)
           (λ s. IsAt (g.K.Keeper.honest c.take_turn.new.keeper) (g.K.Keeper.closed c.take_turn.new.keeper) (g.K.Keeper.timeline c.take_turn.new.keeper) c.take_turn.new.clock s)
-          from c.loop-fault.invariant.2 c.in-Ok-KeepAlive.ensures.hears,
+          from c.loop-fault.invariant.2 c.in-Ok-KeepAlive.ensures.step,
       (λ trust. c.loop-fault.invariant.3 (c.in-Ok-KeepAlive.ensures.was trust)),
       kept_short start before (g.R.Read.remaining c.take_turn.new.reader.reader.now) c.loop-fault.buffer.items c.take_turn.new.buffer.items
-          c.in-Ok-KeepAlive.field-0 c.in-Ok-KeepAlive.field-0-is c.loop-fault.invariant.4 c.in-Ok-KeepAlive.ensures.asked,
+          c.in-Ok-KeepAlive.field-0 c.in-Ok-KeepAlive.field-0-is c.loop-fault.invariant.4 c.in-Ok-KeepAlive.ensures.reads,
       spent_on start before after (1024 * c.args.reader.now.left) (length c.loop-fault.buffer.items + 1024 * c.loop-fault.reader.left)
-          (length c.take_turn.new.buffer.items + 1024 * c.take_turn.new.reader.left) c.loop-fault.invariant.5 c.in-Ok-KeepAlive.ensures.bound,
+          (length c.take_turn.new.buffer.items + 1024 * c.take_turn.new.reader.left) c.loop-fault.invariant.5 c.in-Ok-KeepAlive.ensures.budget,
       c.in-Ok-KeepAlive.ensures.same_reference ∙ c.loop-fault.invariant.6,
       omega (arith, c.loop-fault.invariant.7, c.in-Ok-KeepAlive.ensures.progress c.in-Ok-KeepAlive.field-0-is),
       omega (arith, c.loop-fault.invariant.8, c.in-Ok-KeepAlive.ensures.fewer),
@@ -118,8 +118,8 @@ loop-fault-init g c =
       omega arith,
     )
 
-pub returns-in-Ok-Eof-clause-moves : goal.returns-in-Ok-Eof-clause-moves
-returns-in-Ok-Eof-clause-moves g c =
+pub returns-in-Ok-Eof-clause-reached : goal.returns-in-Ok-Eof-clause-reached
+returns-in-Ok-Eof-clause-reached g c =
     let hears = HearsIf (g.K.Keeper.honest c.loop-fault.keeper) g.C.Clock.reads in
     let later = HearsIf (g.K.Keeper.honest c.take_turn.new.keeper) g.C.Clock.reads in
     let weaken = heard_later g.C.Clock.reads (g.K.Keeper.honest c.loop-fault.keeper) (g.K.Keeper.honest c.take_turn.new.keeper) c.in-Ok-Eof.ensures.was in
@@ -127,10 +127,10 @@ returns-in-Ok-Eof-clause-moves g c =
     (λ s. IsAt (g.K.Keeper.honest c.loop-fault.keeper) (g.K.Keeper.closed c.loop-fault.keeper) (g.K.Keeper.timeline c.loop-fault.keeper) c.loop-fault.clock s)
     (λ s. IsAt (g.K.Keeper.honest c.take_turn.new.keeper) (g.K.Keeper.closed c.take_turn.new.keeper) (g.K.Keeper.timeline c.take_turn.new.keeper) c.take_turn.new.clock s)
     (record { closed = g.K.Keeper.closed c.args.keeper.now; timeline = g.K.Keeper.timeline c.args.keeper.now; clock = c.args.clock.now })
-    c.loop-fault.invariant.2 c.in-Ok-Eof.ensures.hears
+    c.loop-fault.invariant.2 c.in-Ok-Eof.ensures.step
 
-pub returns-in-Ok-Close-clause-moves : goal.returns-in-Ok-Close-clause-moves
-returns-in-Ok-Close-clause-moves g c =
+pub returns-in-Ok-Close-clause-reached : goal.returns-in-Ok-Close-clause-reached
+returns-in-Ok-Close-clause-reached g c =
     let hears = HearsIf (g.K.Keeper.honest c.loop-fault.keeper) g.C.Clock.reads in
     let later = HearsIf (g.K.Keeper.honest c.take_turn.new.keeper) g.C.Clock.reads in
     let weaken = heard_later g.C.Clock.reads (g.K.Keeper.honest c.loop-fault.keeper) (g.K.Keeper.honest c.take_turn.new.keeper) c.in-Ok-Close.ensures.was in
@@ -138,10 +138,10 @@ returns-in-Ok-Close-clause-moves g c =
     (λ s. IsAt (g.K.Keeper.honest c.loop-fault.keeper) (g.K.Keeper.closed c.loop-fault.keeper) (g.K.Keeper.timeline c.loop-fault.keeper) c.loop-fault.clock s)
     (λ s. IsAt (g.K.Keeper.honest c.take_turn.new.keeper) (g.K.Keeper.closed c.take_turn.new.keeper) (g.K.Keeper.timeline c.take_turn.new.keeper) c.take_turn.new.clock s)
     (record { closed = g.K.Keeper.closed c.args.keeper.now; timeline = g.K.Keeper.timeline c.args.keeper.now; clock = c.args.clock.now })
-    c.loop-fault.invariant.2 c.in-Ok-Close.ensures.hears
+    c.loop-fault.invariant.2 c.in-Ok-Close.ensures.step
 
-pub returns-in-Err-clause-moves : goal.returns-in-Err-clause-moves
-returns-in-Err-clause-moves g c =
+pub returns-in-Err-clause-reached : goal.returns-in-Err-clause-reached
+returns-in-Err-clause-reached g c =
     let hears = HearsIf (g.K.Keeper.honest c.loop-fault.keeper) g.C.Clock.reads in
     let later = HearsIf (g.K.Keeper.honest c.take_turn.new.keeper) g.C.Clock.reads in
     let weaken = heard_later g.C.Clock.reads (g.K.Keeper.honest c.loop-fault.keeper) (g.K.Keeper.honest c.take_turn.new.keeper) c.in-Err.ensures.was in
@@ -149,10 +149,10 @@ returns-in-Err-clause-moves g c =
     (λ s. IsAt (g.K.Keeper.honest c.loop-fault.keeper) (g.K.Keeper.closed c.loop-fault.keeper) (g.K.Keeper.timeline c.loop-fault.keeper) c.loop-fault.clock s)
     (λ s. IsAt (g.K.Keeper.honest c.take_turn.new.keeper) (g.K.Keeper.closed c.take_turn.new.keeper) (g.K.Keeper.timeline c.take_turn.new.keeper) c.take_turn.new.clock s)
     (record { closed = g.K.Keeper.closed c.args.keeper.now; timeline = g.K.Keeper.timeline c.args.keeper.now; clock = c.args.clock.now })
-    c.loop-fault.invariant.2 c.in-Err.ensures.hears
+    c.loop-fault.invariant.2 c.in-Err.ensures.step
 
-pub returns-in-Ok-Eof-clause-asked : goal.returns-in-Ok-Eof-clause-asked
-returns-in-Ok-Eof-clause-asked g c =
+pub returns-in-Ok-Eof-clause-reads : goal.returns-in-Ok-Eof-clause-reads
+returns-in-Ok-Eof-clause-reads g c =
     asked_to_end (HearsIf (g.K.Keeper.honest c.loop-fault.keeper) g.C.Clock.reads)
     (record { closed = g.K.Keeper.closed c.args.keeper.now; timeline = g.K.Keeper.timeline c.args.keeper.now; clock = c.args.clock.now })
     (λ s. IsAt (g.K.Keeper.honest c.loop-fault.keeper) (g.K.Keeper.closed c.loop-fault.keeper) (g.K.Keeper.timeline c.loop-fault.keeper) c.loop-fault.clock s)
@@ -160,10 +160,10 @@ returns-in-Ok-Eof-clause-asked g c =
     (prepend_known c.loop-fault.buffer.items (g.R.Read.remaining c.loop-fault.reader.reader.now))
     (g.R.Read.remaining c.take_turn.new.reader.reader.now)
     (g.W.Write.contents c.args.writer.now) (g.W.Write.contents c.loop-fault.writer) c.loop-fault.buffer.items c.take_turn.new.buffer.items c.loop-fault.replies
-    c.in-Ok-Eof.field-0 c.in-Ok-Eof.field-0-is c.loop-fault.invariant.1 c.loop-fault.invariant.4 c.in-Ok-Eof.ensures.asked
+    c.in-Ok-Eof.field-0 c.in-Ok-Eof.field-0-is c.loop-fault.invariant.1 c.loop-fault.invariant.4 c.in-Ok-Eof.ensures.reads
 
-pub returns-in-Ok-Close-clause-asked : goal.returns-in-Ok-Close-clause-asked
-returns-in-Ok-Close-clause-asked g c =
+pub returns-in-Ok-Close-clause-reads : goal.returns-in-Ok-Close-clause-reads
+returns-in-Ok-Close-clause-reads g c =
     asked_to_last (HearsIf (g.K.Keeper.honest c.loop-fault.keeper) g.C.Clock.reads)
     (record { closed = g.K.Keeper.closed c.args.keeper.now; timeline = g.K.Keeper.timeline c.args.keeper.now; clock = c.args.clock.now })
     (λ s. IsAt (g.K.Keeper.honest c.loop-fault.keeper) (g.K.Keeper.closed c.loop-fault.keeper) (g.K.Keeper.timeline c.loop-fault.keeper) c.loop-fault.clock s)
@@ -171,43 +171,43 @@ returns-in-Ok-Close-clause-asked g c =
     (prepend_known c.loop-fault.buffer.items (g.R.Read.remaining c.loop-fault.reader.reader.now))
     (g.R.Read.remaining c.take_turn.new.reader.reader.now)
     (g.W.Write.contents c.args.writer.now) (g.W.Write.contents c.loop-fault.writer) c.loop-fault.buffer.items c.take_turn.new.buffer.items c.loop-fault.replies
-    c.in-Ok-Close.field-0 c.in-Ok-Close.field-0-is c.loop-fault.invariant.1 c.loop-fault.invariant.4 c.in-Ok-Close.ensures.asked
+    c.in-Ok-Close.field-0 c.in-Ok-Close.field-0-is c.loop-fault.invariant.1 c.loop-fault.invariant.4 c.in-Ok-Close.ensures.reads
 
-pub returns-in-Err-clause-asked : goal.returns-in-Err-clause-asked
-returns-in-Err-clause-asked g c =
+pub returns-in-Err-clause-reads : goal.returns-in-Err-clause-reads
+returns-in-Err-clause-reads g c =
     let start = g.R.Read.remaining c.args.reader.now.reader.now in
     let left = g.R.Read.remaining c.take_turn.new.reader.reader.now in
     broken_off start left c.take_turn.new.buffer.items (1024 * c.args.reader.now.left) (length c.take_turn.new.buffer.items + 1024 * c.take_turn.new.reader.left) c.in-Err.fault
     (spent_on start (prepend_known c.loop-fault.buffer.items (g.R.Read.remaining c.loop-fault.reader.reader.now)) (prepend_known c.take_turn.new.buffer.items left)
     (1024 * c.args.reader.now.left) (length c.loop-fault.buffer.items + 1024 * c.loop-fault.reader.left)
-    (length c.take_turn.new.buffer.items + 1024 * c.take_turn.new.reader.left) c.loop-fault.invariant.5 c.in-Err.ensures.bound)
+    (length c.take_turn.new.buffer.items + 1024 * c.take_turn.new.reader.left) c.loop-fault.invariant.5 c.in-Err.ensures.budget)
 
-pub returns-in-Ok-Eof-clause-bound : goal.returns-in-Ok-Eof-clause-bound
-returns-in-Ok-Eof-clause-bound g c =
+pub returns-in-Ok-Eof-clause-budget : goal.returns-in-Ok-Eof-clause-budget
+returns-in-Ok-Eof-clause-budget g c =
     let start = g.R.Read.remaining c.args.reader.now.reader.now in
     let left = g.R.Read.remaining c.take_turn.new.reader.reader.now in
     spent_all start left c.take_turn.new.buffer.items (1024 * c.args.reader.now.left) (1024 * c.take_turn.new.reader.left)
     (spent_on start (prepend_known c.loop-fault.buffer.items (g.R.Read.remaining c.loop-fault.reader.reader.now)) (prepend_known c.take_turn.new.buffer.items left)
     (1024 * c.args.reader.now.left) (length c.loop-fault.buffer.items + 1024 * c.loop-fault.reader.left)
-    (length c.take_turn.new.buffer.items + 1024 * c.take_turn.new.reader.left) c.loop-fault.invariant.5 c.in-Ok-Eof.ensures.bound)
+    (length c.take_turn.new.buffer.items + 1024 * c.take_turn.new.reader.left) c.loop-fault.invariant.5 c.in-Ok-Eof.ensures.budget)
 
-pub returns-in-Ok-Close-clause-bound : goal.returns-in-Ok-Close-clause-bound
-returns-in-Ok-Close-clause-bound g c =
+pub returns-in-Ok-Close-clause-budget : goal.returns-in-Ok-Close-clause-budget
+returns-in-Ok-Close-clause-budget g c =
     let start = g.R.Read.remaining c.args.reader.now.reader.now in
     let left = g.R.Read.remaining c.take_turn.new.reader.reader.now in
     spent_all start left c.take_turn.new.buffer.items (1024 * c.args.reader.now.left) (1024 * c.take_turn.new.reader.left)
     (spent_on start (prepend_known c.loop-fault.buffer.items (g.R.Read.remaining c.loop-fault.reader.reader.now)) (prepend_known c.take_turn.new.buffer.items left)
     (1024 * c.args.reader.now.left) (length c.loop-fault.buffer.items + 1024 * c.loop-fault.reader.left)
-    (length c.take_turn.new.buffer.items + 1024 * c.take_turn.new.reader.left) c.loop-fault.invariant.5 c.in-Ok-Close.ensures.bound)
+    (length c.take_turn.new.buffer.items + 1024 * c.take_turn.new.reader.left) c.loop-fault.invariant.5 c.in-Ok-Close.ensures.budget)
 
-pub returns-in-Err-clause-bound : goal.returns-in-Err-clause-bound
-returns-in-Err-clause-bound g c =
+pub returns-in-Err-clause-budget : goal.returns-in-Err-clause-budget
+returns-in-Err-clause-budget g c =
     let start = g.R.Read.remaining c.args.reader.now.reader.now in
     let left = g.R.Read.remaining c.take_turn.new.reader.reader.now in
     spent_all start left c.take_turn.new.buffer.items (1024 * c.args.reader.now.left) (1024 * c.take_turn.new.reader.left)
     (spent_on start (prepend_known c.loop-fault.buffer.items (g.R.Read.remaining c.loop-fault.reader.reader.now)) (prepend_known c.take_turn.new.buffer.items left)
     (1024 * c.args.reader.now.left) (length c.loop-fault.buffer.items + 1024 * c.loop-fault.reader.left)
-    (length c.take_turn.new.buffer.items + 1024 * c.take_turn.new.reader.left) c.loop-fault.invariant.5 c.in-Err.ensures.bound)
+    (length c.take_turn.new.buffer.items + 1024 * c.take_turn.new.reader.left) c.loop-fault.invariant.5 c.in-Err.ensures.budget)
 
 pub returns-in-Err-clause-read_fault : goal.returns-in-Err-clause-read_fault
 returns-in-Err-clause-read_fault g c is =

@@ -57,79 +57,79 @@ returns-in-Err-NoMemory-clause-turn g c =
     stays_put hears start _ _ (λ bytes from to. IsTurn hears bytes from to left w w (Err desk.NoMemory)) (λ s at. at)
     (λ s. unread hears start left w s desk.NoMemory (λ e. cc))
 
-pub returns-in-Ok-Fault-clause-hears : goal.returns-in-Ok-Fault-clause-hears
-returns-in-Ok-Fault-clause-hears g c from at = (from, inl refl, at)
+pub returns-in-Ok-Fault-clause-step : goal.returns-in-Ok-Fault-clause-step
+returns-in-Ok-Fault-clause-step g c from at = (from, inl refl, at)
 
-pub returns-in-Ok-End-clause-hears : goal.returns-in-Ok-End-clause-hears
-returns-in-Ok-End-clause-hears g c from at = (from, inl refl, at)
+pub returns-in-Ok-End-clause-step : goal.returns-in-Ok-End-clause-step
+returns-in-Ok-End-clause-step g c from at = (from, inl refl, at)
 
-pub returns-in-Err-Read-clause-hears : goal.returns-in-Err-Read-clause-hears
-returns-in-Err-Read-clause-hears g c from at = (from, inl refl, at)
+pub returns-in-Err-Read-clause-step : goal.returns-in-Err-Read-clause-step
+returns-in-Err-Read-clause-step g c from at = (from, inl refl, at)
 
-pub returns-in-Err-NoMemory-clause-hears : goal.returns-in-Err-NoMemory-clause-hears
-returns-in-Err-NoMemory-clause-hears g c from at = (from, inl refl, at)
+pub returns-in-Err-NoMemory-clause-step : goal.returns-in-Err-NoMemory-clause-step
+returns-in-Err-NoMemory-clause-step g c from at = (from, inl refl, at)
 
-pub returns-in-Ok-Request-clause-hears : goal.returns-in-Ok-Request-clause-hears
-returns-in-Ok-Request-clause-hears g c from at =
+pub returns-in-Ok-Request-clause-step : goal.returns-in-Ok-Request-clause-step
+returns-in-Ok-Request-clause-step g c from at =
     let it = c.answer_request-answer.ensures.spoken [] from at in
     (it.0, one_heard (HearsIf (g.K.Keeper.honest c.answer_request-answer.new.keeper) g.C.Clock.reads) _ from it.1.0 _ it.0 it.1.1, it.2)
 
-pub returns-in-Err-Read-clause-asked : goal.returns-in-Err-Read-clause-asked
-returns-in-Err-Read-clause-asked g c small =
+pub returns-in-Err-Read-clause-reads : goal.returns-in-Err-Read-clause-reads
+returns-in-Err-Read-clause-reads g c small =
     not_read (prepend_known c.args.buffer.now.items (g.R.Read.remaining c.args.reader.now.reader.now)) (g.R.Read.remaining c.read_item.new.reader.reader.now)
     c.read_item.new.buffer.items desk.Read c.in-Err-Read.ensures.stream
 
-pub returns-in-Err-NoMemory-clause-asked : goal.returns-in-Err-NoMemory-clause-asked
-returns-in-Err-NoMemory-clause-asked g c small =
+pub returns-in-Err-NoMemory-clause-reads : goal.returns-in-Err-NoMemory-clause-reads
+returns-in-Err-NoMemory-clause-reads g c small =
     not_read (prepend_known c.args.buffer.now.items (g.R.Read.remaining c.args.reader.now.reader.now)) (g.R.Read.remaining c.read_item.new.reader.reader.now)
     c.read_item.new.buffer.items desk.NoMemory c.in-Err-NoMemory.ensures.stream
 
-pub returns-in-Ok-End-clause-asked : goal.returns-in-Ok-End-clause-asked
-returns-in-Ok-End-clause-asked g c small =
+pub returns-in-Ok-End-clause-reads : goal.returns-in-Ok-End-clause-reads
+returns-in-Ok-End-clause-reads g c small =
     end_asked (prepend_known c.args.buffer.now.items (g.R.Read.remaining c.args.reader.now.reader.now)) (g.R.Read.remaining c.read_item.new.reader.reader.now)
     c.read_item.new.buffer.items c.in-Ok-End.field-0 c.in-Ok-End.field-0-is c.in-Ok-End.ensures.stream c.in-Ok-End.ensures.item
 
-pub returns-in-Ok-Fault-clause-asked : goal.returns-in-Ok-Fault-clause-asked
-returns-in-Ok-Fault-clause-asked g c small =
+pub returns-in-Ok-Fault-clause-reads : goal.returns-in-Ok-Fault-clause-reads
+returns-in-Ok-Fault-clause-reads g c small =
     fault_asked (prepend_known c.args.buffer.now.items (g.R.Read.remaining c.args.reader.now.reader.now)) (g.R.Read.remaining c.read_item.new.reader.reader.now)
     (g.W.Write.contents c.args.writer.now) (g.W.Write.contents c.write_response.new.writer) c.read_item.new.buffer.items (answer_bytes c.reject.result.bytes)
     c.in-Ok-Fault.field-0 c.in-Ok-Fault.fault c.reject.result.close_after c.write_response.result
     c.in-Ok-Fault.field-0-is c.in-Ok-Fault.ensures.stream c.in-Ok-Fault.ensures.item (c.in-Ok-Fault.ensures.ahead small) c.reject.ensures.2.1 c.write_response.ensures
 
-pub returns-in-Ok-Request-clause-asked : goal.returns-in-Ok-Request-clause-asked
-returns-in-Ok-Request-clause-asked g c small =
+pub returns-in-Ok-Request-clause-reads : goal.returns-in-Ok-Request-clause-reads
+returns-in-Ok-Request-clause-reads g c small =
     request_asked (prepend_known c.args.buffer.now.items (g.R.Read.remaining c.args.reader.now.reader.now)) (g.R.Read.remaining c.read_item.new.reader.reader.now)
     (g.W.Write.contents c.args.writer.now) (g.W.Write.contents c.write_response-turn.new.writer) c.read_item.new.buffer.items c.drop_front.new.buffer.items
     (answer_bytes c.answer_request-answer.result.bytes) c.read_item.new.headers c.in-Ok-Request.field-0 c.in-Ok-Request.spans c.in-Ok-Request.length
     c.answer_request-answer.result.close_after c.write_response-turn.result c.in-Ok-Request.field-0-is c.in-Ok-Request.ensures.stream c.in-Ok-Request.ensures.item
     c.in-Ok-Request.ensures.front (c.in-Ok-Request.ensures.ahead small) c.drop_front.ensures c.write_response-turn.ensures
 
-pub returns-in-Err-Read-clause-bound : goal.returns-in-Err-Read-clause-bound
-returns-in-Err-Read-clause-bound g c =
+pub returns-in-Err-Read-clause-budget : goal.returns-in-Err-Read-clause-budget
+returns-in-Err-Read-clause-budget g c =
     none_gone (prepend_known c.args.buffer.now.items (g.R.Read.remaining c.args.reader.now.reader.now)) (g.R.Read.remaining c.read_item.new.reader.reader.now)
     c.read_item.new.buffer.items (length c.args.buffer.now.items + 1024 * c.args.reader.now.left) (1024 * c.read_item.new.reader.left)
     c.in-Err-Read.ensures.stream c.in-Err-Read.ensures.bound
 
-pub returns-in-Err-NoMemory-clause-bound : goal.returns-in-Err-NoMemory-clause-bound
-returns-in-Err-NoMemory-clause-bound g c =
+pub returns-in-Err-NoMemory-clause-budget : goal.returns-in-Err-NoMemory-clause-budget
+returns-in-Err-NoMemory-clause-budget g c =
     none_gone (prepend_known c.args.buffer.now.items (g.R.Read.remaining c.args.reader.now.reader.now)) (g.R.Read.remaining c.read_item.new.reader.reader.now)
     c.read_item.new.buffer.items (length c.args.buffer.now.items + 1024 * c.args.reader.now.left) (1024 * c.read_item.new.reader.left)
     c.in-Err-NoMemory.ensures.stream c.in-Err-NoMemory.ensures.bound
 
-pub returns-in-Ok-End-clause-bound : goal.returns-in-Ok-End-clause-bound
-returns-in-Ok-End-clause-bound g c =
+pub returns-in-Ok-End-clause-budget : goal.returns-in-Ok-End-clause-budget
+returns-in-Ok-End-clause-budget g c =
     none_gone (prepend_known c.args.buffer.now.items (g.R.Read.remaining c.args.reader.now.reader.now)) (g.R.Read.remaining c.read_item.new.reader.reader.now)
     c.read_item.new.buffer.items (length c.args.buffer.now.items + 1024 * c.args.reader.now.left) (1024 * c.read_item.new.reader.left)
     c.in-Ok-End.ensures.stream c.in-Ok-End.ensures.bound
 
-pub returns-in-Ok-Fault-clause-bound : goal.returns-in-Ok-Fault-clause-bound
-returns-in-Ok-Fault-clause-bound g c =
+pub returns-in-Ok-Fault-clause-budget : goal.returns-in-Ok-Fault-clause-budget
+returns-in-Ok-Fault-clause-budget g c =
     none_gone (prepend_known c.args.buffer.now.items (g.R.Read.remaining c.args.reader.now.reader.now)) (g.R.Read.remaining c.read_item.new.reader.reader.now)
     c.read_item.new.buffer.items (length c.args.buffer.now.items + 1024 * c.args.reader.now.left) (1024 * c.read_item.new.reader.left)
     c.in-Ok-Fault.ensures.stream c.in-Ok-Fault.ensures.bound
 
-pub returns-in-Ok-Request-clause-bound : goal.returns-in-Ok-Request-clause-bound
-returns-in-Ok-Request-clause-bound g c =
+pub returns-in-Ok-Request-clause-budget : goal.returns-in-Ok-Request-clause-budget
+returns-in-Ok-Request-clause-budget g c =
     front_gone (prepend_known c.args.buffer.now.items (g.R.Read.remaining c.args.reader.now.reader.now)) (g.R.Read.remaining c.read_item.new.reader.reader.now)
     c.read_item.new.buffer.items c.drop_front.new.buffer.items (c.in-Ok-Request.spans.len + c.in-Ok-Request.length)
     (length c.args.buffer.now.items + 1024 * c.args.reader.now.left) (1024 * c.read_item.new.reader.left)

@@ -19,7 +19,7 @@ returns-in-Err-clause-served g c trust =
 
 pub loop-served-preserved : goal.loop-served-preserved
 loop-served-preserved g c = (
-  c.in-Ok.ensures.told,
+  c.in-Ok.ensures.closed,
   (λ trust.
       let was = c.in-Ok.ensures.was trust in
       served_more g.C.Clock.reads _ was _ c.loop-served.invariant.0 _ _ _ _ _ _ _ _ _ (c.loop-served.invariant.1 was) (c.in-Ok.ensures.served trust)),
