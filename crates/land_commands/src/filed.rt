@@ -43,7 +43,7 @@ pub(crate) fn open_register<H: Host>(host: &mut H, file: &str) -> Result<Tables<
     let conn = host.open_found(file)?;
     match Tables::adopt(host.alloc(), conn) {
         Ok(tables) => Ok(tables),
-        Err((_, fault)) => Err(ProgramFault::from(fault)),
+        Err((_, refusal)) => Err(ProgramFault::from(refusal)),
     }
 }
 

@@ -1,4 +1,4 @@
--- How much is asked of the reader of a stream.
+-- How far the reader of a stream is read.
 use Rattle.std.proofs.Common.{◌≡◌, ◌≤◌, ◌<◌, ◌+◌, ◌∙◌, ◌⊎◌, ap, append_assoc, arith, inl, inr, refl, subst, sym, ℕ, Bool, true, false, List, [], ◌∷◌, ◌++◌, drop, length, length-append, length-drop, map, take, take-append-drop, Result, Ok, Err, Option, Some, None, IfErr, IfOk, IfSome}
 use Rattle.std.specs.Prelude.{◌||◌}
 use Rattle.std.specs.Io.KnownBytes.{Keeps, prepend_known}
@@ -23,21 +23,21 @@ use Rattle.land_wire.specs.declared.framing.frame_fault.FrameFault.{FrameFault}
 use Rattle.land_wire.specs.declared.framing.item.Front.{Front}
 use Rattle.land_wire.specs.declared.framing.item.Front.TheVariants as front
 
--- ---- how many bytes are taken
+-- ---- the number of bytes taken
 
 -- nothing is taken
 pub none_taken : (known : Option (List ℕ)) (most : ℕ) → IfBoth known known (TakesAtMost most)
 none_taken None most = tt
 none_taken (Some bytes) most = ([], refl, omega arith)
 
--- bytes are read ahead, and none is gone
+-- bytes are read ahead, and none is consumed
 pub none_gone : (start left : Option (List ℕ)) (buffer : List ℕ) (could can : ℕ) → Keeps start (prepend_known buffer left) → length buffer + can ≤ could
     → IfBoth start (prepend_known buffer left) (IsSpent could (length buffer + can))
 none_gone None left buffer could can keeps bound = tt
 none_gone (Some bytes) None buffer could can keeps bound = absurd keeps
 none_gone (Some bytes) (Some rest) buffer could can keeps bound = ([], sym keeps, omega (arith, bound))
 
--- the front of what was read ahead is gone
+-- a prefix of the bytes read ahead is consumed
 pub front_gone : (start left : Option (List ℕ)) (buffer new : List ℕ) (n could can : ℕ) → Keeps start (prepend_known buffer left)
     → length buffer + can ≤ could → new ≡ drop n buffer → IfBoth start (prepend_known new left) (IsSpent could (length new + can))
 front_gone None left buffer new n could can keeps bound is = tt
@@ -49,7 +49,7 @@ front_gone (Some bytes) (Some rest) buffer new n could can keeps bound is =
       omega (arith, bound, ap length whole, length-append (take n buffer) new),
     )
 
--- nothing is gone yet
+-- nothing is consumed yet
 pub unspent : (known : Option (List ℕ)) (buffer : List ℕ) (can : ℕ) → buffer ≡ [] → IfBoth known (prepend_known buffer known) (IsSpent can (length buffer + can))
 unspent None buffer can none = tt
 unspent (Some bytes) buffer can none = ([], sym (ap (λ (t : List ℕ). t ++ bytes) none), omega (arith, ap length none))
@@ -61,7 +61,7 @@ spent_on (Some bytes) (Some mid) None a b c so next = absurd next
 spent_on (Some bytes) (Some mid) (Some rest) a b c so next =
     (so.0 ++ next.0, so.1 ∙ ap (λ (t : List ℕ). so.0 ++ t) next.1 ∙ sym (append_assoc so.0 next.0 rest), omega (arith, so.2, next.2, length-append so.0 next.0))
 
--- what was read ahead is taken too
+-- the bytes read ahead are taken too
 pub spent_all : (start left : Option (List ℕ)) (buffer : List ℕ) (could can : ℕ) → IfBoth start (prepend_known buffer left) (IsSpent could (length buffer + can))
     → IfBoth start left (IsSpent could can)
 spent_all None left buffer could can so = tt
@@ -74,9 +74,9 @@ taken_at_most None left could can so = tt
 taken_at_most (Some bytes) None could can so = absurd so
 taken_at_most (Some bytes) (Some rest) could can so = (so.0, so.1, omega (arith, so.2))
 
--- ---- what was asked for in a turn
+-- ---- reading for one item
 
--- the item could not be read
+-- reading the item failed
 pub not_read : (start left : Option (List ℕ)) (buffer : List ℕ) (e : DeskFault) → Keeps start (prepend_known buffer left)
     → IfBoth start left (λ bytes rest. IsAsked bytes buffer rest (Err e))
 not_read None left buffer e keeps = tt
@@ -86,7 +86,7 @@ not_read (Some bytes) (Some rest) buffer e keeps = tt
 none_behind : (buffer rest : List ℕ) → buffer ++ rest ≡ [] → rest ≡ []
 none_behind buffer rest e = nil_from_length rest (omega (arith, length-append buffer rest, ap length e))
 
--- no byte was left
+-- the input ended
 pub end_asked : (start left : Option (List ℕ)) (buffer : List ℕ) (fr : Front) → fr ≡ front.End → Keeps start (prepend_known buffer left)
     → IfSome (prepend_known buffer left) (λ s. IsFrontOf s fr) → IfBoth start left (λ bytes rest. IsAsked bytes buffer rest (Ok turn.Eof))
 end_asked None left buffer fr is keeps item = tt
@@ -95,7 +95,7 @@ end_asked (Some bytes) (Some rest) buffer fr is keeps item =
     let none = subst (λ (x : Front). IsFrontOf (buffer ++ rest) x) is item in
     (sym keeps ∙ none, none_behind buffer rest none)
 
--- the item was the last to be asked for, or the connection goes on with little that is read ahead
+-- the item was the last one read, or the connection stays open with less than 1024 bytes read ahead
 after_item : (bytes buffer left text : List ℕ) (close_after : Bool) (u v : Option (List ℕ)) (result : Result Turn DeskFault) → AsksForOne bytes left
     → (close_after ≡ false → length buffer < 1024) → IsWritten text close_after u v result → IsAsked bytes buffer left result
 after_item bytes buffer left text true u v (Ok t) asks short wrote = subst (λ (t : Turn). IsAsked bytes buffer left (Ok t)) (sym wrote.0) asks
@@ -117,7 +117,7 @@ fault_asked (Some bytes) (Some rest) u v buffer text fr f close_after result is 
     after_item bytes buffer rest text close_after u v result (subst (λ (t : List ℕ). AsksForOne t rest) keeps (faulty f, [], here, asks))
     (λ more. absurd (false≢true (sym more ∙ ends))) wrote
 
--- behind a request that was read as far as was asked for
+-- after a request that was read no further than required
 request_one : (buffer rest : List ℕ) (spans : RequestSpans) (n : ℕ) → IsFrontOf (buffer ++ rest) (front.Request spans n) → spans.len + n ≤ length buffer
     → length buffer < spans.len + n + 1024 → AsksForOne (buffer ++ rest) rest
 request_one buffer rest spans n item inside short = (
@@ -140,7 +140,7 @@ request_asked (Some bytes) (Some rest) u v buffer new text headers fr spans n cl
     after_item bytes new rest text close_after u v result (subst (λ (t : List ℕ). AsksForOne t rest) keeps (request_one buffer rest spans n here inside.2 much))
     (λ more. omega (arith, much, inside.2, ap length gone, length-drop (spans.len + n) buffer)) wrote
 
--- ---- what was asked for in all turns
+-- ---- reading for all items
 
 module _ {C : Type 0} (hears : State C → Request → Reply → State C → Type 0) where
   begun : (bytes : List ℕ) (from : State C) (xs : List Exchange) (rest : List ℕ) (now : State C) → ServesPrefix hears bytes from xs rest now
@@ -148,7 +148,7 @@ module _ {C : Type 0} (hears : State C → Request → Reply → State C → Typ
   begun bytes from [] rest now so = so.0
   begun bytes from (x ∷ xs) rest now so = (so.0, so.2.0, begun so.0 so.1 xs rest now so.4)
 
-  -- behind the last request nothing was left
+  -- nothing remains after the last request
   none_after : (item : Item) (closed : Bool) (bytes mid left : List ℕ) → (is_last item || closed) ≡ false → mid ≡ [] → left ≡ []
       → IsAskedFor bytes item mid left
   none_after (request h body) closed bytes mid left stays none all = ([], none ∙ sym all, omega arith)
@@ -184,7 +184,7 @@ module _ {C : Type 0} (hears : State C → Request → Reply → State C → Typ
         let one = subst (λ (r : Turn). IsAsked rest new after (Ok r)) is (asked short) in
         ended bytes after from so.1.0 rest so.0 n so.1.1 one.0 one.1 so.1.3
 
-    -- the connection ended
+    -- the connection closed
     pub asked_to_last : (start before left w u : Option (List ℕ)) (old new : List ℕ) (n : ℕ) (t : Turn) → t ≡ turn.Close
         → IfBoth start before (λ bytes rest. (now : State C) × SoFar hears bytes rest from now w u n × stood now)
         → IfBoth start before (λ bytes rest. length old ≤ 1024)
@@ -198,7 +198,7 @@ module _ {C : Type 0} (hears : State C → Request → Reply → State C → Typ
         let items = map (λ (x : Exchange). x.item) so.1.0 in
         inr (items, rest, begun bytes from so.1.0 rest so.0 so.1.1, omega (arith, so.1.3, length-map so.1.0 (λ (x : Exchange). x.item)), one)
 
--- little is read ahead where the connection goes on
+-- less than 1024 bytes are read ahead if the connection stays open
 pub kept_short : (start before left : Option (List ℕ)) (old new : List ℕ) (t : Turn) → t ≡ turn.KeepAlive → IfBoth start before (λ bytes rest. length old ≤ 1024)
     → (length old ≤ 1024 → IfBoth before left (λ rest after. IsAsked rest new after (Ok t)))
     → IfBoth start (prepend_known new left) (λ bytes rest. length new ≤ 1024)
@@ -213,7 +213,7 @@ pub begins_short : (known : Option (List ℕ)) (buffer : List ℕ) → buffer �
 begins_short None buffer none = tt
 begins_short (Some bytes) buffer none = omega (arith, ap length none)
 
--- ---- where serving broke off, nothing is said of it
+-- ---- if serving failed, nothing is required of reading
 
 abbrev pub Asks : Result Served DeskFault → List ℕ → List ℕ → Type 0
 Asks result bytes left = IfOk result (λ served. AsksFor served.replies bytes left)
@@ -228,9 +228,9 @@ broken_off None left buffer could can e so = tt
 broken_off (Some bytes) None buffer could can e so = absurd so
 broken_off (Some bytes) (Some rest) buffer could can e so = tt
 
--- ---- a turn after which the connection stays open leaves less to read
+-- ---- an item after which the connection stays open leaves less to read
 
--- a request that was answered is gone from the buffer
+-- an answered request is removed from the buffer
 pub request_gone : (buffer new : List ℕ) (headers : List HeaderSpan) (fr : Front) (spans : RequestSpans) (n could can : ℕ) → fr ≡ front.Request spans n
     → IsFrontIn buffer headers fr → new ≡ drop (spans.len + n) buffer → length buffer + can ≤ could → length new + can < could
 request_gone buffer new headers fr spans n could can is shown dropped bound =
@@ -251,7 +251,7 @@ none_more P (Ok t) text true u v ends wrote = λ is. last_is_not_more P (sym wro
 none_more P (Ok t) text false u v ends wrote = absurd (false≢true ends)
 none_more P (Err e) text close_after u v ends wrote = tt
 
--- a reply that could not be written is not a failed read
+-- a failed write is not a failed read
 pub none_unread : (P : Type 0) (result : Result Turn DeskFault) (text : List ℕ) (close_after : Bool) (u v : Option (List ℕ)) → IsWritten text close_after u v result
     → IfErr result (λ e. e ≡ desk.Read → P)
 none_unread P (Ok t) text close_after u v wrote = tt
@@ -259,7 +259,7 @@ none_unread P (Err desk.Write) text close_after u v wrote = λ is. cc
 none_unread P (Err desk.Read) text close_after u v wrote = absurd wrote
 none_unread P (Err desk.NoMemory) text close_after u v wrote = absurd wrote
 
--- the reader was called, or may be called no more
+-- the reader was called, or its budget was spent
 pub called : (P : Type 0) (first before after : ℕ) → before ≤ first → ((after ≡ 0) ⊎ ((after < before) × P)) → (after ≡ 0) ⊎ (after < first)
 called P first before after bound how = elim how as (λ _. (after ≡ 0) ⊎ (after < first)) [
   | inl spent ↦ inl spent

@@ -1,4 +1,4 @@
--- Serving over a store that stays honest, and what of it goes on holding where the store may have lied since.
+-- Serving on a store that stays honest, and the part of it that holds even if the store was dishonest later.
 use Rattle.std.proofs.Common.{◌≡◌, ℕ, ℤ, ◌+◌, List, [], ◌∷◌, inl, inr, Result, Ok, Err, Option, Some, None, IfSome}
 use Rattle.std.specs.Io.KnownBytes.{prepend_known}
 use Rattle.land_core.specs.declared.ask.Request.{Request}
@@ -19,17 +19,17 @@ use Rattle.land_wire.specs.Framing.Items.{Item, request, faulty}
 use Rattle.land_wire.specs.Reading.{reading}
 use Rattle.land_wire_json.specs.declared.bodies.wire_fault.WireFault.{WireFault}
 
--- what held while the store was honest holds while it is honest from then on
+-- a condition that assumes an honest store holds if the store is honest later
 pub heard_later : {C : Type 0} (reads : C → ℤ → C → Type 0) (honest later : Type 0) → (later → honest)
     → (from : State C) (asked : Request) (r : Reply) (to : State C) → HearsIf honest reads from asked r to → HearsIf later reads from asked r to
 heard_later reads honest later was from asked r to h = (h.0, h.1, h.2, λ trust. h.3 (was trust))
 
--- what is heard of an honest store is an element of a run
+-- a transition on an honest store is an element of a run
 heard_honestly : {C : Type 0} (reads : C → ℤ → C → Type 0) (honest : Type 0) → honest
     → (from : State C) (asked : Request) (r : Reply) (to : State C) → HearsIf honest reads from asked r to → Hears reads from asked r to
 heard_honestly reads honest trust from asked r to h = (h.0, h.1, h.3 trust)
 
--- ---- what less is heard of
+-- ---- weaker transitions
 
 module _ {C : Type 0} (hears later : State C → Request → Reply → State C → Type 0)
     (weaken : (from : State C) (asked : Request) (r : Reply) (to : State C) → hears from asked r to → later from asked r to) where
@@ -67,7 +67,7 @@ module _ {C : Type 0} (hears later : State C → Request → Reply → State C �
   serves_later bytes from to old new (Err desk.Read) s = (s.0, s.1, so_far_later bytes s.0 from to old new s.1 s.2)
   serves_later bytes from to old new (Err desk.NoMemory) s = (s.0, s.1, so_far_later bytes s.0 from to old new s.1 s.2)
 
-  -- ---- serving from where a keeper stood to where it stands
+  -- ---- serving from a state represented before to one represented after
 
   module _ (stood stands : State C → Type 0) (from : State C) where
     both_map : (start after : Option (List ℕ)) (P Q : List ℕ → List ℕ → Type 0) → ((bytes rest : List ℕ) → P bytes rest → Q bytes rest) → IfBoth start after P → IfBoth start after Q
@@ -75,7 +75,7 @@ module _ {C : Type 0} (hears later : State C → Request → Reply → State C �
     both_map (Some bytes) None P Q next holds = absurd holds
     both_map (Some bytes) (Some rest) P Q next holds = next bytes rest holds
 
-    -- the connection goes on
+    -- the connection stays open
     pub keeps_on : (start before after w u v : Option (List ℕ)) (n : ℕ) (t : Turn) → t ≡ turn.KeepAlive
         → IfBoth start before (λ bytes rest. (now : State C) × SoFar hears bytes rest from now w u n × stood now)
         → IfSome before (λ rest. ForwardSimulation stood stands (λ now to. IsTurn later rest now to after u v (Ok t)))
@@ -88,7 +88,7 @@ module _ {C : Type 0} (hears later : State C → Request → Reply → State C �
         (λ bytes rest goes. (next.0, goes, next.2))
         (goes_on later (Some bytes) (Some rest) after from so.0 next.0 w u v n t is (so_far_later bytes rest from so.0 w u n so.1) next.1)
 
-    -- a turn after which nothing is served
+    -- an item after which nothing is served
     pub comes_to : (start before w u v : Option (List ℕ)) (n : ℕ) (result : Result Served DeskFault) (way : List ℕ → State C → State C → Type 0)
         → ((now to : State C) → IfBoth start before (λ bytes rest. SoFar later bytes rest from now w u n) → IfSome before (λ rest. way rest now to)
         → IfSome start (λ bytes. Serves later bytes from to w v result))
@@ -101,7 +101,7 @@ module _ {C : Type 0} (hears later : State C → Request → Reply → State C �
         let next = brings so.0 so.2 in
         (next.0, concludes so.0 next.0 (so_far_later bytes rest from so.0 w u n so.1) next.1, next.2)
 
--- ---- serving that has not begun, and that goes on no more
+-- ---- serving that has not started, and serving that ended
 
 module _ {C : Type 0} (hears : State C → Request → Reply → State C → Type 0) (stands : State C → Type 0) (from : State C) where
   pub comes_to_nothing : (known w : Option (List ℕ)) → stands from → IfSome known (λ bytes. ServesTo hears bytes from stands w w (Err desk.NoMemory))
@@ -113,7 +113,7 @@ module _ {C : Type 0} (hears : State C → Request → Reply → State C → Typ
   starts None buffer w at none = tt
   starts (Some bytes) buffer w at none = (from, begins hears (Some bytes) buffer from w none, at)
 
--- over an honest store what is served is served by a run of the machine
+-- on an honest store, serving is a run of the model
 pub serves_honestly : {C : Type 0} (reads : C → ℤ → C → Type 0) (honest : Type 0) → honest
     → (bytes : List ℕ) (from to : State C) (old new : Option (List ℕ)) (result : Result Served DeskFault)
     → Serves (HearsIf honest reads) bytes from to old new result → IsServing reads bytes from to old new result

@@ -1,4 +1,4 @@
--- What the machine hears of a stream, whether its bytes are known or not.
+-- The transitions that a stream causes, whether its bytes are known or not.
 use Rattle.std.proofs.Common.{ℕ, List, [], ◌∷◌, ◌++◌, inl, inr, refl, subst, sym, Result, Ok, Err}
 use Rattle.land_core.specs.declared.ask.Request.{Request}
 use Rattle.land_desk.specs.Serving.{RepliesTo, ForwardSimulation, Exchange, HearsAll, MayHear, Reachable, MovesTo, ServesItem, HandlesOr501}
@@ -21,11 +21,11 @@ module _ {C : Type 0} (hears : State C → Request → Reply → State C → Typ
   answer_heard from (request h body) r to is = told_heard (reading h.method h.target (field_map (fields_of h)) body) from r to is
   answer_heard from (faulty f) r to is = inl is.1
 
-  -- an item that is answered was a request that was heard, or changes nothing
+  -- an answered item is a request that caused a transition, or changes nothing
   pub one_heard : (bytes : List ℕ) (from : State C) (x : Exchange) (rest : List ℕ) (to : State C) → ServesItem hears bytes from x rest to → MayHear hears from to
   one_heard bytes from x rest to one = answer_heard from x.item x.reply to one.1
 
-  -- nothing is heard
+  -- no transition
   pub unmoved : (from : State C) → Reachable hears from from
   unmoved from = ([], [], refl)
 
@@ -52,7 +52,7 @@ module _ {C : Type 0} (hears later : State C → Request → Reply → State C �
   pub moves_later : (from to : State C) → Reachable hears from to → Reachable later from to
   moves_later from to so = (so.0, so.1, all_later from so.0 so.1 to so.2)
 
-  -- a turn moves the machine on
+  -- serving an item adds at most one transition
   pub moves_on : (stood stands : State C → Type 0) (from : State C) → MovesTo hears from stood → ForwardSimulation stood stands (MayHear later) → MovesTo later from stands
   moves_on stood stands from so brings =
       let next = brings so.0 so.2 in

@@ -1,4 +1,4 @@
--- Items answered one after another.
+-- Items answered in order.
 use Rattle.std.proofs.Common.{◌≡◌, ℕ, ◌+◌, Bool, true, false, List, [], ◌∷◌, ◌++◌, length, map, take, refl, sym, ap, ◌∙◌, subst, arith, append_assoc, append-nil, length-append, inl, inr, Ok, Err, Option, Some, None, IfSome}
 use Rattle.std.specs.Prelude.{◌⊎◌, ◌||◌}
 use Rattle.std.specs.Io.KnownBytes.{Appends, prepend_known}
@@ -34,7 +34,7 @@ module _ {C : Type 0} (hears : State C → Request → Reply → State C → Typ
   goes_to_end bytes rest from now (x ∷ xs) so none =
       (so.0, so.1, so.2, (λ e. absurd (false≢true (sym so.3 ∙ e))), (λ e. goes_to_end so.0 rest so.1 now xs so.4 none))
 
-  -- the connection ends
+  -- the connection closes
   goes_to_last : (bytes rest mid : List ℕ) (from now to : State C) (xs : List Exchange) (x : Exchange)
       → ServesPrefix hears bytes from xs rest now → ServesItem hears rest now x mid to → closing x ≡ true
       → IsServed hears bytes from (xs ++ x ∷ []) to
@@ -137,7 +137,7 @@ module _ {C : Type 0} (hears : State C → Request → Reply → State C → Typ
   serves_fault (Some bytes) (Some rest) after from now to w u v n desk.NoMemory so one =
       (rest, n, same_after bytes rest from now to w u v n so one.0 one.1)
 
-  -- ---- what is answered is a front of the stream's items
+  -- ---- the answered items are a prefix of the stream's items
 
   either : (b : Bool) → (b ≡ true) ⊎ (b ≡ false)
   either true = inl refl

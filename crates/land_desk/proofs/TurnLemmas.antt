@@ -1,4 +1,4 @@
--- One turn: the item at the front of a stream, answered.
+-- Serving the first item of a stream.
 use Rattle.std.proofs.Common.{◌≡◌, ◌≢◌, ℕ, ◌+◌, Bool, true, false, List, [], ◌++◌, take, drop, refl, sym, ◌∙◌, ap, subst, Result, Ok, Err, Option, Some, None, IfSome}
 use Rattle.std.specs.Prelude.{◌⊎◌}
 use Rattle.std.specs.Io.KnownBytes.{Appends, Keeps, prepend_known}
@@ -27,7 +27,7 @@ use Rattle.land_wire.specs.declared.framing.item.Front.{Front}
 use Rattle.land_wire.specs.declared.framing.item.Front.TheVariants as front
 
 module _ {C : Type 0} (hears : State C → Request → Reply → State C → Type 0) where
-  -- a request at the front of the buffer, with its answer
+  -- the request at the start of the buffer, with its response
   pub spoken : (bytes more : List ℕ) (headers : List HeaderSpan) (spans : RequestSpans) (n : ℕ) (from to : State C) (a : Response) (r : Reply) (close_after head : Bool)
       → (is : IsRequestIn bytes headers spans n) → close_after ≡ ends is.1.0 → head ≡ is_head is.1.0
       → HandlesOr501 hears (reading is.1.0.method is.1.0.target (field_map (fields_of is.1.0)) (take n (drop spans.len bytes))) from r to
@@ -51,7 +51,7 @@ module _ {C : Type 0} (hears : State C → Request → Reply → State C → Typ
   if_map None P Q next holds = tt
   if_map (Some bytes) P Q next holds = next bytes holds
 
-  -- a front of an answer was written
+  -- a prefix of a response was written
   told_cut : (bytes rest : List ℕ) (from to : State C) (a : Response) (left u v : Option (List ℕ)) (n : ℕ)
       → Spoken hears bytes from a rest to → Appends u v (take n (answer_bytes a.bytes)) → IsTurn hears bytes from to left u v (Err desk.Write)
   told_cut bytes rest from to a left u v n it wrote = (it.0, rest, n, it.1, subst (λ (t : List ℕ). Appends u v (take n t)) (sym it.2) wrote)
@@ -66,7 +66,7 @@ module _ {C : Type 0} (hears : State C → Request → Reply → State C → Typ
   told_more bytes rest from to a left u v close_after is it wrote =
       (it.0, rest, it.1, it.3 ∙ close_after, subst (λ (t : List ℕ). Appends u v t) (sym it.2) wrote, is)
 
-  -- an answer was written, and the connection goes on as it says
+  -- a response was written, and the connection closes or not, as it says
   told_well : (bytes rest : List ℕ) (from to : State C) (a : Response) (left u v : Option (List ℕ)) (close_after : Bool) → a.close_after ≡ close_after → left ≡ Some rest
       → Spoken hears bytes from a rest to → Appends u v (answer_bytes a.bytes) → IsTurn hears bytes from to left u v (Ok (turn_after close_after))
   told_well bytes rest from to a left u v true close_after is it wrote = told_last bytes rest from to a left u v close_after it wrote
@@ -80,7 +80,7 @@ module _ {C : Type 0} (hears : State C → Request → Reply → State C → Typ
   told_so bytes rest from to a left u v (Err desk.Read) is it wrote = absurd wrote
   told_so bytes rest from to a left u v (Err desk.NoMemory) is it wrote = absurd wrote
 
-  -- where it is the last one, nothing is said of what is left
+  -- if the connection closes, nothing is required of the remaining bytes
   told_at_end : (bytes rest : List ℕ) (from to : State C) (a : Response) (left u v : Option (List ℕ)) (result : Result Turn DeskFault) → a.close_after ≡ true
       → Spoken hears bytes from a rest to → IsWritten (answer_bytes a.bytes) a.close_after u v result → IsTurn hears bytes from to left u v result
   told_at_end bytes rest from to a left u v (Ok t) close_after it wrote =
@@ -90,14 +90,14 @@ module _ {C : Type 0} (hears : State C → Request → Reply → State C → Typ
   told_at_end bytes rest from to a left u v (Err desk.Read) close_after it wrote = absurd wrote
   told_at_end bytes rest from to a left u v (Err desk.NoMemory) close_after it wrote = absurd wrote
 
-  -- where a turn leaves the state as it was
+  -- serving an item may leave the state unchanged
   pub stays_put : (start : Option (List ℕ)) (stood stands : State C → Type 0) (way : List ℕ → State C → State C → Type 0)
       → ((s : State C) → stood s → stands s) → ((s : State C) → IfSome start (λ bytes. way bytes s s))
       → IfSome start (λ bytes. ForwardSimulation stood stands (way bytes))
   stays_put None stood stands way keeps is = tt
   stays_put (Some bytes) stood stands way keeps is = λ from at. (from, is from, keeps from at)
 
-  -- no byte was left
+  -- the input ended
   pub end_told : (start now left w : Option (List ℕ)) (fr : Front) (from : State C) → fr ≡ front.End → Keeps start now → IfSome now (λ s. IsFrontOf s fr)
       → IfSome start (λ bytes. IsTurn hears bytes from from left w w (Ok turn.Eof))
   end_told start now left w fr from is keeps item =
@@ -105,14 +105,14 @@ module _ {C : Type 0} (hears : State C → Request → Reply → State C → Typ
       (if_map now (λ s. IsFrontOf s fr) (λ s. IsTurn hears s from from left w w (Ok turn.Eof))
       (λ s h. (subst (λ (x : Front). IsFrontOf s x) is h, refl, Appends-nil w)) item)
 
-  -- the item could not be read
+  -- reading the item failed
   pub unread : (start left w : Option (List ℕ)) (from : State C) (e : DeskFault) → e ≢ desk.Write → IfSome start (λ bytes. IsTurn hears bytes from from left w w (Err e))
   unread None left w from e other = tt
   unread (Some bytes) left w from desk.Write other = absurd (other refl)
   unread (Some bytes) left w from desk.Read other = (refl, Appends-nil w)
   unread (Some bytes) left w from desk.NoMemory other = (refl, Appends-nil w)
 
-  -- the answer to a fault of framing
+  -- the response to a fault of framing
   abbrev Refused : FrameFault → Response → Type 0
   Refused f a = (r : Reply) × ((r ≡ reply.Fault (number_of f)) ⊎ (r ≡ reply.Store 501)) × IsResponseTo a r true false
 

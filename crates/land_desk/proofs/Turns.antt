@@ -1,4 +1,4 @@
--- Connections that are served one after another.
+-- Serving connections one at a time.
 use Rattle.std.proofs.Common.{◌≡◌, ◌∙◌, ◌+◌, ◌<◌, ap, append_assoc, arith, refl, subst, sym, ℕ, ℤ, Bool, false, List, [], ◌∷◌, ◌++◌, length, map, Result, Err, Option, Some, None, IfSome}
 use Rattle.std.proofs.lemmas.List.{length-append, map-append}
 use Rattle.land_core.specs.declared.ask.Request.{Request}
@@ -21,7 +21,7 @@ heard_honestly : {C : Type 0} (reads : C → ℤ → C → Type 0) (honest : Typ
 heard_honestly reads honest trust from asked r to h = (h.0, h.1, h.3 trust)
 
 module _ {C : Type 0} (reads : C → ℤ → C → Type 0) where
-  -- what serving a connection says, whether its bytes are known or not
+  -- a connection is served by a run, whether its bytes are known or not
   served_over : (honest : Type 0) → honest → (bytes old new : Option (List ℕ)) (outcome : Result Served DeskFault) (from : State C) (stands : State C → Type 0)
       → IfSome bytes (λ known. ServesTo (HearsIf honest reads) known from stands old new outcome) → MovesTo (HearsIf honest reads) from stands
       → (to : State C) × ServesOver reads bytes old new outcome from to × stands to
@@ -57,7 +57,7 @@ module _ {C : Type 0} (reads : C → ℤ → C → Type 0) where
   none_first (Some all) None comes = cc
   none_first (Some all) (Some left) comes = cc
 
-  -- no connection could be had
+  -- accepting a connection failed
   pub none_served : (from : State C) (stands : State C → Type 0) (coming after : Option (List (Option (List ℕ)))) → stands from → Comes coming after None
       → Serves reads from stands coming after (λ n. n ≡ 0)
   none_served from stands coming after at comes = ([], from, refl, at, none_first coming after comes, refl)
@@ -90,7 +90,7 @@ module _ {C : Type 0} (reads : C → ℤ → C → Type 0) where
       ap (λ (k : C). record { closed = closed; timeline = shown; clock = k }) f in
       a ∙ b ∙ d
 
-  -- connections are served, and then the next one, over a keeper that is open between them
+  -- connections are served, and then the next one, on a keeper that is open between them
   pub served_more : (honest : Type 0) → honest → (closed : Bool) → closed ≡ false → (shown : Timeline) (clock : C) (from : State C) (stands : State C → Type 0)
       (coming mid after : Option (List (Option (List ℕ)))) (k m : ℕ)
       → Serves reads from (IsAt honest closed shown clock) coming mid (λ n. n ≡ k)
@@ -112,12 +112,12 @@ module _ {C : Type 0} (reads : C → ℤ → C → Type 0) where
   unserved from stands None at = ([], from, refl, at, tt, refl)
   unserved from stands (Some all) at = ([], from, refl, at, refl, refl)
 
-  -- what is known of how many were served
+  -- a weaker condition on the number of connections served
   pub counted : (from : State C) (stands : State C → Type 0) (coming after : Option (List (Option (List ℕ)))) (P Q : ℕ → Type 0) → ((n : ℕ) → P n → Q n)
       → Serves reads from stands coming after P → Serves reads from stands coming after Q
   counted from stands coming after P Q next so = (so.0, so.1, so.2, so.3, so.4, next (length so.0) so.5)
 
--- fewer connections are served than are wanted where the next one could not be had, or closed the store
+-- fewer connections are served than requested if accepting failed or the store closed
 pub cut_short : (T : Type 0) (fault : ServiceFault) (k wanted n : ℕ) → k < wanted → n ≡ k + one_or_none {T = T} (Err fault) → AreWanted {T = T} n wanted (Err fault)
 cut_short T Accept k wanted n less is = omega (arith, less, is)
 cut_short T Closed k wanted n less is = omega (arith, less, is)

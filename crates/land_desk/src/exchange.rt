@@ -68,7 +68,8 @@ pub fn handle<K: Keeper, C: Clock>(
 ) -> Response
     requires well_formed { IfOk request (λ asked. is_well_formed_request asked ≡ true) }
     requires moment { IfOk request (λ asked. IsStated (at_of asked.ask)) }
-    ensures reply { RespondsTo K.Keeper C.reads keeper.old clock.old keeper.new clock.new request result ends head }
+    ensures reply { RespondsTo K.Keeper C.reads keeper.old clock.old keeper.new clock.new
+        request result ends head }
     ensures was { WasHonest K.Keeper keeper.old keeper.new }
 {
     match request {

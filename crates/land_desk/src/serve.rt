@@ -88,7 +88,8 @@ fn serve_items<R: Read, W: Write, K: Keeper, C: Clock>(
         (R.remaining reader.old.reader.now) (W.contents writer.old) (W.contents writer.new) result }
     ensures reached { Reaches K.Keeper C.reads keeper.old clock.old keeper.new clock.new }
     ensures was { WasHonest K.Keeper keeper.old keeper.new }
-    ensures reads { ReadsOnlyItems (R.remaining reader.old.reader.now) (R.remaining reader.new.reader.now) result }
+    ensures reads { ReadsOnlyItems (R.remaining reader.old.reader.now)
+        (R.remaining reader.new.reader.now) result }
     ensures budget { IfBoth (R.remaining reader.old.reader.now) (R.remaining reader.new.reader.now)
         (IsSpent (1024 * reader.old.left) (1024 * reader.new.left)) }
     ensures same_reference { reader.new.reader.ghost_name ≡ reader.old.reader.ghost_name }

@@ -74,10 +74,12 @@ pub(crate) fn take_turn<R: Read, W: Write, K: Keeper, C: Clock>(
     ensures reads { ReadsOnlyItem buffer.old.items buffer.new.items
         (R.remaining reader.old.reader.now) (R.remaining reader.new.reader.now) result }
     ensures budget { StaysWithinBudget buffer.old.items buffer.new.items
-        (R.remaining reader.old.reader.now) (R.remaining reader.new.reader.now) reader.old.left reader.new.left }
+        (R.remaining reader.old.reader.now) (R.remaining reader.new.reader.now)
+        reader.old.left reader.new.left }
     ensures same_reference { reader.new.reader.ghost_name ≡ reader.old.reader.ghost_name }
     ensures fewer { reader.new.left ≤ reader.old.left }
-    ensures progress { MakesProgress buffer.old.items buffer.new.items reader.old.left reader.new.left result }
+    ensures progress { MakesProgress buffer.old.items buffer.new.items
+        reader.old.left reader.new.left result }
     ensures read_fault { CountsFailedRead reader.old.left reader.new.left result }
 {
     match read_item(reader, buffer, headers) {

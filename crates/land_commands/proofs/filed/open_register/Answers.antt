@@ -7,7 +7,7 @@ returns-clause-finding g c =
     inr (record {
       was = c.in_ok-conn.conn;
       left = c.in-Err.field-0-0;
-      why = c.in-Err.fault;
+      why = c.in-Err.refusal;
       shows = c.in_ok-conn.ensures.shows;
       refused = c.in-Err.ensures.refused;
       same = c.in-Err.ensures.same;

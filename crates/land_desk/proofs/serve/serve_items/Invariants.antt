@@ -7,8 +7,8 @@ use Rattle.land_keep.specs.Keeping.{IsAt}
 use Rattle.land_keep.specs.Machine.{State}
 use Rattle.land_desk.proofs.serve.serve_items.Given as goal
 
--- there is room for the fields of a head; so far the items were answered up to a state at which the keeper stands; at most a
--- piece is read ahead, and no more was read than the reader was asked for
+-- There is room for the header spans. The items answered until now end in a state that the keeper represents. At most
+-- one chunk is read ahead, and the bytes taken are within the budget of reads.
 abbrev pub invariant-loop-fault : goal.invariant-loop-fault
 invariant-loop-fault g l =
     (2731 ≤ length l.headers)
@@ -28,6 +28,6 @@ invariant-loop-fault g l =
     × (l.replies + (length l.buffer.items + 1024 * l.reader.left) ≤ 1024 * l.initial.reader.left)
     × (l.reader.left ≤ l.initial.reader.left)
 
--- each turn after which the connection stays open takes a byte of the buffer, and each read takes 1024 of the budget
+-- Each item after which the connection stays open takes a byte from the buffer, and each read takes 1024 from the budget.
 abbrev pub decreases-loop-fault : goal.decreases-loop-fault
 decreases-loop-fault g l = length l.buffer.items + 1024 * l.reader.left

@@ -3,7 +3,7 @@ use Rattle.land_desk.specs.Service.{Serves}
 use Rattle.land_keep.specs.Keeping.{IsAt}
 use Rattle.land_desk.proofs.service.serving.serve_connections.Given as goal
 
--- the store is open, and so many connections have been served as were counted
+-- the store is open, and as many connections were served as were counted
 abbrev pub invariant-loop-served : goal.invariant-loop-served
 invariant-loop-served g l =
     (g.K.Keeper.closed l.keeper ≡ false)
