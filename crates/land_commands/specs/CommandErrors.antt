@@ -1,4 +1,4 @@
--- Why a command is refused of which the policy decides.
+-- Errors of commands that the policy may deny.
 use Rattle.std.specs.Prelude.{ℕ, List, ◌++◌, codes, decimal}
 use Rattle.land_commands.specs.ProgramFaults.{fault_of_making}
 use Rattle.land_commands.specs.declared.program_fault.ProgramFault.TheVariants as program
@@ -7,13 +7,13 @@ use Rattle.land_commands.specs.declared.command_error.CommandError.TheVariants.{
 use Rattle.land_sheet.specs.declared.extracts.fault.ExtractFault.{ExtractFault}
 use Rattle.land_sheet.specs.declared.extracts.fault.ExtractFault.TheVariants as extract
 
--- what is said of an extract that was not written to its end
+-- The error for an extract that was not completed.
 abbrev pub command_error_of : ExtractFault → CommandError
 command_error_of (extract.Denied rule) = Denied rule
 command_error_of (extract.Fault number) = Fault program.ToCome
 command_error_of (extract.Write written) = Fault program.Stream
 command_error_of (extract.Store fault written) = Fault (fault_of_making fault)
 
--- the line that is told of a denial
+-- The line that reports a denial.
 abbrev pub denied_text : (rule : ℕ) → List ℕ
 denied_text rule = codes "land: denied " ++ (decimal rule ++ codes "\n")

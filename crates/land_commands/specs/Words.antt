@@ -1,4 +1,4 @@
--- Definitions of the words of the command line.
+-- Definitions of the arguments of the command line.
 pub mod Choices
 pub mod Commands
 pub mod Laws

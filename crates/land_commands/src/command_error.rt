@@ -1,20 +1,20 @@
-//! Why a command is refused of which the policy decides.
+//! Errors of commands that the policy may deny.
 ghost use Rattle.std.specs.Prelude.{◌≡◌};
 ghost use Rattle.land_commands.specs.CommandErrors.{command_error_of};
 
 use crate::program_fault::ProgramFault;
 use land_sheet::extracts::fault::ExtractFault;
 
-/// Why a command is refused of which the policy decides.
+/// Why a command failed that the policy may deny.
 #[derive(Clone, Copy, Debug, PartialEq, Eq)]
 pub enum CommandError {
-    /// The policy denies it: the least rule that does.
+    /// The policy denies it: the number of the first rule that does.
     Denied(u8),
-    /// It could not be done.
+    /// A fault of the program.
     Fault(ProgramFault),
 }
 
-/// From a register that was not found.
+/// From opening a register.
 impl From<ProgramFault> for CommandError {
     ghost use Rattle.land_commands.specs.declared.command_error.CommandError.TheVariants.{Fault};
 
@@ -25,7 +25,7 @@ impl From<ProgramFault> for CommandError {
     }
 }
 
-/// From an extract that was not written to its end.
+/// From an extract that was not completed.
 impl From<ExtractFault> for CommandError {
     ghost from_gives = { λ from to. to ≡ command_error_of from };
 
@@ -34,7 +34,9 @@ impl From<ExtractFault> for CommandError {
             ExtractFault::Denied(rule) => CommandError::Denied(rule),
             ExtractFault::Fault(_) => CommandError::Fault(ProgramFault::ToCome),
             ExtractFault::Write { written: _ } => CommandError::Fault(ProgramFault::Stream),
-            ExtractFault::Store { fault, written: _ } => CommandError::Fault(ProgramFault::from(fault)),
+            ExtractFault::Store { fault, written: _ } => CommandError::Fault(ProgramFault::from(
+                fault,
+            )),
         }
     }
 }

@@ -1,6 +1,7 @@
-//! What the program's commands do, over the files, the streams and the clock that are handed in.
+//! The commands of the program, on files, streams and a clock that are passed in.
 #![tactic(auto)]
 
+pub mod command_error;
 pub mod extracting;
 pub mod filed;
 pub mod host;
@@ -9,7 +10,6 @@ pub mod local_host;
 pub mod migrate_command;
 pub mod obey;
 pub mod program_fault;
-pub mod command_error;
 pub mod run;
 pub mod set_clock;
 pub mod words;

@@ -1,4 +1,4 @@
-//! A register of the first version in a file becomes one of the second.
+//! The command `migrate`: upgrades a register in a file from schema version 1 to 2.
 ghost use Rattle.std.specs.Prelude.{◌≡◌, string_bytes, IfOk};
 ghost use Rattle.land_commands.specs.Migrating.{IsMigrating, IsRaising, migrated_text};
 
@@ -10,7 +10,8 @@ use land_tables::tables::Tables;
 use std::alloc::{AllocError, Global};
 use std::io::Write;
 
-/// The register in a file, which the first version made, as one of the second. A file that is not migrated is left as it is.
+/// Opens a register of schema version 1 and migrates it to version 2. If that fails, does not change the
+/// file.
 fn open_migrated<H: Host>(host: &mut H, file: &str) -> Result<Tables<H::Store>, ProgramFault>
     ensures { IsRaising H.Store.Store (H.holds file.now) result }
 {
@@ -21,14 +22,14 @@ fn open_migrated<H: Host>(host: &mut H, file: &str) -> Result<Tables<H::Store>, 
     }
 }
 
-/// Makes of the register in a file, which the first version made, one of the second, and says so, with the moment of its last change and
-/// its next number.
+/// Migrates the register in a file from schema version 1 to 2, and writes its last stamp and its next number.
 pub fn migrate<H: Host, O: Write>(
     host: &mut H,
     file: &str,
     output: &mut O,
 ) -> Result<(), ProgramFault>
-    ensures { IsMigrating H.Store.Store (H.holds file.now) H.is_closed (O.contents output.old) (O.contents output.new) result }
+    ensures { IsMigrating H.Store.Store (H.holds file.now) H.is_closed
+        (O.contents output.old) (O.contents output.new) result }
 {
     let tables = open_migrated(host, file)?;
     let line = migrated_line(host.alloc(), tables.last(), tables.next())?;
@@ -39,7 +40,7 @@ pub fn migrate<H: Host, O: Write>(
     }
 }
 
-/// What is said of a register that was migrated.
+/// Formats the line that reports a migrated register.
 fn migrated_line(alloc: Global, last: i64, next: u64) -> Result<String, AllocError>
     ensures { IfOk result (λ text. string_bytes text ≡ migrated_text last next) }
 {

@@ -1,10 +1,10 @@
-//! The words of the command line, read by `clap`.
+//! Reads the arguments of the command line with `clap`.
 
 pub mod choices;
+mod clap_matches;
 pub mod command;
 mod commands;
 pub mod laws;
-mod clap_matches;
 mod options;
 mod parse;
 pub mod words_fault;

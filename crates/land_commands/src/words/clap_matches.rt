@@ -1,4 +1,4 @@
-//! What `clap` finds in the words.
+//! Runs `clap` on the arguments.
 ghost use Rattle.std.specs.Prelude.{◌≡◌, IfOk, map, option_map, string_bytes};
 ghost use Rattle.clap.specs.Kinds.{FailsBy};
 ghost use Rattle.clap.specs.Words.{fault_of, first_of, found_of, rows_of, subcommand_of, subcommand_rows_of};
@@ -10,34 +10,36 @@ use crate::words::commands::land;
 use clap::{ArgMatches, Error};
 use std::alloc::Global;
 
-/// What `clap` finds in the words, of which the first is the program's name, where it takes these words for roles and kinds.
+/// Parses the arguments with `clap`. The first is the name of the program. `choices`: the words for roles and
+/// kinds.
 pub fn matches<'a>(
     alloc: Global,
     choices: Choices<'a>,
     words: &'a [String],
 ) -> Result<ArgMatches<'a>, Error>
-    ensures found { IfOk result (λ m. subcommand_rows_of m ≡ subcommand_of (land_app choices.entry) (map string_bytes words.entry.now)) }
+    ensures found { IfOk result (λ m. subcommand_rows_of m
+        ≡ subcommand_of (land_app choices.entry) (map string_bytes words.entry.now)) }
     ensures kinds { FailsBy (fault_of (land_app choices.entry) (map string_bytes words.entry.now)) result }
 {
     let land = land(alloc, choices)?;
     land.try_get_matches_from(words)
 }
 
-/// The command that was found: its name and what was found of its options.
+/// Returns the name and the options of the subcommand.
 pub fn command_found<'m, 'a>(found: &'m ArgMatches<'a>) -> Option<(&'a str, &'m ArgMatches<'a>)>
     ensures { option_map (λ p. (p.0.now, rows_of (found_of p.1.now))) result ≡ subcommand_rows_of found.now }
 {
     found.subcommand()
 }
 
-/// The text of an option.
+/// Returns the value of an option.
 pub fn text_of<'a>(found: &ArgMatches<'a>, option: &str) -> Option<&'a str>
     ensures { option_map (λ text. text.now) result ≡ first_of option.now (rows_of (found_of found.now)) }
 {
     found.get_str(option)
 }
 
-/// The number of an option, if it has one from `least` to `most`.
+/// Returns the value of an option as a number, if it is one from `least` to `most`.
 pub fn number_of(found: &ArgMatches<'_>, option: &str, least: i64, most: i64) -> Option<i64>
     ensures { IsNumberOf (rows_of (found_of found.now)) option.now least most result }
 {

@@ -1,9 +1,11 @@
-//! The commands of the program, as `clap` is told of them. Each option and each command is told by a small call, so that
-//! no proof has more than one of them in sight.
+//! Declares the commands of the program to `clap`. Each option and each command is added by a small function,
+//! so that each proof is about one of them.
 ghost use Rattle.std.specs.Prelude.{IfOk};
 ghost use Rattle.clap.specs.Words.{App, Rule, new_app, with_rule, with_subcommand};
-ghost use Rattle.land_commands.specs.Words.Commands.{IsCommand, check_app, extract_app, land_app, make_app, migrate_app};
-ghost use Rattle.land_commands.specs.Words.Commands.{of_commands, serve_app, talk_app, with_caller, with_clock};
+ghost use Rattle.land_commands.specs.Words.Commands.{IsCommand, check_app, extract_app, land_app, make_app};
+ghost use Rattle.land_commands.specs.Words.Commands.{migrate_app};
+ghost use Rattle.land_commands.specs.Words.Commands.{of_commands, serve_app, talk_app, with_caller};
+ghost use Rattle.land_commands.specs.Words.Commands.{with_clock};
 ghost use Rattle.land_commands.specs.Words.Options.{IsOption};
 
 use crate::words::choices::Choices;
@@ -14,7 +16,7 @@ use crate::words::options::{
 use clap::{Arg, Command};
 use std::alloc::{AllocError, Global};
 
-/// What the help of the program says at its end: the options of each command, what their values are, and examples.
+/// The end of the help text: the options of each command, the values of the options, and examples.
 const MORE: &str = "Options of the commands, of which --at alone may be left out:
   talk     --clock <MS>
   new      --file <FILE>
@@ -33,13 +35,19 @@ Examples:
 
 More on a command, with an example: land COMMAND --help";
 
-/// A command with what help says of it: what it does, and at the end an example.
-fn described_command<'a>(alloc: Global, name: &'a str, about: &'a str, example: &'a str) -> Command<'a>
+/// Creates a command with its help text: a description, and an example at the end.
+fn described_command<'a>(
+    alloc: Global,
+    name: &'a str,
+    about: &'a str,
+    example: &'a str,
+) -> Command<'a>
     ensures { IsCommand (new_app name.entry.now) result }
 {
     Command::new(alloc, name).about(about).after_help(example)
 }
 
+/// Adds an option to a command.
 fn with_option<'a>(command: Command<'a>, option: Arg<'a>) -> Result<Command<'a>, AllocError>
     ensures { (app : App) (rule : Rule) → IsCommand app command.entry → IsOption rule option.entry
         → IfOk result (IsCommand (with_rule app rule)) }
@@ -47,7 +55,7 @@ fn with_option<'a>(command: Command<'a>, option: Arg<'a>) -> Result<Command<'a>,
     command.arg(option)
 }
 
-/// A command that asks for one of the commands below it, and has no command for help.
+/// Requires one of the subcommands, and removes the subcommand `help`.
 fn of_commands<'a>(command: Command<'a>) -> Command<'a>
     ensures { (app : App) → IsCommand app command.entry → IsCommand (of_commands app) result }
 {
@@ -56,6 +64,7 @@ fn of_commands<'a>(command: Command<'a>) -> Command<'a>
         .disable_help_subcommand(true)
 }
 
+/// Adds a subcommand.
 fn with_command<'a>(above: Command<'a>, command: Command<'a>) -> Result<Command<'a>, AllocError>
     ensures { (app : App) (below : App) → IsCommand app above.entry → IsCommand below command.entry
         → IfOk result (IsCommand (with_subcommand app below.top)) }
@@ -63,6 +72,7 @@ fn with_command<'a>(above: Command<'a>, command: Command<'a>) -> Result<Command<
     above.subcommand(command)
 }
 
+/// Declares `talk`.
 fn talk<'a>(alloc: Global) -> Result<Command<'a>, AllocError>
     ensures { IfOk result (IsCommand talk_app) }
 {
@@ -73,6 +83,7 @@ fn talk<'a>(alloc: Global) -> Result<Command<'a>, AllocError>
     with_option(talk, clock_option(alloc))
 }
 
+/// Declares `new`.
 fn make<'a>(alloc: Global) -> Result<Command<'a>, AllocError>
     ensures { IfOk result (IsCommand make_app) }
 {
@@ -86,6 +97,7 @@ fn make<'a>(alloc: Global) -> Result<Command<'a>, AllocError>
     with_option(make, file)
 }
 
+/// Declares `serve`.
 fn serve<'a>(alloc: Global) -> Result<Command<'a>, AllocError>
     ensures { IfOk result (IsCommand serve_app) }
 {
@@ -102,6 +114,7 @@ While it runs: curl -H 'Register-Party: 1' -H 'Register-Role: stateAdministrator
     with_option(with_port, connections_option(alloc))
 }
 
+/// Declares `check`.
 fn check<'a>(alloc: Global) -> Result<Command<'a>, AllocError>
     ensures { IfOk result (IsCommand check_app) }
 {
@@ -113,6 +126,7 @@ fn check<'a>(alloc: Global) -> Result<Command<'a>, AllocError>
     with_option(check, file)
 }
 
+/// Declares `migrate`.
 fn migrate<'a>(alloc: Global) -> Result<Command<'a>, AllocError>
     ensures { IfOk result (IsCommand migrate_app) }
 {
@@ -124,7 +138,7 @@ fn migrate<'a>(alloc: Global) -> Result<Command<'a>, AllocError>
     with_option(migrate, file)
 }
 
-/// A command over a file, at what a clock reads.
+/// Adds the options `--file` and `--clock`.
 fn with_clock<'a>(alloc: Global, command: Command<'a>) -> Result<Command<'a>, AllocError>
     ensures { (app : App) → IsCommand app command.entry → IfOk result (IsCommand (with_clock app)) }
 {
@@ -132,18 +146,20 @@ fn with_clock<'a>(alloc: Global, command: Command<'a>) -> Result<Command<'a>, Al
     with_option(with_file, clock_option(alloc))
 }
 
-/// A command that is told who asks: a party, and in which role.
+/// Adds the options `--party` and `--role`: the caller.
 fn with_caller<'a>(
     alloc: Global,
     command: Command<'a>,
     roles: &'a [&'a str],
 ) -> Result<Command<'a>, AllocError>
-    ensures { (app : App) → IsCommand app command.entry → IfOk result (IsCommand (with_caller roles.entry app)) }
+    ensures { (app : App) → IsCommand app command.entry
+        → IfOk result (IsCommand (with_caller roles.entry app)) }
 {
     let with_party = with_option(command, party_option(alloc))?;
     with_option(with_party, role_option(alloc, roles))
 }
 
+/// Declares `extract`.
 fn extract<'a>(alloc: Global, choices: Choices<'a>) -> Result<Command<'a>, AllocError>
     ensures { IfOk result (IsCommand (extract_app choices.entry)) }
 {
@@ -158,7 +174,7 @@ fn extract<'a>(alloc: Global, choices: Choices<'a>) -> Result<Command<'a>, Alloc
     with_option(with_kind, at_option(alloc))
 }
 
-/// The program with all its commands, which takes these words for roles and kinds.
+/// Declares the program with all its commands. `choices`: the words for roles and kinds.
 pub fn land<'a>(alloc: Global, choices: Choices<'a>) -> Result<Command<'a>, AllocError>
     ensures { IfOk result (IsCommand (land_app choices.entry)) }
 {

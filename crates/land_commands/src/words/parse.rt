@@ -1,13 +1,15 @@
-//! The command that the words name.
+//! Reads the command that the arguments name.
 ghost use Rattle.std.specs.Prelude.{map, pos, codes, option_map, string_bytes};
 ghost use Rattle.clap.specs.Words.{found_of, rows_of, subcommand_rows_of};
 ghost use Rattle.land_commands.specs.Words.Choices.{IsSpelled, kind_word, role_word};
-ghost use Rattle.land_commands.specs.Words.Names.{IsCallerOf, IsChosenOf, IsMaybeOf, IsNamedIn, IsNumberOf, IsOrderOf, IsReading, IsRefusalOf};
+ghost use Rattle.land_commands.specs.Words.Names.{IsCallerOf, IsChosenOf, IsMaybeOf, IsNamedIn, IsNumberOf};
+ghost use Rattle.land_commands.specs.Words.Names.{IsOrderOf};
+ghost use Rattle.land_commands.specs.Words.Names.{IsReading, IsRefusalOf};
 ghost use Rattle.land_commands.specs.Words.PlainCommands.{order_of};
 
 use crate::words::choices::all_choices;
-use crate::words::command::Command;
 use crate::words::clap_matches::{command_found, matches, number_of, text_of};
+use crate::words::command::Command;
 use crate::words::options::{LAST_PARTY, LAST_PORT, MOST_CONNECTIONS};
 use crate::words::words_fault::WordsFault;
 use clap::error::ErrorKind;
@@ -18,7 +20,8 @@ use land_core::limits::LAST_MOMENT;
 use land_core::role::Role;
 use std::alloc::Global;
 
-/// The command that the words of the command line name, of which the first is the program's name, as in `env::args`.
+/// Reads the command that the arguments name. The first argument is the name of the program, as in
+/// `env::args`.
 pub fn read_words<'a>(alloc: Global, words: &'a [String]) -> Result<Command<'a>, WordsFault>
     ensures { IsReading (map string_bytes words.entry.now) result }
 {
@@ -31,6 +34,7 @@ pub fn read_words<'a>(alloc: Global, words: &'a [String]) -> Result<Command<'a>,
     }
 }
 
+/// Returns the fault for an error of `clap`.
 fn clap_fault(alloc: Global, error: &Error) -> WordsFault
     ensures { IsRefusalOf error.now result }
 {
@@ -43,6 +47,7 @@ fn clap_fault(alloc: Global, error: &Error) -> WordsFault
     }
 }
 
+/// Reads the command and its options. `None`: there is no such command, or an option is not valid.
 fn named_command<'a>(found: &ArgMatches<'a>) -> Option<Command<'a>>
     ensures { IsNamedIn (subcommand_rows_of found.now) (option_map order_of result) }
 {
@@ -57,6 +62,7 @@ fn named_command<'a>(found: &ArgMatches<'a>) -> Option<Command<'a>>
     }
 }
 
+/// Reads the options of `talk`.
 fn talk_of<'a>(found: &ArgMatches<'a>) -> Option<Command<'a>>
     ensures { IsOrderOf (codes "talk") (rows_of (found_of found.now)) (option_map order_of result) }
 {
@@ -64,6 +70,7 @@ fn talk_of<'a>(found: &ArgMatches<'a>) -> Option<Command<'a>>
     Some(Command::Talk { clock })
 }
 
+/// Reads the options of `new`.
 fn new_of<'a>(found: &ArgMatches<'a>) -> Option<Command<'a>>
     ensures { IsOrderOf (codes "new") (rows_of (found_of found.now)) (option_map order_of result) }
 {
@@ -71,6 +78,7 @@ fn new_of<'a>(found: &ArgMatches<'a>) -> Option<Command<'a>>
     Some(Command::New { file })
 }
 
+/// Reads the options of `serve`.
 fn serve_of<'a>(found: &ArgMatches<'a>) -> Option<Command<'a>>
     ensures { IsOrderOf (codes "serve") (rows_of (found_of found.now)) (option_map order_of result) }
 {
@@ -84,6 +92,7 @@ fn serve_of<'a>(found: &ArgMatches<'a>) -> Option<Command<'a>>
     })
 }
 
+/// Reads the options of `check`.
 fn check_of<'a>(found: &ArgMatches<'a>) -> Option<Command<'a>>
     ensures { IsOrderOf (codes "check") (rows_of (found_of found.now)) (option_map order_of result) }
 {
@@ -91,6 +100,7 @@ fn check_of<'a>(found: &ArgMatches<'a>) -> Option<Command<'a>>
     Some(Command::Check { file })
 }
 
+/// Reads the options of `migrate`.
 fn migrate_of<'a>(found: &ArgMatches<'a>) -> Option<Command<'a>>
     ensures { IsOrderOf (codes "migrate") (rows_of (found_of found.now)) (option_map order_of result) }
 {
@@ -98,6 +108,7 @@ fn migrate_of<'a>(found: &ArgMatches<'a>) -> Option<Command<'a>>
     Some(Command::Migrate { file })
 }
 
+/// Reads the options of `extract`.
 fn extract_of<'a>(found: &ArgMatches<'a>) -> Option<Command<'a>>
     ensures { IsOrderOf (codes "extract") (rows_of (found_of found.now)) (option_map order_of result) }
 {
@@ -115,13 +126,14 @@ fn extract_of<'a>(found: &ArgMatches<'a>) -> Option<Command<'a>>
     })
 }
 
-/// What the clock always reads.
+/// Reads `--clock`, in Unix milliseconds.
 fn clock_of(found: &ArgMatches<'_>) -> Option<i64>
     ensures { IsNumberOf (rows_of (found_of found.now)) (codes "clock") (pos 0) (pos 4102444799999) result }
 {
     number_of(found, "clock", 0, LAST_MOMENT)
 }
 
+/// Reads `--party` and `--role`.
 fn caller_of(found: &ArgMatches<'_>) -> Option<Caller>
     ensures { IsCallerOf (rows_of (found_of found.now)) result }
 {
@@ -130,6 +142,7 @@ fn caller_of(found: &ArgMatches<'_>) -> Option<Caller>
     Some(Caller { party, role })
 }
 
+/// Reads `--party`.
 fn party_of(found: &ArgMatches<'_>) -> Option<u64>
     ensures { IsNumberOf (rows_of (found_of found.now)) (codes "party") (pos 1) (pos 1000000000) (option_map pos result) }
 {
@@ -137,13 +150,14 @@ fn party_of(found: &ArgMatches<'_>) -> Option<u64>
     u64::try_from(party).ok()
 }
 
+/// Reads `--role`.
 fn role_of(found: &ArgMatches<'_>) -> Option<Role>
     ensures { IsChosenOf role_word (rows_of (found_of found.now)) (codes "role") result }
 {
     role_spelled(text_of(found, "role")?)
 }
 
-/// The role that is spelled like this.
+/// Returns the role of a word.
 fn role_spelled(word: &str) -> Option<Role>
     ensures { IsSpelled role_word word.now result }
 {
@@ -158,13 +172,14 @@ fn role_spelled(word: &str) -> Option<Role>
     }
 }
 
+/// Reads `--kind`.
 fn kind_of(found: &ArgMatches<'_>) -> Option<Kind>
     ensures { IsChosenOf kind_word (rows_of (found_of found.now)) (codes "kind") result }
 {
     kind_spelled(text_of(found, "kind")?)
 }
 
-/// The kind that is spelled like this.
+/// Returns the kind of a word.
 fn kind_spelled(word: &str) -> Option<Kind>
     ensures { IsSpelled kind_word word.now result }
 {
@@ -179,7 +194,7 @@ fn kind_spelled(word: &str) -> Option<Kind>
     }
 }
 
-/// The moment to look at, if the words name one.
+/// Reads `--at`, in Unix milliseconds. `Some(None)`: the option is absent.
 fn at_of(found: &ArgMatches<'_>) -> Option<Option<i64>>
     ensures { IsMaybeOf (rows_of (found_of found.now)) (codes "at") (pos 0) (pos 4102444799999) result }
 {
@@ -190,6 +205,7 @@ fn at_of(found: &ArgMatches<'_>) -> Option<Option<i64>>
     Some(Some(at))
 }
 
+/// Reads `--port`.
 fn port_of(found: &ArgMatches<'_>) -> Option<u16>
     ensures { IsNumberOf (rows_of (found_of found.now)) (codes "port") (pos 1) (pos 65535) (option_map pos result) }
 {
@@ -197,6 +213,7 @@ fn port_of(found: &ArgMatches<'_>) -> Option<u16>
     u16::try_from(port).ok()
 }
 
+/// Reads `--connections`.
 fn connections_of(found: &ArgMatches<'_>) -> Option<u32>
     ensures { IsNumberOf (rows_of (found_of found.now)) (codes "connections") (pos 1) (pos 1000000) (option_map pos result) }
 {
