@@ -13,7 +13,7 @@ use Rattle.std.proofs.lemmas.List.Elements.{recursion_from_All}
 use Rattle.std.proofs.lemmas.List.{take-append-drop, take-append-le, take-take, take_all}
 use Rattle.httparse.specs.Grammar.{Field, IsField, LineEnd, crlf, lf, print_end, print_field, RequestHead, IsRequestHead, print_request, ReadsRequest}
 use Rattle.httparse.proofs.GrammarLemmas.{ReadsRequest-append}
-use Rattle.land_wire.specs.Framing.Stream.{window, IsOpen, IsNever, IsFault, IsHeadIn}
+use Rattle.land_wire.specs.Framing.Stream.{field_room, window, IsOpen, IsNever, IsFault, IsHeadIn}
 use Rattle.land_wire.proofs.TargetLemmas.{never_goes_on}
 use Rattle.land_wire.specs.declared.framing.head.Found.TheVariants as found
 use Rattle.land_wire.specs.declared.framing.frame_fault.FrameFault.TheVariants as fault
@@ -124,7 +124,7 @@ unfolding print_request
 few_fields h ok = simp length-append (omega (arith, flat_len h.fields (recursion_from_All IsField h.fields ok.fields)))
 
 pub no_overflow : (w front rest : List ℕ) (h : RequestHead) (room : ℕ) → w ≡ front ++ rest → length w ≤ 8192
-    → ReadsRequest (front ++ 10 ∷ []) h [] → 2731 ≤ room → room < length h.fields → ⊥
+    → ReadsRequest (front ++ 10 ∷ []) h [] → field_room ≤ room → room < length h.fields → ⊥
 no_overflow w front rest h room e small reads big over =
     omega (arith, few_fields h reads.0, simp length-append at (ap length e), simp length-append at (ap length reads.1))
 

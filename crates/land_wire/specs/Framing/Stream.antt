@@ -10,9 +10,13 @@ use Rattle.land_wire.specs.declared.framing.head.Found.TheVariants as found
 use Rattle.land_wire.specs.declared.framing.head.Look.{Look}
 use Rattle.land_wire.specs.declared.framing.head.Look.TheVariants as look
 
--- a head is looked for in so many bytes, the empty lines before it among them
+-- a head, with the empty lines before it, has at most 8192 bytes
 abbrev pub limit : ℕ
 limit = 8192
+
+-- a head within the limit has at most 2731 fields, since each takes three bytes or more (`FIELD_ROOM` in code)
+abbrev pub field_room : ℕ
+field_room = 2731
 
 -- the bytes of a stream that a head may lie in
 abbrev pub window : List ℕ → List ℕ

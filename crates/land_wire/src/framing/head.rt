@@ -2,7 +2,7 @@
 ghost use Rattle.std.specs.Prelude.{◌≡◌, ◌≤◌, ◌<◌, ◌+◌, ◌*◌, ◌⊎◌, ℕ, List, length, vec_len, vec_capacity, IfOk, IfErr, IfSome};
 ghost use Rattle.std.specs.Io.KnownBytes.{IsAtEnd, Keeps, prepend_known};
 ghost use Rattle.httparse.specs.Grammar.{RequestHead};
-ghost use Rattle.land_wire.specs.Framing.Stream.{HasHead, IsLook, IsHeadIn, IsFoundFault, IsJustRead};
+ghost use Rattle.land_wire.specs.Framing.Stream.{field_room, HasHead, IsLook, IsHeadIn, IsFoundFault, IsJustRead};
 
 use crate::framing::frame_fault::FrameFault;
 use crate::framing::target::ends_in_target;
@@ -47,7 +47,7 @@ pub fn read_head<R: Read>(
     buffer: &mut Vec<u8>,
     headers: &mut [HeaderSpan],
 ) -> Result<Found, StreamFault>
-    requires { 2731 ≤ length headers.old }
+    requires { field_room ≤ length headers.old }
     ensures room { length headers.new ≡ length headers.old }
     ensures bound { length buffer.new.items + 1024 * reader.new.left ≤ length buffer.old.items + 1024 * reader.old.left }
     ensures fewer { reader.new.left ≤ reader.old.left }
@@ -88,7 +88,7 @@ pub fn read_head<R: Read>(
 /// What the bytes of a window are so far. `httparse` refuses a target that is no UTF-8 before its end has come.
 pub fn look_at(window: &[u8], headers: &mut [HeaderSpan]) -> Look
     requires small { length window.now ≤ 8192 }
-    requires room { 2731 ≤ length headers.old }
+    requires room { field_room ≤ length headers.old }
     ensures { IsLook window.now headers.new result }
 {
     match parse_request(window, headers) {

@@ -3,6 +3,7 @@ ghost use Rattle.std.specs.Prelude.{◌≡◌, ◌≤◌, ◌<◌, ◌+◌, ◌*
 ghost use Rattle.std.specs.Io.KnownBytes.{Keeps, prepend_known};
 ghost use Rattle.httparse.specs.Grammar.{RequestHead};
 ghost use Rattle.land_wire.specs.Framing.Items.{fault_front, request, IsItem, IsFrontIn, IsFrontOf, IsReadFor};
+ghost use Rattle.land_wire.specs.Framing.Stream.{field_room};
 
 use crate::framing::frame_fault::FrameFault;
 use crate::framing::framing::frame;
@@ -32,7 +33,7 @@ pub fn read_item<R: Read>(
     buffer: &mut Vec<u8>,
     headers: &mut [HeaderSpan],
 ) -> Result<Front, StreamFault>
-    requires { 2731 ≤ length headers.old }
+    requires { field_room ≤ length headers.old }
     ensures room { length headers.new ≡ length headers.old }
     ensures bound { length buffer.new.items + 1024 * reader.new.left ≤ length buffer.old.items + 1024 * reader.old.left }
     ensures fewer { reader.new.left ≤ reader.old.left }

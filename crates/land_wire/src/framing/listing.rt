@@ -1,6 +1,7 @@
 //! The items of bytes that are all there.
 ghost use Rattle.std.specs.Prelude.{◌≡◌, ◌≤◌, List, length};
 ghost use Rattle.land_wire.specs.Framing.Items.{Item, AreItems, IsFrontIn, IsFrontOf};
+ghost use Rattle.land_wire.specs.Framing.Stream.{field_room};
 
 use crate::framing::connection::ends;
 use crate::framing::frame_fault::FrameFault;
@@ -11,7 +12,7 @@ use httparse::spans::HeaderSpan;
 
 /// How many items the bytes have as a stream. So each stream has a list of items.
 pub fn item_count(bytes: &[u8], headers: &mut [HeaderSpan]) -> usize
-    requires { 2731 ≤ length headers.old }
+    requires { field_room ≤ length headers.old }
     ensures { (items : List Item) × AreItems bytes.now items × (length items ≡ result) }
 {
     let mut rest = bytes;
@@ -33,7 +34,7 @@ pub fn item_count(bytes: &[u8], headers: &mut [HeaderSpan]) -> usize
 
 /// What stands at the front of the bytes, after which nothing comes.
 pub fn front_of(bytes: &[u8], headers: &mut [HeaderSpan]) -> Front
-    requires { 2731 ≤ length headers.old }
+    requires { field_room ≤ length headers.old }
     ensures room { length headers.new ≡ length headers.old }
     ensures front { IsFrontIn bytes.now headers.new result }
     ensures item { IsFrontOf bytes.now result }
