@@ -30,11 +30,12 @@ abbrev pub ExtractsFrom : Timeline → ExtractRequest → (old new : Option (Lis
     → Type 0
 ExtractsFrom tl wanted old new r =
     IsExtracted (list_reply wanted.clock wanted.caller wanted.kind wanted.at tl)
-    (extract_of (register_at tl (unwrap_or wanted.at (now_of wanted.clock tl))) wanted.caller wanted.kind) old new r
+    (extract_of (register_at tl (unwrap_or wanted.at (now_of wanted.clock tl))) wanted.caller wanted.kind)
+    old new r
 
 -- The extract is written from tables, if their store is honest. The register does not change.
-pub record IsExtractedOver {S : Type 0} (g : Ghosts S) (from : Office S) (wanted : ExtractRequest) (to : Office S) (old new : Option (List ℕ))
-    (r : Result ℕ ExtractFault) : Type 0 where
+pub record IsExtractedOver {S : Type 0} (g : Ghosts S) (from : Office S) (wanted : ExtractRequest) (to : Office S)
+    (old new : Option (List ℕ)) (r : Result ℕ ExtractFault) : Type 0 where
   pub was : IsHonest g to → IsHonest g from
   pub same : IsLive (IsHonest g to) to.is_closed → held g to ≡ held g from
   pub closes : Closes from.is_closed to.is_closed (of_store r)

@@ -99,8 +99,15 @@ module _ {S C : Type 0} (g : Ghosts S) (h : Files S) (reads : C → ℤ → C �
       × Appends old new [] × ReportsDone done old_errors new_errors status
   IsRun (to_serve file port connections) input clock clock_after old new old_errors new_errors status =
       (done : Result (Unit {0}) ProgramFault) × IsFileService g (h.holds file) h.is_closed
-      (record { reads = reads; wanted = connections; coming = h.coming port; after = h.after port; clock = clock; clock_after = clock_after }) done × Appends old new []
-      × ReportsDone done old_errors new_errors status
+      (record {
+        reads = reads;
+        wanted = connections;
+        coming = h.coming port;
+        after = h.after port;
+        clock = clock;
+        clock_after = clock_after;
+      }) done
+      × Appends old new [] × ReportsDone done old_errors new_errors status
   IsRun (to_check file) input clock clock_after old new old_errors new_errors status =
       (done : Result (Unit {0}) ProgramFault) × IsChecking g (h.holds file) old new done
       × ReportsDone done old_errors new_errors status

@@ -24,7 +24,8 @@ pub fn run_args<H: Host, I: Read, O: Write, E: Write, C: Clock>(
 ) -> u8
     ensures { IsObeyed H.Store.Store (files_of H.holds H.is_closed H.coming host.old host.new) C.reads
         (map string_bytes words.now) (I.remaining input.old) clock.old clock.new
-        (O.contents output.old) (O.contents output.new) (E.contents errors.old) (E.contents errors.new) result }
+        (O.contents output.old) (O.contents output.new)
+        (E.contents errors.old) (E.contents errors.new) result }
 {
     match read_words(host.alloc(), words) {
         Ok(command) => run_command(host, command, input, output, errors, clock),

@@ -40,7 +40,8 @@ pub fn run_command<H: Host, I: Read, O: Write, E: Write, C: Clock>(
 ) -> u8
     ensures { IsRun H.Store.Store (files_of H.holds H.is_closed H.coming host.old host.new) C.reads
         (order_of command.entry) (I.remaining input.old) clock.old clock.new
-        (O.contents output.old) (O.contents output.new) (E.contents errors.old) (E.contents errors.new) result }
+        (O.contents output.old) (O.contents output.new)
+        (E.contents errors.old) (E.contents errors.new) result }
 {
     match command {
         Command::Talk { clock } => {

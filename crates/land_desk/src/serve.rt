@@ -4,6 +4,7 @@ ghost use Rattle.land_desk.specs.Keepers.{Reaches, ServesStream};
 ghost use Rattle.land_desk.specs.Serving.Asking.{IfBoth, ReadsAtMost, ReadsOnlyItems};
 ghost use Rattle.land_desk.specs.Turns.{CountsFailedRead, IsSpent};
 ghost use Rattle.land_keep.specs.Keepers.{WasHonest};
+ghost use Rattle.land_wire.specs.Framing.Stream.{field_room};
 ghost use Rattle.land_wire.specs.Routes.Table.{FindsRoutes};
 
 use crate::turn::{Turn, take_turn};
@@ -82,7 +83,7 @@ fn serve_items<R: Read, W: Write, K: Keeper, C: Clock>(
     headers: &mut [HeaderSpan],
 ) -> Result<Served, DeskFault>
     requires routed { FindsRoutes router.now }
-    requires room { 2731 ≤ length headers.old }
+    requires room { field_room ≤ length headers.old }
     requires budget { reader.old.left ≤ 10000000 }
     ensures served { ServesStream K.Keeper C.reads keeper.old clock.old keeper.new clock.new
         (R.remaining reader.old.reader.now) (W.contents writer.old) (W.contents writer.new) result }

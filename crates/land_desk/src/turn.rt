@@ -13,6 +13,7 @@ ghost use Rattle.land_keep.specs.Machine.{at_of};
 ghost use Rattle.land_wire.specs.Fields.{field_map};
 ghost use Rattle.land_wire.specs.Framing.Frame.{fields_of};
 ghost use Rattle.land_wire.specs.Framing.Items.{IsRequestIn};
+ghost use Rattle.land_wire.specs.Framing.Stream.{field_room};
 ghost use Rattle.land_wire.specs.Laws.{IsStated};
 ghost use Rattle.land_wire.specs.Reading.{reading};
 ghost use Rattle.land_wire.specs.Routes.Table.{FindsRoutes};
@@ -63,7 +64,7 @@ pub(crate) fn take_turn<R: Read, W: Write, K: Keeper, C: Clock>(
     headers: &mut [HeaderSpan],
 ) -> Result<Turn, DeskFault>
     requires routed { FindsRoutes router.now }
-    requires room { 2731 ≤ length headers.old }
+    requires room { field_room ≤ length headers.old }
     ensures room { length headers.new ≡ length headers.old }
     ensures turn { ServesFirst K.Keeper C.reads keeper.old clock.old keeper.new clock.new
         (prepend_known buffer.old.items (R.remaining reader.old.reader.now))

@@ -20,7 +20,8 @@ role_word role.StateAdministrator = codes "stateAdministrator"
 -- All words for roles.
 abbrev pub role_words : List Text
 role_words =
-    codes "citizen" ∷ codes "conveyancer" ∷ codes "notary" ∷ codes "bank" ∷ codes "certifiedSurveyor" ∷ codes "stateAdministrator" ∷ []
+    codes "citizen" ∷ codes "conveyancer" ∷ codes "notary" ∷ codes "bank"
+    ∷ codes "certifiedSurveyor" ∷ codes "stateAdministrator" ∷ []
 
 -- The word for a kind of objects.
 abbrev pub kind_word : Kind → Text

@@ -44,14 +44,18 @@ with_caller roles app = with_rule (with_rule app party_rule) (role_rule roles)
 -- `extract --file FILE --clock MS --party NUMBER --role ROLE --kind KIND [--at MS]`
 abbrev pub extract_app : Choices → App
 extract_app choices =
-    with_rule (with_rule (with_caller choices.roles (with_clock (new_app (codes "extract")))) (kind_rule choices.kinds)) at_rule
+    with_rule
+    (with_rule (with_caller choices.roles (with_clock (new_app (codes "extract")))) (kind_rule choices.kinds))
+    at_rule
 
 -- The program with all commands except `extract`.
 abbrev pub plain_app : App
 plain_app =
     with_subcommand
     (with_subcommand
-    (with_subcommand (with_subcommand (with_subcommand (of_commands (new_app (codes "land"))) talk_app.top) make_app.top) serve_app.top)
+    (with_subcommand
+    (with_subcommand (with_subcommand (of_commands (new_app (codes "land"))) talk_app.top) make_app.top)
+    serve_app.top)
     check_app.top)
     migrate_app.top
 

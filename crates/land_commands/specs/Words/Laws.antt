@@ -52,7 +52,8 @@ PlainServiceLaw =
     (choices : Choices) (program file port_digits count_digits : Text) (port connections : ℕ)
     → IsPlainText file
     → IsNumeralIn port_digits 1 65535 port → IsNumeralIn count_digits 1 1000000 connections
-    → NamesBy choices (program ∷ codes "serve" ∷ codes "--file" ∷ file ∷ codes "--port" ∷ port_digits ∷ codes "--connections" ∷ count_digits ∷ [])
+    → NamesBy choices (program ∷ codes "serve" ∷ codes "--file" ∷ file ∷ codes "--port" ∷ port_digits
+    ∷ codes "--connections" ∷ count_digits ∷ [])
     (to_serve file port connections)
 
 -- The arguments of `extract` after its name.
@@ -65,11 +66,13 @@ extract_words file clock_digits party_digits role kind =
 -- clock, and with `--at MS` at that time, if the numbers are decimal digits.
 abbrev pub PlainExtractLaw : Type 0
 PlainExtractLaw =
-    (choices : Choices) (program file clock_digits party_digits : Text) (clock party : ℕ) (role : Role) (kind : Kind)
+    (choices : Choices) (program file clock_digits party_digits : Text) (clock party : ℕ)
+    (role : Role) (kind : Kind)
     → AreSpelled choices → IsPlainText file → IsNumeralIn clock_digits 0 4102444799999 clock
     → IsNumeralIn party_digits 1 1000000000 party
     → NamesBy choices (program ∷ codes "extract" ∷ extract_words file clock_digits party_digits role kind)
     (to_extract file (pos clock) party role kind None)
     × ((at_digits : Text) (at : ℕ) → IsNumeralIn at_digits 0 4102444799999 at
-    → NamesBy choices (program ∷ codes "extract" ∷ (extract_words file clock_digits party_digits role kind ++ codes "--at" ∷ at_digits ∷ []))
+    → NamesBy choices (program ∷ codes "extract"
+    ∷ (extract_words file clock_digits party_digits role kind ++ codes "--at" ∷ at_digits ∷ []))
     (to_extract file (pos clock) party role kind (Some (pos at))))

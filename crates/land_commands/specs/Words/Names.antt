@@ -14,6 +14,7 @@ use Rattle.land_commands.specs.declared.words.words_fault.WordsFault.{WordsFault
 use Rattle.land_commands.specs.declared.words.words_fault.WordsFault.TheVariants.{Refused, NoMemory}
 use Rattle.land_core.specs.declared.caller.Caller.{Caller}
 use Rattle.land_core.specs.declared.role.Role.{Role}
+use Rattle.land_keep.specs.Moments.{last_moment}
 
 -- An option found by `clap` has a value that is this number, in the range of the option.
 pub record HasNumber (rows : List Row) (option : Text) (least most number : ℤ) : Type 0 where
@@ -66,7 +67,7 @@ word_of (to_extract file clock party role kind at) = codes "extract"
 -- The options of a command are those that `clap` found, each number in its range: moments from 0 to the end
 -- of the year 2099, ports from 1 to 65535, parties from 1 to 1,000,000,000, connections from 1 to 1,000,000.
 abbrev pub HasOptions : List Row → PlainCommand → Type 0
-HasOptions rows (to_talk clock) = HasNumber rows (codes "clock") (pos 0) (pos 4102444799999) clock
+HasOptions rows (to_talk clock) = HasNumber rows (codes "clock") (pos 0) last_moment clock
 HasOptions rows (to_make file) = first_of (codes "file") rows ≡ Some file
 HasOptions rows (to_serve file port connections) =
     (first_of (codes "file") rows ≡ Some file) × HasNumber rows (codes "port") (pos 1) (pos 65535) (pos port)
@@ -75,9 +76,9 @@ HasOptions rows (to_check file) = first_of (codes "file") rows ≡ Some file
 HasOptions rows (to_migrate file) = first_of (codes "file") rows ≡ Some file
 HasOptions rows (to_extract file clock party role kind at) =
     (first_of (codes "file") rows ≡ Some file)
-    × HasNumber rows (codes "clock") (pos 0) (pos 4102444799999) clock × HasCaller rows party role
+    × HasNumber rows (codes "clock") (pos 0) last_moment clock × HasCaller rows party role
     × (first_of (codes "kind") rows ≡ Some (kind_word kind))
-    × HasMaybe rows (codes "at") (pos 0) (pos 4102444799999) at
+    × HasMaybe rows (codes "at") (pos 0) last_moment at
 
 -- `clap` found this command with its options.
 abbrev pub IsFoundAs : Option (Text × List Row) → PlainCommand → Type 0

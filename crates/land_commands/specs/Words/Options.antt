@@ -5,6 +5,7 @@ use Rattle.clap.specs.declared.builder.arg.Arg.{Arg}
 use Rattle.clap.specs.declared.builder.value_parser.ValueParser.{ValueParser}
 use Rattle.clap.specs.declared.builder.value_parser.ValueParser.TheVariants as parser
 use Rattle.land_commands.specs.Words.Choices.{Places}
+use Rattle.land_keep.specs.Moments.{last_moment}
 
 -- `--NAME VALUE`: an option with one value, which the parser accepts.
 abbrev pub option_rule : (name : Text) → (is_required : Bool) → ValueParser → Rule
@@ -17,7 +18,7 @@ option_rule name is_required values = record (new_rule name) {
 
 -- Numbers from 0 to the last moment.
 abbrev pub moments : ValueParser
-moments = parser.Signed (pos 0) (pos 4102444799999)
+moments = parser.Signed (pos 0) last_moment
 
 -- Numbers from 1 to 65535.
 abbrev pub ports : ValueParser

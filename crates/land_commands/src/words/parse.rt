@@ -6,6 +6,7 @@ ghost use Rattle.land_commands.specs.Words.Names.{IsCallerOf, IsChosenOf, IsMayb
 ghost use Rattle.land_commands.specs.Words.Names.{IsOrderOf};
 ghost use Rattle.land_commands.specs.Words.Names.{IsReading, IsRefusalOf};
 ghost use Rattle.land_commands.specs.Words.PlainCommands.{order_of};
+ghost use Rattle.land_keep.specs.Moments.{last_moment};
 
 use crate::words::choices::all_choices;
 use crate::words::clap_matches::{command_found, matches, number_of, text_of};
@@ -128,7 +129,7 @@ fn extract_of<'a>(found: &ArgMatches<'a>) -> Option<Command<'a>>
 
 /// Reads `--clock`, in Unix milliseconds.
 fn clock_of(found: &ArgMatches<'_>) -> Option<i64>
-    ensures { IsNumberOf (rows_of (found_of found.now)) (codes "clock") (pos 0) (pos 4102444799999) result }
+    ensures { IsNumberOf (rows_of (found_of found.now)) (codes "clock") (pos 0) last_moment result }
 {
     number_of(found, "clock", 0, LAST_MOMENT)
 }
@@ -144,7 +145,8 @@ fn caller_of(found: &ArgMatches<'_>) -> Option<Caller>
 
 /// Reads `--party`.
 fn party_of(found: &ArgMatches<'_>) -> Option<u64>
-    ensures { IsNumberOf (rows_of (found_of found.now)) (codes "party") (pos 1) (pos 1000000000) (option_map pos result) }
+    ensures { IsNumberOf (rows_of (found_of found.now)) (codes "party") (pos 1) (pos 1000000000)
+        (option_map pos result) }
 {
     let party = number_of(found, "party", 1, LAST_PARTY)?;
     u64::try_from(party).ok()
@@ -196,7 +198,7 @@ fn kind_spelled(word: &str) -> Option<Kind>
 
 /// Reads `--at`, in Unix milliseconds. `Some(None)`: the option is absent.
 fn at_of(found: &ArgMatches<'_>) -> Option<Option<i64>>
-    ensures { IsMaybeOf (rows_of (found_of found.now)) (codes "at") (pos 0) (pos 4102444799999) result }
+    ensures { IsMaybeOf (rows_of (found_of found.now)) (codes "at") (pos 0) last_moment result }
 {
     if text_of(found, "at").is_none() {
         return Some(None);
@@ -207,7 +209,8 @@ fn at_of(found: &ArgMatches<'_>) -> Option<Option<i64>>
 
 /// Reads `--port`.
 fn port_of(found: &ArgMatches<'_>) -> Option<u16>
-    ensures { IsNumberOf (rows_of (found_of found.now)) (codes "port") (pos 1) (pos 65535) (option_map pos result) }
+    ensures { IsNumberOf (rows_of (found_of found.now)) (codes "port") (pos 1) (pos 65535)
+        (option_map pos result) }
 {
     let port = number_of(found, "port", 1, LAST_PORT)?;
     u16::try_from(port).ok()
@@ -215,7 +218,8 @@ fn port_of(found: &ArgMatches<'_>) -> Option<u16>
 
 /// Reads `--connections`.
 fn connections_of(found: &ArgMatches<'_>) -> Option<u32>
-    ensures { IsNumberOf (rows_of (found_of found.now)) (codes "connections") (pos 1) (pos 1000000) (option_map pos result) }
+    ensures { IsNumberOf (rows_of (found_of found.now)) (codes "connections") (pos 1) (pos 1000000)
+        (option_map pos result) }
 {
     let connections = number_of(found, "connections", 1, MOST_CONNECTIONS)?;
     u32::try_from(connections).ok()

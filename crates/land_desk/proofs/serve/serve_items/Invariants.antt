@@ -5,13 +5,14 @@ use Rattle.land_desk.specs.Serving.Asking.{IfBoth}
 use Rattle.land_desk.specs.Turns.{IsSpent}
 use Rattle.land_keep.specs.Keeping.{IsAt}
 use Rattle.land_keep.specs.Machine.{State}
+use Rattle.land_wire.specs.Framing.Stream.{field_room}
 use Rattle.land_desk.proofs.serve.serve_items.Given as goal
 
 -- There is room for the header spans. The items answered until now end in a state that the keeper represents. At most
 -- one chunk is read ahead, and the bytes taken are within the budget of reads.
 abbrev pub invariant-loop-fault : goal.invariant-loop-fault
 invariant-loop-fault g l =
-    (2731 ≤ length l.headers)
+    (field_room ≤ length l.headers)
     × IfBoth (g.R.Read.remaining l.initial.reader.reader.now) (prepend_known l.buffer.items (g.R.Read.remaining l.reader.reader.now)) (λ bytes rest.
     (now : State g.row.C.Denot) × SoFar (HearsIf (g.K.Keeper.honest l.keeper) g.C.Clock.reads) bytes rest
     (record { closed = g.K.Keeper.closed l.initial.keeper; timeline = g.K.Keeper.timeline l.initial.keeper; clock = l.initial.clock })
