@@ -1,4 +1,4 @@
--- Words of `extract` in which `clap` finds no fault name an extract.
+-- Arguments of `extract` in which `clap` finds no fault name an extract.
 use Rattle.std.proofs.Common.{◌≡◌, ◌⊎◌, ◌||◌, inl, inr, ap, refl, sym, subst, ℕ, ℤ, pos, negsuc, Bool, true, false, List, [], ◌∷◌, ◌++◌, Option, Some, None, codes, map}
 use Rattle.std.specs.Prelude.{◌≤ℤ◌}
 use Rattle.std.specs.Borrow.{Bor}
@@ -26,14 +26,14 @@ use Rattle.land_core.specs.declared.kind.Kind.TheVariants as kind
 use Rattle.land_core.specs.declared.role.Role.{Role}
 use Rattle.land_core.specs.declared.role.Role.TheVariants as role
 
--- a number that is not below 1 is that of a count
+-- a number that is not below 1 is a natural number
 pub counted : (z : ℤ) → pos 1 ≤ℤ z → (n : ℕ) × (z ≡ pos n)
 counted (pos n) h = (n, refl)
 counted (negsuc n) h = absurd h.le
 
--- ---- options beside one another
+-- ---- several options
 
--- an option that a command is told of
+-- an option of a command
 record Told : Type 0 where
   name : Text
   is_required : Bool
@@ -46,7 +46,7 @@ abbrev rule_told : Told → Rule
 rule_told o = filled (option_rule o.name o.is_required o.values)
 
 module _ (name : Text) (Passes : Text → Type 0) where
-  -- what the options of this name take passes
+  -- the values that the options with this name accept pass
   abbrev Suits : List Told → Type 0
   Suits [] = Unit {0}
   Suits (o ∷ options) = (bytes_eq o.name name ≡ true → (text : Text) → Accepts false o.values text → Passes text) × Suits options
@@ -55,7 +55,7 @@ module _ (name : Text) (Passes : Text → Type 0) where
   suits_keep [] suits = (help_keeps _, tt)
   suits_keep (o ∷ options) suits = (option_keeps name Passes o.name o.is_required o.values suits.0, suits_keep options suits.1)
 
-  -- options of other names
+  -- options with other names
   others_suit : (options : List Told) → list_any (λ o. bytes_eq o.name name) options ≡ false → Suits options
   others_suit [] e = tt
   others_suit (o ∷ options) e =
@@ -63,7 +63,7 @@ module _ (name : Text) (Passes : Text → Type 0) where
       let other = parts.0 in
       ((λ same. cc), others_suit options parts.1)
 
-  -- one option of this name among others
+  -- one option with this name among others
   one_suits : (before : List Told) (o : Told) (after : List Told) → list_any (λ o. bytes_eq o.name name) before ≡ false
       → list_any (λ o. bytes_eq o.name name) after ≡ false → ((text : Text) → Accepts false o.values text → Passes text) → Suits (before ++ o ∷ after)
   one_suits [] o after e f h = ((λ same. h), others_suit after f)
@@ -77,13 +77,13 @@ module _ (name : Text) (Passes : Text → Type 0) where
       → Each (Keeps (AllPass name Passes)) (map rule_told (before ++ o ∷ after) ++ filled help_rule ∷ [])
   one_keeps before o after e f h = suits_keep (before ++ o ∷ after) (one_suits before o after e f h)
 
--- ---- words that are chosen
+-- ---- options with a fixed set of words
 
 pub any_text : (text : Text) (words : List (Bor Text)) → list_any (λ word. bytes_eq word.now text) words ≡ list_any (λ word. bytes_eq word text) (texts words)
 any_text text [] = refl
 any_text text (word ∷ words) = ap (λ b. bytes_eq word.now text || b) (any_text text words)
 
--- one of these is spelled like the text
+-- the value is the word of one of these
 module _ {A : Type 0} (spell : A → Text) where
   spelled_so : (all : List A) (text : Text) → list_any (λ a. bytes_eq (spell a) text) all ≡ true → (a : A) × (text ≡ spell a)
   spelled_so [] text e = cc
@@ -133,7 +133,7 @@ kind_told kinds = told (codes "kind") true (parser.Names kinds)
 abbrev at_told : Told
 at_told = told (codes "at") false moments
 
--- an option that may be left out has a moment, or none
+-- an optional option has a moment, or is absent
 moment_if_any : (rows : List Row) → (first_of (codes "at") rows ≡ None) ⊎ ((text : Text) × (first_of (codes "at") rows ≡ Some text) × Accepts false moments text)
     → (at : Option ℤ) × HasMaybe rows (codes "at") (pos 0) (pos 4102444799999) at
 moment_if_any rows (inl none) = (None, none)
@@ -187,7 +187,7 @@ module _ (choices : Choices) (spelled : AreSpelled choices) (words : List Text)
       (passes_if_any (extract_built choices) no_defaults words faultless (codes "at") (Accepts false moments)
       (one_keeps (codes "at") (Accepts false moments) (file_told ∷ clock_told ∷ party_told ∷ role_told choices.roles ∷ kind_told choices.kinds ∷ []) at_told [] refl refl (λ text h. h)))
 
-  -- words of `extract` without a fault have a file, a clock, a party, a role and a kind, and a moment if any
+  -- arguments of `extract` without a fault have a file, a clock, a party, a role and a kind, and a moment if `--at` is given
   pub extract_named : (order : PlainCommand) × IsFoundAs (Some (rows_at (extract_built choices) words)) order
   extract_named =
       let clock = clock_given in

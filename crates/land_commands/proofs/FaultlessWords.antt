@@ -1,4 +1,4 @@
--- Words in which `clap` finds no fault name a command. Each command has such a lemma of its own.
+-- Arguments in which `clap` finds no fault name a command. There is one such lemma for each command.
 use Rattle.std.proofs.Common.{◌≡◌, refl, Bool, true, false, List, [], Option, Some, None, cond, is_some, option_map, codes}
 use Rattle.std.specs.Option.{option_map_or}
 use Rattle.std.specs.Str.Parse.{signed_digits_value}
@@ -18,7 +18,7 @@ use Rattle.land_commands.specs.Words.Options.{counts, moments, ports}
 use Rattle.land_commands.specs.Words.PlainCommands.{PlainCommand, to_talk, to_make, to_serve, to_check, to_migrate}
 use Rattle.land_commands.specs.declared.words.choices.Choices.{Choices}
 
--- words of `talk` without a fault have a moment for its clock
+-- arguments of `talk` without a fault have a moment for the clock
 talk_named : (words : List Text) → level_fault talk_built [] nothing_held words false [] ≡ []
     → (order : PlainCommand) × IsFoundAs (Some (rows_at talk_built words)) order
 talk_named words e =
@@ -30,7 +30,7 @@ talk_named words e =
       (rows_after talk_built.rules [] words, refl, record { text = clock.0; found = clock.1; in_range = clock.2; value = refl }),
     )
 
--- words of a command with a file alone have a text for it
+-- arguments of a command with only a file have a value for it
 file_named : (name : Text) (words : List Text) → level_fault (file_built name) [] nothing_held words false [] ≡ []
     → (file : Text) × (first_of (codes "file") (rows_after (file_built name).rules [] words) ≡ Some file)
 file_named name words e =
@@ -40,7 +40,7 @@ file_named name words e =
     (option_keeps (codes "file") (Accepts false parser.String) (codes "file") true parser.String (λ same text h. h), (help_keeps _, tt)) (given.0 refl) in
     (file.0, file.1)
 
--- words of `serve` without a fault have a file, a port and how many connections to serve
+-- arguments of `serve` without a fault have a file, a port and a number of connections
 serve_named : (words : List Text) → level_fault serve_built [] nothing_held words false [] ≡ []
     → (order : PlainCommand) × IsFoundAs (Some (rows_at serve_built words)) order
 serve_named words e =
@@ -82,12 +82,12 @@ serve_named words e =
     )
 
 module _ (choices : Choices) (spelled : AreSpelled choices) where
-  -- where a command is wanted, one is there
+  -- if a command is required, there is one
   command_wanted : (rows : List Row) (has : Bool) → check_fault (built (land_app choices)).top rows has ≡ [] → has ≡ true
   command_wanted rows true e = refl
   command_wanted rows false e = cc
 
-  -- the command whose word this is
+  -- the command with this name
   abbrev picked : (talk make serve check migrate extract : Bool) → Option Shape
   picked talk make serve check migrate extract =
       cond talk (Some talk_built)
@@ -113,7 +113,7 @@ module _ (choices : Choices) (spelled : AreSpelled choices) where
   picked_named words false false false false false true has e = extract_named choices spelled words e
   picked_named words false false false false false false has e = cc
 
-  -- the command at which the walk over the words stops
+  -- the command at which the walk over the arguments stops
   command_named : (stop : Option (Text × List Text)) → is_some (entered (built (land_app choices)) stop) ≡ true
       → entered_fault (built (land_app choices)) stop ≡ [] → (order : PlainCommand) × IsFoundAs (entered (built (land_app choices)) stop) order
   command_named None has e = cc
@@ -122,7 +122,7 @@ module _ (choices : Choices) (spelled : AreSpelled choices) where
       (answers_to q.0 (label_of serve_built)) (answers_to q.0 (label_of (file_built (codes "check"))))
       (answers_to q.0 (label_of (file_built (codes "migrate")))) (answers_to q.0 (label_of (extract_built choices))) has e
 
-  -- words without a fault name a command
+  -- arguments without a fault name a command
   pub named_by_words : (words : List Text) → fault_of (land_app choices) words ≡ [] → (order : PlainCommand) × NamesBy choices words order
   named_by_words words e =
       let a = built (land_app choices) in

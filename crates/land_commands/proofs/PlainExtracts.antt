@@ -1,4 +1,4 @@
--- Plain words of `extract`, each option once and in the order of help, name the extract that they write.
+-- Arguments of `extract` with each option once, in the order of the help text, name this extract.
 use Rattle.std.proofs.Common.{◌≡◌, ◌∙◌, ◌==◌, refl, ap, arith, ℕ, pos, true, false, List, [], ◌∷◌, ◌++◌, Some, None, codes}
 use Rattle.std.specs.List.{list_any}
 use Rattle.std.specs.Str.{bytes_eq}
@@ -38,7 +38,7 @@ kind_row = row_with (codes "kind") reading.AsWritten
 abbrev at_row : Text → Row
 at_row = row_with (codes "at") reading.WithoutMinus
 
--- ---- words that are chosen
+-- ---- options with a fixed set of words
 
 chosen_passes : (places : Places) (words : List Text) (text : Text) → texts places.now ≡ words → list_any (λ word. bytes_eq word text) words ≡ true
     → accepts false (parser.Names places) text ≡ true
@@ -77,7 +77,7 @@ plain_kind kind.Rrr = λ e. absurd (omega arith)
 plain_kind kind.Source = λ e. absurd (omega arith)
 plain_kind kind.Mutation = λ e. absurd (omega arith)
 
--- the words of an extract behind its name, whatever role and kind are written
+-- the arguments of `extract` after its name, for any words for role and kind
 abbrev extract_texts : (file clock party role kind : Text) → List Text
 extract_texts file clock party role kind =
     codes "--file" ∷ file ∷ codes "--clock" ∷ clock ∷ codes "--party" ∷ party ∷ codes "--role" ∷ role ∷ codes "--kind" ∷ kind ∷ []
@@ -85,7 +85,7 @@ extract_texts file clock party role kind =
 -- ---- the walk
 
 module _ (choices : Choices) where
-  -- a value behind the name of an option is its value, and without fault
+  -- a value after the name of an option is its value, without a fault
   record Answers (name : Text) : Type 0 where
     answers : (rows : List Row) (x : ℕ) (xs : Text) → (x == 45) ≡ false
         → walked (extract_built choices).rules [] (asked rows name) (x ∷ xs) ≡ answered rows name (x ∷ xs)
@@ -185,7 +185,7 @@ module _ (choices : Choices) where
   unfolding clap_on_literals
   at_ends file clock party role kind at accepted = record { settles = rw accepted refl; defaults = refl; checks = refl }
 
-  -- the words of the program are those of `extract` behind its name
+  -- the arguments of the program are those of `extract` after its name
   fault_below : (program file clock party role kind : Text) → fault_of (land_app choices) (program ∷ codes "extract" ∷ extract_texts file clock party role kind)
       ≡ or_else (level_fault (extract_built choices) [] nothing_held (extract_texts file clock party role kind) false []) []
   unfolding clap_on_literals
@@ -208,7 +208,7 @@ module _ (choices : Choices) where
   unfolding clap_on_literals
   rows_below_at program file clock party role kind at = refl
 
-  -- a plain value behind the name of an option leads on
+  -- after a value of an option the walk continues
   answer_on : (name : Text) → Answers name → (rows : List Row) (text : Text) (words : List Text) (end : Walk) → IsPlainText text
       → Leads (extract_built choices) (answered rows name text) words end → Leads (extract_built choices) (asked rows name) (text ∷ words) end
   answer_on name it rows [] words end plain rest = absurd plain
@@ -216,7 +216,7 @@ module _ (choices : Choices) where
       let sign = no_hyphen x plain in
       on_to (extract_built choices) _ _ _ _ _ (it.answers rows x xs sign) (it.well rows x xs sign) rest
 
-  -- texts that the options take
+  -- values that the options accept
   record AreTaken (file clock party role kind : Text) : Type 0 where
     file_plain : IsPlainText file
     clock_plain : IsPlainText clock

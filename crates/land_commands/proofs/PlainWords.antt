@@ -1,4 +1,4 @@
--- Plain words, each option once and in the order of help, name the command with what they write.
+-- Arguments with each option once, in the order of the help text, name the command with these options.
 use Rattle.std.proofs.Common.{◌≡◌, ◌≢◌, ◌∙◌, ◌≤◌, ◌<◌, ◌==◌, refl, rules, sym, ap, subst, arith, ℕ, pos, Bool, true, false, List, [], ◌∷◌, Some, None, codes, w64}
 use Rattle.std.proofs.lemmas.Bool.Decides.{nat_tests}
 use Rattle.std.specs.Prelude.{◌≤ℤ◌, FitsSigned, fold}
@@ -28,7 +28,7 @@ pub none_of_both : (a b : Kinds) → a ≡ [] → b ≡ [] → or_else a b ≡ [
 none_of_both [] b e f = f
 none_of_both (k ∷ ks) b e f = cc
 
--- behind the name of an option, its value is waited for
+-- after the name of an option, its value is expected
 abbrev pub asked : List Row → Text → Walk
 asked rows name = record {
   held = record { rows = rows; pending = Some (name, []); skip = 0 };
@@ -38,7 +38,7 @@ asked rows name = record {
   stopped = None;
 }
 
--- and then it is there
+-- and then it is present
 abbrev pub answered : List Row → Text → Text → Walk
 answered rows name value = record {
   held = record { rows = rows; pending = Some (name, value ∷ []); skip = 0 };
@@ -71,7 +71,7 @@ count_row = row_with (codes "connections") reading.WithoutMinus
 
 -- ---- walks
 
--- words without a fault lead from one place of a walk to another
+-- arguments without a fault lead from one position of a walk to another
 pub record Leads (s : Shape) (from : Walk) (words : List Text) (end : Walk) : Type 0 where
   pub well : walk_fault s [] from words ≡ []
   pub ends : fold (walked s.rules []) from words ≡ end
@@ -126,11 +126,11 @@ no_hyphen x other = go (x == 45) refl
     go true e = let same : x ≡ 45 = grind (arith, nat_tests) in absurd (other same)
     go false e = refl
 
--- such a number fits into 64 bits
+-- such a number fits in 64 bits
 fits : (n : ℕ) → n ≤ 9223372036854775807 → FitsSigned w64 (pos n)
 fits n most = omega arith
 
--- digits that write a number begin with no hyphen, are in the range, and are read as that number
+-- digits of a number do not start with a hyphen, are in the range, and are read as that number
 abbrev pub IsRead : (digits : Text) (least most number : ℕ) → Type 0
 IsRead digits least most number =
     IsPlainText digits × IsSignedIn (pos least) (pos most) digits × (signed_digits_value 10 digits ≡ pos number)
@@ -176,7 +176,7 @@ talk_ends : (digits : Text) → accepts false moments digits ≡ true → EndsWe
 unfolding clap_on_literals
 talk_ends digits accepted = record { settles = rw accepted refl; defaults = refl; checks = refl }
 
--- the words of the program are those of `talk` behind its name
+-- the arguments of the program are those of `talk` after its name
 talk_fault_below : (choices : Choices) (program digits : Text) → fault_of (land_app choices) (program ∷ codes "talk" ∷ codes "--clock" ∷ digits ∷ [])
     ≡ or_else (level_fault talk_built [] nothing_held (codes "--clock" ∷ digits ∷ []) false []) []
 unfolding clap_on_literals
@@ -203,7 +203,7 @@ plain_talk choices program (x ∷ xs) moment writes =
       );
     }
 
--- ---- commands with a file alone, of any name
+-- ---- commands with only a file, of any name
 
 file_asks : (name : Text) → walked (file_built name).rules [] (walk_from nothing_held) (codes "--file") ≡ asked [] (codes "file")
 unfolding clap_on_literals
@@ -361,7 +361,7 @@ count_answered_well : (rows : List Row) (x : ℕ) (xs : Text) → (x == 45) ≡ 
 unfolding clap_on_literals
 count_answered_well rows x xs sign = rw sign (rw sign refl)
 
--- the words of a service
+-- the arguments of `serve`
 abbrev pub service : (file port_digits count_digits : Text) → List Text
 service file port_digits count_digits =
     codes "--file" ∷ file ∷ codes "--port" ∷ port_digits ∷ codes "--connections" ∷ count_digits ∷ []

@@ -11,7 +11,7 @@ returns-in-Ok g c =
     let said : c.as_bytes.result.now ≡ sound_text o.last o.next = c.as_bytes.ensures.value ∙ c.in_ok-line.ensures ∙ ap₂ sound_text (when ∙ c.last.ensures.value) c.next.ensures.value in
     (o, c.in_ok-tables.ensures.finding, subst (λ text. Appends (g.O.Write.contents c.args.output.now) (g.O.Write.contents c.send.new.writer) text) said c.in-Ok.ensures.ok)
 
--- a front of the line is written
+-- a prefix of the line is written
 pub returns : goal.returns
 returns g c =
     let o = c.in_ok-tables.tables in

@@ -3,7 +3,7 @@ use Rattle.std.specs.Prelude.{OnOk}
 use Rattle.land_commands.proofs.Filings.{made_and_closed}
 use Rattle.land_commands.proofs.filed.create_register.Goals as goal
 
--- the register was made, and its file is closed or is not
+-- the register was created, and its file is closed or not
 pub returns-in-Ok : goal.returns-in-Ok
 returns-in-Ok g c =
     made_and_closed g.H.Store.Store (g.H.Host.holds c.args.file.now) g.H.Host.is_closed c.in-Ok.tables c.close.result (record {
@@ -13,7 +13,7 @@ returns-in-Ok g c =
       survives = c.in-Ok.ensures.crash_after;
     }) (subst (λ conn. OnOk c.close.result (g.H.Host.is_closed conn)) c.into_connection.ensures c.close.ensures.closed) c.close.ensures.fault
 
--- the store was opened, and no register was made in it
+-- the store was opened, and no register was created in it
 pub returns : goal.returns
 returns g c =
     inr (inl (record {

@@ -1,7 +1,7 @@
 use Rattle.std.proofs.Common.{inr}
 use Rattle.land_commands.proofs.filed.open_register.Goals as goal
 
--- the store was opened, and is refused
+-- the store was opened and rejected
 pub returns-clause-finding : goal.returns-clause-finding
 returns-clause-finding g c =
     inr (record {

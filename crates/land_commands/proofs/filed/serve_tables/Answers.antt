@@ -2,7 +2,7 @@ use Rattle.std.proofs.Common.{subst₂, sym}
 use Rattle.land_commands.specs.Filed.{IsServedOver}
 use Rattle.land_commands.proofs.filed.serve_tables.Goals as goal
 
--- the tables that are handed back are those of the keeper
+-- the tables returned are those of the keeper
 pub returns : goal.returns
 returns g c =
     let call = c.serve_connections-served in

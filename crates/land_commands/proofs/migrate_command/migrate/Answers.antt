@@ -6,7 +6,7 @@ use Rattle.land_commands.specs.Migrating.{migrated_text}
 use Rattle.land_commands.specs.declared.program_fault.ProgramFault.TheVariants.{NoMemory}
 use Rattle.land_commands.proofs.migrate_command.migrate.Goals as goal
 
--- there was no memory for the line
+-- out of memory for the line
 pub returns-in_err-line : goal.returns-in_err-line
 returns-in_err-line g c =
     raised_unsaid g.H.Store.Store (g.H.Host.holds c.args.file.now) g.H.Host.is_closed c.in_ok-tables.tables (g.O.Write.contents c.args.output.now) NoMemory c.from_residual-in_err-line.result
@@ -26,7 +26,7 @@ returns-in-Ok g c =
     let said : c.as_bytes.result.now ≡ migrated_text o.last o.next = c.as_bytes.ensures.value ∙ c.in_ok-line.ensures ∙ ap₂ migrated_text (when ∙ c.last.ensures.value) c.next.ensures.value in
     (o, c.in_ok-tables.ensures, subst g.H.Host.is_closed c.into_connection.ensures c.in_ok-close.ensures.closed, subst (λ text. Appends (g.O.Write.contents c.args.output.now) (g.O.Write.contents c.send.new.writer) text) said c.in-Ok.ensures.ok)
 
--- a front of the line is written
+-- a prefix of the line is written
 pub returns : goal.returns
 returns g c =
     let o = c.in_ok-tables.tables in

@@ -1,7 +1,7 @@
 use Rattle.std.proofs.Common.{inr}
 use Rattle.land_commands.proofs.migrate_command.open_migrated.Goals as goal
 
--- the store was opened, and is migrated
+-- the store was opened and migrated
 pub returns-in-Ok : goal.returns-in-Ok
 returns-in-Ok g c = record {
   was = c.in_ok-conn.conn;
@@ -10,7 +10,7 @@ returns-in-Ok g c = record {
   survives = c.in-Ok.ensures.crash_after;
 }
 
--- the store was opened, and is refused
+-- the store was opened and rejected
 pub returns : goal.returns
 returns g c =
     inr (record {

@@ -5,7 +5,7 @@ use Rattle.land_commands.specs.Words.PlainCommands.{order_of}
 use Rattle.land_commands.specs.declared.words.command.Command.{Command}
 use Rattle.land_commands.proofs.run.run_command.Goals as goal
 
--- the extract is written, or it is told why it is not
+-- the extract is written, or the error is reported
 pub returns-in-Extract : goal.returns-in-Extract
 returns-in-Extract g c =
     let S = g.H.Store.Store in

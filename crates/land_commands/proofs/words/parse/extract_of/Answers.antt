@@ -8,7 +8,7 @@ use Rattle.land_core.specs.declared.kind.Kind.{Kind}
 use Rattle.land_core.specs.declared.role.Role.{Role}
 use Rattle.land_commands.proofs.words.parse.extract_of.Goals as goal
 
--- the options of no extract are there
+-- the options of an extract are missing
 abbrev Lacks : List Row → Type 0
 Lacks rows = (file : List ℕ) (clock : ℤ) (party : ℕ) (role : Role) (kind : Kind) (at : Option ℤ) → HasOptions rows (to_extract file clock party role kind at) → ⊥
 

@@ -12,7 +12,7 @@ first_code (x ∷ xs) = x
 unlike : (code : ℕ) → code ≡ 99 → code ≡ 115 → ⊥
 unlike code e f = absurd (omega (arith, e, f))
 
--- no service is named where there is no port
+-- without a port no service is named
 portless : (rows : List Row) (port : Option ℕ) → IsNumberOf rows (codes "port") (pos 1) (pos 65535) (option_map pos port) → port ≡ None
     → IsOrderOf (codes "serve") rows None
 portless rows None none e (to_serve file port connections) word has = none (pos port) has.1
@@ -23,7 +23,7 @@ portless rows None none e (to_migrate file) word has = cc
 portless rows None none e (to_extract file clock party role kind at) word has = cc
 portless rows (Some port) some e order word has = cc
 
--- nor where it is not said how many connections to serve
+-- nor without a number of connections
 countless : (rows : List Row) (count : Option ℕ) → IsNumberOf rows (codes "connections") (pos 1) (pos 1000000) (option_map pos count) → count ≡ None
     → IsOrderOf (codes "serve") rows None
 countless rows None none e (to_serve file port connections) word has = none (pos connections) has.2
