@@ -108,7 +108,7 @@ module _ (s : Shape) (words : List Text) (end : Walk) (leads : Leads s (walk_fro
 
 -- ---- texts and numbers
 
--- a digit is no sign
+-- a digit is not a sign
 no_sign : (sign x : ℕ) → 36 ≤ digit_value sign → digit_value x < 10 → (x == sign) ≡ false
 no_sign sign x other digit = go (x == sign) refl
   where

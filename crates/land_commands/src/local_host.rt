@@ -42,7 +42,7 @@ impl<'a> LocalHost<'a> {
 /// The content of a file, as far as its size and first bytes show.
 #[derive(Clone, Copy, Debug, PartialEq, Eq)]
 enum FileKind {
-    /// There is no file, or its metadata cannot be read.
+    /// The file does not exist, or its metadata cannot be read.
     Nothing,
     /// An empty file.
     Empty,

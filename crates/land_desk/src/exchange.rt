@@ -29,7 +29,7 @@ use std::alloc::Global;
 pub enum AnswerBytes {
     /// Built for this reply.
     Owned(Vec<u8>),
-    /// A constant, for a store fault: it needs no memory.
+    /// A constant, for a store fault. Not allocated.
     Static(&'static [u8]),
 }
 
@@ -56,7 +56,7 @@ pub struct Response {
 
 /// Handles a parsed request, or replies with the fault that parsing found.
 ///
-/// If there is no memory for the response, replies 501 and changes nothing. `ends`: the client or the item
+/// If out of memory for the response, replies 501 and changes nothing. `ends`: the client or the item
 /// closes the connection. `head`: the method is HEAD, so the response has no body.
 pub fn handle<K: Keeper, C: Clock>(
     alloc: Global,

@@ -125,8 +125,8 @@ pub const STEPS: &[Row] = &[
 ];
 
 /// More steps after these: the orchard is merged into the garden, which is burdened for a while. The group
-/// gets another member, and Nora is no longer a notary. The bank lodges a discharge of its mortgage, which is
-/// refused, and another.
+/// gets another member, and Nora loses the role of a notary. The bank lodges a discharge of its mortgage,
+/// which is refused, and another.
 pub const MORE: &[Row] = &[
     Row(
         "POST /acts/merger",

@@ -9,7 +9,7 @@ use Rattle.land_commands.specs.Words.Options.{at_rule, clock_rule, connections_r
 use Rattle.land_commands.specs.Words.Options.{party_rule, port_rule, role_rule}
 use Rattle.land_commands.specs.declared.words.choices.Choices.{Choices}
 
--- One of the subcommands is required, and there is no subcommand `help`.
+-- One of the subcommands is required, and `help` is not one of them.
 abbrev pub of_commands : App → App
 of_commands = on_top (λ top. record top { subcommand_required = true; disable_help_subcommand = true })
 

@@ -48,7 +48,7 @@ fn clap_fault(alloc: Global, error: &Error) -> WordsFault
     }
 }
 
-/// Reads the command and its options. `None`: there is no such command, or an option is not valid.
+/// Reads the command and its options. `None`: the command is unknown, or an option is not valid.
 fn named_command<'a>(found: &ArgMatches<'a>) -> Option<Command<'a>>
     ensures { IsNamedIn (subcommand_rows_of found.now) (option_map order_of result) }
 {

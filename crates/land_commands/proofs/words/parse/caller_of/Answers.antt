@@ -4,7 +4,7 @@ use Rattle.land_commands.specs.Words.Names.{IsCallerOf, IsNumberOf}
 use Rattle.land_core.specs.declared.caller.Caller.{Caller}
 use Rattle.land_commands.proofs.words.parse.caller_of.Goals as goal
 
--- without a party there is no caller
+-- without a party the caller is unknown
 partyless : (rows : List Row) (party : Option ℕ) → IsNumberOf rows (codes "party") (pos 1) (pos 1000000000) (option_map pos party) → party ≡ None
     → IsCallerOf rows None
 partyless rows None none e party role has = none (pos party) has.0
