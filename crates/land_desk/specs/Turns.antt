@@ -77,12 +77,12 @@ IsSpent could can bytes rest = (gone : List ℕ) × (bytes ≡ gone ++ rest) × 
 -- ---- reading no more than the item requires, and within the budget
 
 -- Nothing was read that the item did not require, if the buffer had at most a chunk of 1024 bytes before.
--- `unread` and `left`: the bytes in the reader before and after.
-abbrev pub ReadsOnlyItem : (buffer new : List ℕ) → (unread left : Option (List ℕ)) → Result Turn DeskFault
+-- `input` and `left`: the bytes in the reader before and after.
+abbrev pub ReadsOnlyItem : (buffer new : List ℕ) → (input left : Option (List ℕ)) → Result Turn DeskFault
     → Type 0
-ReadsOnlyItem buffer new unread left result =
+ReadsOnlyItem buffer new input left result =
     length buffer ≤ 1024
-    → IfBoth (prepend_known buffer unread) left (λ bytes rest. IsAsked bytes new rest result)
+    → IfBoth (prepend_known buffer input) left (λ bytes rest. IsAsked bytes new rest result)
 
 -- The bytes that can still be obtained: those of the buffer, and 1024 for each call of the reader that is
 -- left.
@@ -90,10 +90,10 @@ abbrev pub obtainable : (buffer : List ℕ) → (calls : ℕ) → ℕ
 obtainable buffer calls = length buffer + 1024 * calls
 
 -- What was consumed counts against the budget of calls of the reader.
-abbrev pub StaysWithinBudget : (buffer new : List ℕ) → (unread left : Option (List ℕ)) → (calls rest : ℕ)
+abbrev pub StaysWithinBudget : (buffer new : List ℕ) → (input left : Option (List ℕ)) → (calls rest : ℕ)
     → Type 0
-StaysWithinBudget buffer new unread left calls rest =
-    IfBoth (prepend_known buffer unread) (prepend_known new left)
+StaysWithinBudget buffer new input left calls rest =
+    IfBoth (prepend_known buffer input) (prepend_known new left)
     (IsSpent (obtainable buffer calls) (obtainable new rest))
 
 -- If the connection stays open, fewer bytes can be obtained than before.
