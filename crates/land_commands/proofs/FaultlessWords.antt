@@ -8,7 +8,7 @@ use Rattle.clap.specs.Values.{Accepts}
 use Rattle.clap.specs.Walk.{Row, Text, answers_to, finished, first_of, nothing_held, rows_after, settled, stop_after, walk, walk_from}
 use Rattle.clap.specs.declared.builder.value_parser.ValueParser.TheVariants as parser
 use Rattle.land_commands.proofs.BuiltCommands.{extract_built, file_built, serve_built, talk_built}
-use Rattle.land_commands.proofs.FaultlessExtract.{counted, extract_named}
+use Rattle.land_commands.proofs.FaultlessExtract.{count_of, extract_named}
 use Rattle.land_commands.proofs.GivenOptions.{Each, HasNoDefault, given_passes, help_keeps, option_keeps, required_given}
 use Rattle.land_commands.proofs.WalkKeeps.{both_none}
 use Rattle.land_commands.specs.Words.Choices.{AreSpelled}
@@ -67,8 +67,8 @@ serve_named words e =
         (option_keeps (codes "connections") (Accepts false counts) (codes "connections") true counts (λ same text h. h), (help_keeps _, tt)),
       ),
     ) (given.1.1.0 refl) in
-    let at_port = counted (signed_digits_value 10 port.0) port.2.2 in
-    let in_all = counted (signed_digits_value 10 count.0) count.2.2 in (
+    let at_port = count_of (signed_digits_value 10 port.0) port.2.2 in
+    let in_all = count_of (signed_digits_value 10 count.0) count.2.2 in (
       to_serve file.0 at_port.0 in_all.0,
       (
         rows_after serve_built.rules [] words,
@@ -88,17 +88,17 @@ module _ (choices : Choices) (spelled : AreSpelled choices) where
   command_wanted rows false e = cc
 
   -- the command with this name
-  abbrev picked : (talk make serve check migrate extract : Bool) → Option Shape
-  picked talk make serve check migrate extract =
+  abbrev shape_of : (talk make serve check migrate extract : Bool) → Option Shape
+  shape_of talk make serve check migrate extract =
       cond talk (Some talk_built)
       (cond make (Some (file_built (codes "new")))
       (cond serve (Some serve_built)
       (cond check (Some (file_built (codes "check"))) (cond migrate (Some (file_built (codes "migrate"))) (cond extract (Some (extract_built choices)) None)))))
 
   picked_named : (words : List Text) (talk make serve check migrate extract : Bool)
-      → is_some (option_map (λ s. rows_at s words) (picked talk make serve check migrate extract)) ≡ true
-      → option_map_or (λ s. level_fault s [] nothing_held words false []) (picked talk make serve check migrate extract) [] ≡ []
-      → (order : PlainCommand) × IsFoundAs (option_map (λ s. rows_at s words) (picked talk make serve check migrate extract)) order
+      → is_some (option_map (λ s. rows_at s words) (shape_of talk make serve check migrate extract)) ≡ true
+      → option_map_or (λ s. level_fault s [] nothing_held words false []) (shape_of talk make serve check migrate extract) [] ≡ []
+      → (order : PlainCommand) × IsFoundAs (option_map (λ s. rows_at s words) (shape_of talk make serve check migrate extract)) order
   picked_named words true make serve check migrate extract has e = talk_named words e
   picked_named words false true serve check migrate extract has e =
       let file = file_named (codes "new") words e in

@@ -60,9 +60,9 @@ pub help_keeps : (Good : List Row → Type 0) → Keeps Good (filled help_rule)
 help_keeps Good again values rows e h = absurd (no_help again values rows e)
 
 -- without default values the rows are unchanged
-undefaulted : (rules : List Rule) (rows : List Row) → Each HasNoDefault rules → fold with_default rows rules ≡ rows
-undefaulted [] rows none = refl
-undefaulted (a ∷ rules) rows none = ap (λ r. fold with_default r rules) (no_default rows a none.0) ∙ undefaulted rules rows none.1
+defaults_unchanged : (rules : List Rule) (rows : List Row) → Each HasNoDefault rules → fold with_default rows rules ≡ rows
+defaults_unchanged [] rows none = refl
+defaults_unchanged (a ∷ rules) rows none = ap (λ r. fold with_default r rules) (no_default rows a none.0) ∙ defaults_unchanged rules rows none.1
 
 given_where : (required given : Bool) → (required && not given) ≡ false → required ≡ true → given ≡ true
 given_where true true e r = refl
@@ -100,7 +100,7 @@ module _ (s : Shape) (none : Each HasNoDefault s.rules) (words : List Text) (fau
       let settles = both_none (settle_fault s.rules s.args_override_self end) _ walked.1 in
       let kept = walk_keeps s (AllPass name Passes) keeps [] (walk_from nothing_held) words walked.0 tt in
       let settled_kept = settle_keeps s (AllPass name Passes) keeps s.args_override_self end settles.0 kept in
-      subst (AllPass name Passes) (sym (undefaulted s.rules (settled s.rules end).rows none)) settled_kept
+      subst (AllPass name Passes) (sym (defaults_unchanged s.rules (settled s.rules end).rows none)) settled_kept
     where
       keeps : (p : Rule → Bool) (a : Rule) → find p s.rules ≡ Some a → Keeps (AllPass name Passes) a
       keeps p a found = each_found (Keeps (AllPass name Passes)) p s.rules a each found

@@ -50,9 +50,9 @@ front_gone (Some bytes) (Some rest) buffer new n could can keeps bound is =
     )
 
 -- nothing is consumed yet
-pub unspent : (known : Option (List ℕ)) (buffer : List ℕ) (can : ℕ) → buffer ≡ [] → IfBoth known (prepend_known buffer known) (IsSpent can (length buffer + can))
-unspent None buffer can none = tt
-unspent (Some bytes) buffer can none = ([], sym (ap (λ (t : List ℕ). t ++ bytes) none), omega (arith, ap length none))
+pub spends_nothing : (known : Option (List ℕ)) (buffer : List ℕ) (can : ℕ) → buffer ≡ [] → IfBoth known (prepend_known buffer known) (IsSpent can (length buffer + can))
+spends_nothing None buffer can none = tt
+spends_nothing (Some bytes) buffer can none = ([], sym (ap (λ (t : List ℕ). t ++ bytes) none), omega (arith, ap length none))
 
 pub spent_on : (start before after : Option (List ℕ)) (a b c : ℕ) → IfBoth start before (IsSpent a b) → IfBoth before after (IsSpent b c) → IfBoth start after (IsSpent a c)
 spent_on None before after a b c so next = tt
@@ -87,11 +87,11 @@ none_behind : (buffer rest : List ℕ) → buffer ++ rest ≡ [] → rest ≡ []
 none_behind buffer rest e = nil_from_length rest (omega (arith, length-append buffer rest, ap length e))
 
 -- the input ended
-pub end_asked : (start left : Option (List ℕ)) (buffer : List ℕ) (fr : Front) → fr ≡ front.End → Keeps start (prepend_known buffer left)
+pub eof_reads : (start left : Option (List ℕ)) (buffer : List ℕ) (fr : Front) → fr ≡ front.End → Keeps start (prepend_known buffer left)
     → IfSome (prepend_known buffer left) (λ s. IsFrontOf s fr) → IfBoth start left (λ bytes rest. IsAsked bytes buffer rest (Ok turn.Eof))
-end_asked None left buffer fr is keeps item = tt
-end_asked (Some bytes) None buffer fr is keeps item = absurd keeps
-end_asked (Some bytes) (Some rest) buffer fr is keeps item =
+eof_reads None left buffer fr is keeps item = tt
+eof_reads (Some bytes) None buffer fr is keeps item = absurd keeps
+eof_reads (Some bytes) (Some rest) buffer fr is keeps item =
     let none = subst (λ (x : Front). IsFrontOf (buffer ++ rest) x) is item in
     (sym keeps ∙ none, none_behind buffer rest none)
 
@@ -102,12 +102,12 @@ after_item bytes buffer left text true u v (Ok t) asks short wrote = subst (λ (
 after_item bytes buffer left text false u v (Ok t) asks short wrote = subst (λ (t : Turn). IsAsked bytes buffer left (Ok t)) (sym wrote.0) (short refl)
 after_item bytes buffer left text close_after u v (Err e) asks short wrote = tt
 
-pub fault_asked : (start left u v : Option (List ℕ)) (buffer text : List ℕ) (fr : Front) (f : FrameFault) (close_after : Bool) (result : Result Turn DeskFault)
+pub fault_reads : (start left u v : Option (List ℕ)) (buffer text : List ℕ) (fr : Front) (f : FrameFault) (close_after : Bool) (result : Result Turn DeskFault)
     → fr ≡ front.Fault f → Keeps start (prepend_known buffer left) → IfSome (prepend_known buffer left) (λ s. IsFrontOf s fr) → IsReadFor buffer fr
     → close_after ≡ true → IsWritten text close_after u v result → IfBoth start left (λ bytes rest. IsAsked bytes buffer rest result)
-fault_asked None left u v buffer text fr f close_after result is keeps item read ends wrote = tt
-fault_asked (Some bytes) None u v buffer text fr f close_after result is keeps item read ends wrote = absurd keeps
-fault_asked (Some bytes) (Some rest) u v buffer text fr f close_after result is keeps item read ends wrote =
+fault_reads None left u v buffer text fr f close_after result is keeps item read ends wrote = tt
+fault_reads (Some bytes) None u v buffer text fr f close_after result is keeps item read ends wrote = absurd keeps
+fault_reads (Some bytes) (Some rest) u v buffer text fr f close_after result is keeps item read ends wrote =
     let here = subst (λ (x : Front). IsFrontOf (buffer ++ rest) x) is item in
     let much = subst (λ (x : Front). IsReadFor buffer x) is read in
     let asks : IsAskedFor (buffer ++ rest) (faulty f) [] rest = elim much as (λ _. IsAskedFor (buffer ++ rest) (faulty f) [] rest) [
@@ -127,13 +127,13 @@ request_one buffer rest spans n item inside short = (
   (drop (spans.len + n) buffer, drop-append-le (spans.len + n) buffer rest inside, omega (arith, short, length-drop (spans.len + n) buffer)),
 )
 
-pub request_asked : (start left u v : Option (List ℕ)) (buffer new text : List ℕ) (headers : List HeaderSpan) (fr : Front) (spans : RequestSpans) (n : ℕ) (close_after : Bool)
+pub request_reads : (start left u v : Option (List ℕ)) (buffer new text : List ℕ) (headers : List HeaderSpan) (fr : Front) (spans : RequestSpans) (n : ℕ) (close_after : Bool)
     (result : Result Turn DeskFault) → fr ≡ front.Request spans n → Keeps start (prepend_known buffer left) → IfSome (prepend_known buffer left) (λ s. IsFrontOf s fr)
     → IsFrontIn buffer headers fr → IsReadFor buffer fr → new ≡ drop (spans.len + n) buffer → IsWritten text close_after u v result
     → IfBoth start left (λ bytes rest. IsAsked bytes new rest result)
-request_asked None left u v buffer new text headers fr spans n close_after result is keeps item at read gone wrote = tt
-request_asked (Some bytes) None u v buffer new text headers fr spans n close_after result is keeps item at read gone wrote = absurd keeps
-request_asked (Some bytes) (Some rest) u v buffer new text headers fr spans n close_after result is keeps item at read gone wrote =
+request_reads None left u v buffer new text headers fr spans n close_after result is keeps item at read gone wrote = tt
+request_reads (Some bytes) None u v buffer new text headers fr spans n close_after result is keeps item at read gone wrote = absurd keeps
+request_reads (Some bytes) (Some rest) u v buffer new text headers fr spans n close_after result is keeps item at read gone wrote =
     let here = subst (λ (x : Front). IsFrontOf (buffer ++ rest) x) is item in
     let inside = subst (λ (x : Front). IsFrontIn buffer headers x) is at in
     let much = subst (λ (x : Front). IsReadFor buffer x) is read in
@@ -143,10 +143,10 @@ request_asked (Some bytes) (Some rest) u v buffer new text headers fr spans n cl
 -- ---- reading for all items
 
 module _ {C : Type 0} (hears : State C → Request → Reply → State C → Type 0) where
-  begun : (bytes : List ℕ) (from : State C) (xs : List Exchange) (rest : List ℕ) (now : State C) → ServesPrefix hears bytes from xs rest now
+  items_begin : (bytes : List ℕ) (from : State C) (xs : List Exchange) (rest : List ℕ) (now : State C) → ServesPrefix hears bytes from xs rest now
       → BeginsWith bytes (map (λ x. x.item) xs) rest
-  begun bytes from [] rest now so = so.0
-  begun bytes from (x ∷ xs) rest now so = (so.0, so.2.0, begun so.0 so.1 xs rest now so.4)
+  items_begin bytes from [] rest now so = so.0
+  items_begin bytes from (x ∷ xs) rest now so = (so.0, so.2.0, items_begin so.0 so.1 xs rest now so.4)
 
   -- nothing remains after the last request
   none_after : (item : Item) (closed : Bool) (bytes mid left : List ℕ) → (is_last item || closed) ≡ false → mid ≡ [] → left ≡ []
@@ -163,10 +163,10 @@ module _ {C : Type 0} (hears : State C → Request → Reply → State C → Typ
       let more = last_asked so.0 left so.1 y ys rest now so.4 none all in
       (x.item ∷ more.0, more.1, (so.0, so.2.0, more.2), omega (arith, more.3), more.4)
 
-  ended : (bytes left : List ℕ) (from : State C) (xs : List Exchange) (rest : List ℕ) (now : State C) (n : ℕ)
+  reads_to_end : (bytes left : List ℕ) (from : State C) (xs : List Exchange) (rest : List ℕ) (now : State C) (n : ℕ)
       → ServesPrefix hears bytes from xs rest now → rest ≡ [] → left ≡ [] → length xs ≡ n → AsksFor n bytes left
-  ended bytes left from [] rest now n so none all count = inl (sym count, all)
-  ended bytes left from (x ∷ xs) rest now n so none all count =
+  reads_to_end bytes left from [] rest now n so none all count = inl (sym count, all)
+  reads_to_end bytes left from (x ∷ xs) rest now n so none all count =
       let it = last_asked bytes left from x xs rest now so none all in
       inr (it.0, it.1, it.2, omega (arith, it.3, count), it.4)
 
@@ -182,7 +182,7 @@ module _ {C : Type 0} (hears : State C → Request → Reply → State C → Typ
     asked_to_end (Some bytes) (Some rest) None w u old new n t is so short asked = absurd (asked short)
     asked_to_end (Some bytes) (Some rest) (Some after) w u old new n t is so short asked =
         let one = subst (λ (r : Turn). IsAsked rest new after (Ok r)) is (asked short) in
-        ended bytes after from so.1.0 rest so.0 n so.1.1 one.0 one.1 so.1.3
+        reads_to_end bytes after from so.1.0 rest so.0 n so.1.1 one.0 one.1 so.1.3
 
     -- the connection closed
     pub asked_to_last : (start before left w u : Option (List ℕ)) (old new : List ℕ) (n : ℕ) (t : Turn) → t ≡ turn.Close
@@ -196,7 +196,7 @@ module _ {C : Type 0} (hears : State C → Request → Reply → State C → Typ
     asked_to_last (Some bytes) (Some rest) (Some after) w u old new n t is so short asked =
         let one = subst (λ (r : Turn). IsAsked rest new after (Ok r)) is (asked short) in
         let items = map (λ (x : Exchange). x.item) so.1.0 in
-        inr (items, rest, begun bytes from so.1.0 rest so.0 so.1.1, omega (arith, so.1.3, length-map so.1.0 (λ (x : Exchange). x.item)), one)
+        inr (items, rest, items_begin bytes from so.1.0 rest so.0 so.1.1, omega (arith, so.1.3, length-map so.1.0 (λ (x : Exchange). x.item)), one)
 
 -- less than 1024 bytes are read ahead if the connection stays open
 pub kept_short : (start before left : Option (List ℕ)) (old new : List ℕ) (t : Turn) → t ≡ turn.KeepAlive → IfBoth start before (λ bytes rest. length old ≤ 1024)

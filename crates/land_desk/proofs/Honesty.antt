@@ -20,14 +20,14 @@ use Rattle.land_wire.specs.Reading.{reading}
 use Rattle.land_wire_json.specs.declared.bodies.wire_fault.WireFault.{WireFault}
 
 -- a condition that assumes an honest store holds if the store is honest later
-pub heard_later : {C : Type 0} (reads : C → ℤ → C → Type 0) (honest later : Type 0) → (later → honest)
+pub step_later : {C : Type 0} (reads : C → ℤ → C → Type 0) (honest later : Type 0) → (later → honest)
     → (from : State C) (asked : Request) (r : Reply) (to : State C) → HearsIf honest reads from asked r to → HearsIf later reads from asked r to
-heard_later reads honest later was from asked r to h = (h.0, h.1, h.2, λ trust. h.3 (was trust))
+step_later reads honest later was from asked r to h = (h.0, h.1, h.2, λ trust. h.3 (was trust))
 
 -- a transition on an honest store is an element of a run
-heard_honestly : {C : Type 0} (reads : C → ℤ → C → Type 0) (honest : Type 0) → honest
+step_honestly : {C : Type 0} (reads : C → ℤ → C → Type 0) (honest : Type 0) → honest
     → (from : State C) (asked : Request) (r : Reply) (to : State C) → HearsIf honest reads from asked r to → Hears reads from asked r to
-heard_honestly reads honest trust from asked r to h = (h.0, h.1, h.3 trust)
+step_honestly reads honest trust from asked r to h = (h.0, h.1, h.3 trust)
 
 -- ---- weaker transitions
 
@@ -118,4 +118,4 @@ pub serves_honestly : {C : Type 0} (reads : C → ℤ → C → Type 0) (honest 
     → (bytes : List ℕ) (from to : State C) (old new : Option (List ℕ)) (result : Result Served DeskFault)
     → Serves (HearsIf honest reads) bytes from to old new result → IsServing reads bytes from to old new result
 serves_honestly reads honest trust bytes from to old new result s =
-    serves_later (HearsIf honest reads) (Hears reads) (heard_honestly reads honest trust) bytes from to old new result s
+    serves_later (HearsIf honest reads) (Hears reads) (step_honestly reads honest trust) bytes from to old new result s

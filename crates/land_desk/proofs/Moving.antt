@@ -17,17 +17,17 @@ module _ {C : Type 0} (hears : State C → Request → Reply → State C → Typ
   told_heard (Ok asked) from r to (inl none) = inl none.1
   told_heard (Ok asked) from r to (inr heard) = inr (asked, r, heard)
 
-  answer_heard : (from : State C) (item : Item) (r : Reply) (to : State C) → RepliesTo hears from item r to → MayHear hears from to
-  answer_heard from (request h body) r to is = told_heard (reading h.method h.target (field_map (fields_of h)) body) from r to is
-  answer_heard from (faulty f) r to is = inl is.1
+  reply_steps : (from : State C) (item : Item) (r : Reply) (to : State C) → RepliesTo hears from item r to → MayHear hears from to
+  reply_steps from (request h body) r to is = told_heard (reading h.method h.target (field_map (fields_of h)) body) from r to is
+  reply_steps from (faulty f) r to is = inl is.1
 
   -- an answered item is a request that caused a transition, or changes nothing
-  pub one_heard : (bytes : List ℕ) (from : State C) (x : Exchange) (rest : List ℕ) (to : State C) → ServesItem hears bytes from x rest to → MayHear hears from to
-  one_heard bytes from x rest to one = answer_heard from x.item x.reply to one.1
+  pub one_step : (bytes : List ℕ) (from : State C) (x : Exchange) (rest : List ℕ) (to : State C) → ServesItem hears bytes from x rest to → MayHear hears from to
+  one_step bytes from x rest to one = reply_steps from x.item x.reply to one.1
 
   -- no transition
-  pub unmoved : (from : State C) → Reachable hears from from
-  unmoved from = ([], [], refl)
+  pub reach_self : (from : State C) → Reachable hears from from
+  reach_self from = ([], [], refl)
 
   heard_last : (from : State C) (requests : List Request) (replies : List Reply) (now : State C) (asked : Request) (r : Reply) (to : State C)
       → HearsAll hears from requests replies now → hears now asked r to → HearsAll hears from (requests ++ asked ∷ []) (replies ++ r ∷ []) to
@@ -36,9 +36,9 @@ module _ {C : Type 0} (hears : State C → Request → Reply → State C → Typ
   heard_last from [] (a ∷ replies) now asked r to all heard = absurd all
   heard_last from (q ∷ requests) [] now asked r to all heard = absurd all
 
-  moved : (from now to : State C) → Reachable hears from now → MayHear hears now to → Reachable hears from to
-  moved from now to so (inl same) = subst (λ (s : State C). Reachable hears from s) (sym same) so
-  moved from now to so (inr heard) =
+  reach_next : (from now to : State C) → Reachable hears from now → MayHear hears now to → Reachable hears from to
+  reach_next from now to so (inl same) = subst (λ (s : State C). Reachable hears from s) (sym same) so
+  reach_next from now to so (inr heard) =
       (so.0 ++ heard.0 ∷ [], so.1 ++ heard.1 ∷ [], heard_last from so.0 so.1 now heard.0 heard.1 to so.2 heard.2)
 
 module _ {C : Type 0} (hears later : State C → Request → Reply → State C → Type 0)
@@ -56,4 +56,4 @@ module _ {C : Type 0} (hears later : State C → Request → Reply → State C �
   pub moves_on : (stood stands : State C → Type 0) (from : State C) → MovesTo hears from stood → ForwardSimulation stood stands (MayHear later) → MovesTo later from stands
   moves_on stood stands from so brings =
       let next = brings so.0 so.2 in
-      (next.0, moved later from so.0 next.0 (moves_later from so.0 so.1) next.1, next.2)
+      (next.0, reach_next later from so.0 next.0 (moves_later from so.0 so.1) next.1, next.2)

@@ -52,43 +52,43 @@ module _ {C : Type 0} (hears : State C → Request → Reply → State C → Typ
   if_map (Some bytes) P Q next holds = next bytes holds
 
   -- a prefix of a response was written
-  told_cut : (bytes rest : List ℕ) (from to : State C) (a : Response) (left u v : Option (List ℕ)) (n : ℕ)
+  sends_part : (bytes rest : List ℕ) (from to : State C) (a : Response) (left u v : Option (List ℕ)) (n : ℕ)
       → Spoken hears bytes from a rest to → Appends u v (take n (answer_bytes a.bytes)) → IsTurn hears bytes from to left u v (Err desk.Write)
-  told_cut bytes rest from to a left u v n it wrote = (it.0, rest, n, it.1, subst (λ (t : List ℕ). Appends u v (take n t)) (sym it.2) wrote)
+  sends_part bytes rest from to a left u v n it wrote = (it.0, rest, n, it.1, subst (λ (t : List ℕ). Appends u v (take n t)) (sym it.2) wrote)
 
-  told_last : (bytes rest : List ℕ) (from to : State C) (a : Response) (left u v : Option (List ℕ)) → a.close_after ≡ true
+  closes_after : (bytes rest : List ℕ) (from to : State C) (a : Response) (left u v : Option (List ℕ)) → a.close_after ≡ true
       → Spoken hears bytes from a rest to → Appends u v (answer_bytes a.bytes) → IsTurn hears bytes from to left u v (Ok turn.Close)
-  told_last bytes rest from to a left u v close_after it wrote =
+  closes_after bytes rest from to a left u v close_after it wrote =
       (it.0, rest, it.1, it.3 ∙ close_after, subst (λ (t : List ℕ). Appends u v t) (sym it.2) wrote)
 
-  told_more : (bytes rest : List ℕ) (from to : State C) (a : Response) (left u v : Option (List ℕ)) → a.close_after ≡ false → left ≡ Some rest
+  stays_open : (bytes rest : List ℕ) (from to : State C) (a : Response) (left u v : Option (List ℕ)) → a.close_after ≡ false → left ≡ Some rest
       → Spoken hears bytes from a rest to → Appends u v (answer_bytes a.bytes) → IsTurn hears bytes from to left u v (Ok turn.KeepAlive)
-  told_more bytes rest from to a left u v close_after is it wrote =
+  stays_open bytes rest from to a left u v close_after is it wrote =
       (it.0, rest, it.1, it.3 ∙ close_after, subst (λ (t : List ℕ). Appends u v t) (sym it.2) wrote, is)
 
   -- a response was written, and the connection closes or not, as it says
-  told_well : (bytes rest : List ℕ) (from to : State C) (a : Response) (left u v : Option (List ℕ)) (close_after : Bool) → a.close_after ≡ close_after → left ≡ Some rest
+  sends_all : (bytes rest : List ℕ) (from to : State C) (a : Response) (left u v : Option (List ℕ)) (close_after : Bool) → a.close_after ≡ close_after → left ≡ Some rest
       → Spoken hears bytes from a rest to → Appends u v (answer_bytes a.bytes) → IsTurn hears bytes from to left u v (Ok (turn_after close_after))
-  told_well bytes rest from to a left u v true close_after is it wrote = told_last bytes rest from to a left u v close_after it wrote
-  told_well bytes rest from to a left u v false close_after is it wrote = told_more bytes rest from to a left u v close_after is it wrote
+  sends_all bytes rest from to a left u v true close_after is it wrote = closes_after bytes rest from to a left u v close_after it wrote
+  sends_all bytes rest from to a left u v false close_after is it wrote = stays_open bytes rest from to a left u v close_after is it wrote
 
-  told_so : (bytes rest : List ℕ) (from to : State C) (a : Response) (left u v : Option (List ℕ)) (result : Result Turn DeskFault) → left ≡ Some rest
+  serves_response : (bytes rest : List ℕ) (from to : State C) (a : Response) (left u v : Option (List ℕ)) (result : Result Turn DeskFault) → left ≡ Some rest
       → Spoken hears bytes from a rest to → IsWritten (answer_bytes a.bytes) a.close_after u v result → IsTurn hears bytes from to left u v result
-  told_so bytes rest from to a left u v (Ok t) is it wrote =
-      subst (λ (t : Turn). IsTurn hears bytes from to left u v (Ok t)) (sym wrote.0) (told_well bytes rest from to a left u v a.close_after refl is it wrote.1)
-  told_so bytes rest from to a left u v (Err desk.Write) is it wrote = told_cut bytes rest from to a left u v wrote.0 it wrote.1
-  told_so bytes rest from to a left u v (Err desk.Read) is it wrote = absurd wrote
-  told_so bytes rest from to a left u v (Err desk.NoMemory) is it wrote = absurd wrote
+  serves_response bytes rest from to a left u v (Ok t) is it wrote =
+      subst (λ (t : Turn). IsTurn hears bytes from to left u v (Ok t)) (sym wrote.0) (sends_all bytes rest from to a left u v a.close_after refl is it wrote.1)
+  serves_response bytes rest from to a left u v (Err desk.Write) is it wrote = sends_part bytes rest from to a left u v wrote.0 it wrote.1
+  serves_response bytes rest from to a left u v (Err desk.Read) is it wrote = absurd wrote
+  serves_response bytes rest from to a left u v (Err desk.NoMemory) is it wrote = absurd wrote
 
   -- if the connection closes, nothing is required of the remaining bytes
-  told_at_end : (bytes rest : List ℕ) (from to : State C) (a : Response) (left u v : Option (List ℕ)) (result : Result Turn DeskFault) → a.close_after ≡ true
+  serves_at_end : (bytes rest : List ℕ) (from to : State C) (a : Response) (left u v : Option (List ℕ)) (result : Result Turn DeskFault) → a.close_after ≡ true
       → Spoken hears bytes from a rest to → IsWritten (answer_bytes a.bytes) a.close_after u v result → IsTurn hears bytes from to left u v result
-  told_at_end bytes rest from to a left u v (Ok t) close_after it wrote =
+  serves_at_end bytes rest from to a left u v (Ok t) close_after it wrote =
       subst (λ (t : Turn). IsTurn hears bytes from to left u v (Ok t)) (sym (wrote.0 ∙ ap turn_after close_after))
-      (told_last bytes rest from to a left u v close_after it wrote.1)
-  told_at_end bytes rest from to a left u v (Err desk.Write) close_after it wrote = told_cut bytes rest from to a left u v wrote.0 it wrote.1
-  told_at_end bytes rest from to a left u v (Err desk.Read) close_after it wrote = absurd wrote
-  told_at_end bytes rest from to a left u v (Err desk.NoMemory) close_after it wrote = absurd wrote
+      (closes_after bytes rest from to a left u v close_after it wrote.1)
+  serves_at_end bytes rest from to a left u v (Err desk.Write) close_after it wrote = sends_part bytes rest from to a left u v wrote.0 it wrote.1
+  serves_at_end bytes rest from to a left u v (Err desk.Read) close_after it wrote = absurd wrote
+  serves_at_end bytes rest from to a left u v (Err desk.NoMemory) close_after it wrote = absurd wrote
 
   -- serving an item may leave the state unchanged
   pub stays_put : (start : Option (List ℕ)) (stood stands : State C → Type 0) (way : List ℕ → State C → State C → Type 0)
@@ -98,52 +98,52 @@ module _ {C : Type 0} (hears : State C → Request → Reply → State C → Typ
   stays_put (Some bytes) stood stands way keeps is = λ from at. (from, is from, keeps from at)
 
   -- the input ended
-  pub end_told : (start now left w : Option (List ℕ)) (fr : Front) (from : State C) → fr ≡ front.End → Keeps start now → IfSome now (λ s. IsFrontOf s fr)
+  pub serves_eof : (start now left w : Option (List ℕ)) (fr : Front) (from : State C) → fr ≡ front.End → Keeps start now → IfSome now (λ s. IsFrontOf s fr)
       → IfSome start (λ bytes. IsTurn hears bytes from from left w w (Ok turn.Eof))
-  end_told start now left w fr from is keeps item =
+  serves_eof start now left w fr from is keeps item =
       lift start now (λ bytes. IsTurn hears bytes from from left w w (Ok turn.Eof)) keeps
       (if_map now (λ s. IsFrontOf s fr) (λ s. IsTurn hears s from from left w w (Ok turn.Eof))
       (λ s h. (subst (λ (x : Front). IsFrontOf s x) is h, refl, Appends-nil w)) item)
 
   -- reading the item failed
-  pub unread : (start left w : Option (List ℕ)) (from : State C) (e : DeskFault) → e ≢ desk.Write → IfSome start (λ bytes. IsTurn hears bytes from from left w w (Err e))
-  unread None left w from e other = tt
-  unread (Some bytes) left w from desk.Write other = absurd (other refl)
-  unread (Some bytes) left w from desk.Read other = (refl, Appends-nil w)
-  unread (Some bytes) left w from desk.NoMemory other = (refl, Appends-nil w)
+  pub read_failed : (start left w : Option (List ℕ)) (from : State C) (e : DeskFault) → e ≢ desk.Write → IfSome start (λ bytes. IsTurn hears bytes from from left w w (Err e))
+  read_failed None left w from e other = tt
+  read_failed (Some bytes) left w from desk.Write other = absurd (other refl)
+  read_failed (Some bytes) left w from desk.Read other = (refl, Appends-nil w)
+  read_failed (Some bytes) left w from desk.NoMemory other = (refl, Appends-nil w)
 
   -- the response to a fault of framing
-  abbrev Refused : FrameFault → Response → Type 0
-  Refused f a = (r : Reply) × ((r ≡ reply.Fault (number_of f)) ⊎ (r ≡ reply.Store 501)) × IsResponseTo a r true false
+  abbrev IsRejection : FrameFault → Response → Type 0
+  IsRejection f a = (r : Reply) × ((r ≡ reply.Fault (number_of f)) ⊎ (r ≡ reply.Store 501)) × IsResponseTo a r true false
 
-  refused_one : (bytes : List ℕ) (from : State C) (f : FrameFault) (a : Response) → IsItem bytes (faulty f) [] → Refused f a
+  serves_rejected : (bytes : List ℕ) (from : State C) (f : FrameFault) (a : Response) → IsItem bytes (faulty f) [] → IsRejection f a
       → Spoken hears bytes from a [] from
-  refused_one bytes from f a item refusal = (
+  serves_rejected bytes from f a item refusal = (
     record { item = faulty f; reply = refusal.0; sent = answer_bytes a.bytes },
     (item, (refusal.1, refl), refusal.2.0),
     refl,
     sym refusal.2.1,
   )
 
-  pub fault_told : (start now left u v : Option (List ℕ)) (fr : Front) (f : FrameFault) (a : Response) (from : State C) (result : Result Turn DeskFault)
-      → fr ≡ front.Fault f → Keeps start now → IfSome now (λ s. IsFrontOf s fr) → Refused f a → IsWritten (answer_bytes a.bytes) a.close_after u v result
+  pub serves_framing_fault : (start now left u v : Option (List ℕ)) (fr : Front) (f : FrameFault) (a : Response) (from : State C) (result : Result Turn DeskFault)
+      → fr ≡ front.Fault f → Keeps start now → IfSome now (λ s. IsFrontOf s fr) → IsRejection f a → IsWritten (answer_bytes a.bytes) a.close_after u v result
       → IfSome start (λ bytes. IsTurn hears bytes from from left u v result)
-  fault_told start now left u v fr f a from result is keeps item refusal wrote =
+  serves_framing_fault start now left u v fr f a from result is keeps item refusal wrote =
       lift start now (λ bytes. IsTurn hears bytes from from left u v result) keeps
       (if_map now (λ s. IsFrontOf s fr) (λ s. IsTurn hears s from from left u v result)
-      (λ s h. told_at_end s [] from from a left u v result refusal.2.1 (refused_one s from f a (subst (λ (x : Front). IsFrontOf s x) is h) refusal) wrote) item)
+      (λ s h. serves_at_end s [] from from a left u v result refusal.2.1 (serves_rejected s from f a (subst (λ (x : Front). IsFrontOf s x) is h) refusal) wrote) item)
 
-  pub request_told : (start known u v : Option (List ℕ)) (items rest new : List ℕ) (a : Response) (stood stands : State C → Type 0) (result : Result Turn DeskFault)
+  pub serves_request : (start known u v : Option (List ℕ)) (items rest new : List ℕ) (a : Response) (stood stands : State C → Type 0) (result : Result Turn DeskFault)
       → Keeps start (prepend_known items known)
       → ((more : List ℕ) → ForwardSimulation stood stands (λ from to. Spoken hears (items ++ more) from a (rest ++ more) to))
       → new ≡ rest → IsWritten (answer_bytes a.bytes) a.close_after u v result
       → IfSome start (λ bytes. ForwardSimulation stood stands (λ from to. IsTurn hears bytes from to (prepend_known new known) u v result))
-  request_told None known u v items rest new a stood stands result keeps it is wrote = tt
-  request_told (Some bytes) None u v items rest new a stood stands result keeps it is wrote = absurd keeps
-  request_told (Some bytes) (Some more) u v items rest new a stood stands result keeps it is wrote = λ from at.
+  serves_request None known u v items rest new a stood stands result keeps it is wrote = tt
+  serves_request (Some bytes) None u v items rest new a stood stands result keeps it is wrote = absurd keeps
+  serves_request (Some bytes) (Some more) u v items rest new a stood stands result keeps it is wrote = λ from at.
       let next = it more from at in (
         next.0,
         subst (λ (t : List ℕ). IsTurn hears t from next.0 (Some (new ++ more)) u v result) keeps
-            (told_so (items ++ more) (rest ++ more) from next.0 a (Some (new ++ more)) u v result (ap (λ (t : List ℕ). Some (t ++ more)) is) next.1 wrote),
+            (serves_response (items ++ more) (rest ++ more) from next.0 a (Some (new ++ more)) u v result (ap (λ (t : List ℕ). Some (t ++ more)) is) next.1 wrote),
         next.2,
       )

@@ -16,9 +16,9 @@ use Rattle.land_keep.specs.Machine.{State}
 use Rattle.land_keep.specs.Timeline.{Timeline}
 use Rattle.land_keep.specs.declared.reply.Reply.{Reply}
 
-heard_honestly : {C : Type 0} (reads : C → ℤ → C → Type 0) (honest : Type 0) → honest
+step_honestly : {C : Type 0} (reads : C → ℤ → C → Type 0) (honest : Type 0) → honest
     → (from : State C) (asked : Request) (r : Reply) (to : State C) → HearsIf honest reads from asked r to → Hears reads from asked r to
-heard_honestly reads honest trust from asked r to h = (h.0, h.1, h.3 trust)
+step_honestly reads honest trust from asked r to h = (h.0, h.1, h.3 trust)
 
 module _ {C : Type 0} (reads : C → ℤ → C → Type 0) where
   -- a connection is served by a run, whether its bytes are known or not
@@ -26,7 +26,7 @@ module _ {C : Type 0} (reads : C → ℤ → C → Type 0) where
       → IfSome bytes (λ known. ServesTo (HearsIf honest reads) known from stands old new outcome) → MovesTo (HearsIf honest reads) from stands
       → (to : State C) × ServesOver reads bytes old new outcome from to × stands to
   served_over honest trust None old new outcome from stands served moves =
-      (moves.0, moves_later (HearsIf honest reads) (Hears reads) (heard_honestly reads honest trust) from moves.0 moves.1, moves.2)
+      (moves.0, moves_later (HearsIf honest reads) (Hears reads) (step_honestly reads honest trust) from moves.0 moves.1, moves.2)
   served_over honest trust (Some known) old new outcome from stands served moves =
       (served.0, serves_honestly reads honest trust known from served.0 old new outcome served.1, served.2)
 
@@ -67,15 +67,15 @@ module _ {C : Type 0} (reads : C → ℤ → C → Type 0) where
   in_turn from [] now ys to so more = subst (λ (s : State C). InTurn reads s ys to) so more
   in_turn from (x ∷ xs) now ys to so more = (so.0, so.1, so.2, in_turn so.0 xs now ys to so.3 more)
 
-  firsts : (xs ys : List Connection) (coming mid after : Option (List (Option (List ℕ)))) → AreFirst xs coming mid → AreFirst ys mid after → AreFirst (xs ++ ys) coming after
-  firsts xs ys None mid after a b = tt
-  firsts xs ys (Some all) None after a b = absurd a
-  firsts xs ys (Some all) (Some some) None a b = absurd b
-  firsts xs ys (Some all) (Some some) (Some rest) a b = appended xs ys all some rest a b
+  both_first : (xs ys : List Connection) (coming mid after : Option (List (Option (List ℕ)))) → AreFirst xs coming mid → AreFirst ys mid after → AreFirst (xs ++ ys) coming after
+  both_first xs ys None mid after a b = tt
+  both_first xs ys (Some all) None after a b = absurd a
+  both_first xs ys (Some all) (Some some) None a b = absurd b
+  both_first xs ys (Some all) (Some some) (Some rest) a b = both_appended xs ys all some rest a b
     where
-      appended : (xs ys : List Connection) (all some rest : List (Option (List ℕ))) → all ≡ map (λ x. x.bytes) xs ++ some → some ≡ map (λ x. x.bytes) ys ++ rest
+      both_appended : (xs ys : List Connection) (all some rest : List (Option (List ℕ))) → all ≡ map (λ x. x.bytes) xs ++ some → some ≡ map (λ x. x.bytes) ys ++ rest
           → all ≡ map (λ x. x.bytes) (xs ++ ys) ++ rest
-      appended xs ys all some rest a b =
+      both_appended xs ys all some rest a b =
           a ∙ ap (λ (l : List (Option (List ℕ))). map (λ x. x.bytes) xs ++ l) b ∙ sym (append_assoc (map (λ x. x.bytes) xs) (map (λ x. x.bytes) ys) rest)
           ∙ ap (λ (l : List (Option (List ℕ))). l ++ rest) (sym (map-append (λ x. x.bytes) xs ys))
 
@@ -103,19 +103,19 @@ module _ {C : Type 0} (reads : C → ℤ → C → Type 0) where
         next.1,
         in_turn from so.0 now next.0 next.1 so.2 (subst (λ (s : State C). InTurn reads s next.0 next.1) (sym same) next.2),
         next.3,
-        firsts so.0 next.0 coming mid after so.4 next.4,
+        both_first so.0 next.0 coming mid after so.4 next.4,
         length-append so.0 next.0 ∙ ap (λ n. n + length next.0) so.5 ∙ ap (λ n. k + n) next.5,
       )
 
   -- no connection is served yet
-  pub unserved : (from : State C) (stands : State C → Type 0) (coming : Option (List (Option (List ℕ)))) → stands from → Serves reads from stands coming coming (λ n. n ≡ 0)
-  unserved from stands None at = ([], from, refl, at, tt, refl)
-  unserved from stands (Some all) at = ([], from, refl, at, refl, refl)
+  pub serves_none : (from : State C) (stands : State C → Type 0) (coming : Option (List (Option (List ℕ)))) → stands from → Serves reads from stands coming coming (λ n. n ≡ 0)
+  serves_none from stands None at = ([], from, refl, at, tt, refl)
+  serves_none from stands (Some all) at = ([], from, refl, at, refl, refl)
 
   -- a weaker condition on the number of connections served
-  pub counted : (from : State C) (stands : State C → Type 0) (coming after : Option (List (Option (List ℕ)))) (P Q : ℕ → Type 0) → ((n : ℕ) → P n → Q n)
+  pub weaken_count : (from : State C) (stands : State C → Type 0) (coming after : Option (List (Option (List ℕ)))) (P Q : ℕ → Type 0) → ((n : ℕ) → P n → Q n)
       → Serves reads from stands coming after P → Serves reads from stands coming after Q
-  counted from stands coming after P Q next so = (so.0, so.1, so.2, so.3, so.4, next (length so.0) so.5)
+  weaken_count from stands coming after P Q next so = (so.0, so.1, so.2, so.3, so.4, next (length so.0) so.5)
 
 -- fewer connections are served than requested if accepting failed or the store closed
 pub cut_short : (T : Type 0) (fault : ServiceFault) (k wanted n : ℕ) → k < wanted → n ≡ k + one_or_none {T = T} (Err fault) → AreWanted {T = T} n wanted (Err fault)

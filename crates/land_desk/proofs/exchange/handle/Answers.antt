@@ -1,6 +1,6 @@
 use Rattle.std.proofs.Common.{◌≢◌, Result, ap, inl, inr, refl, rules, subst, sym}
 use Rattle.land_core.specs.declared.ask.Request.{Request}
-use Rattle.land_desk.proofs.ExchangeLemmas.{fault_is_told}
+use Rattle.land_desk.proofs.ExchangeLemmas.{fault_reply}
 use Rattle.land_desk.specs.Serving.{HearsIf, HandlesOr501}
 use Rattle.land_keep.specs.declared.reply.Reply.TheVariants as reply
 use Rattle.land_wire_json.specs.Bodies.WireFaults.{Gives}
@@ -20,7 +20,7 @@ returns-in-Err g c =
         from,
         (
           it.0,
-          fault_is_told (HearsIf (g.K.Keeper.honest c.args.keeper.now) g.C.Clock.reads) q c.in-Err.fault _ it.0 from
+          fault_reply (HearsIf (g.K.Keeper.honest c.args.keeper.now) g.C.Clock.reads) q c.in-Err.fault _ it.0 from
               ((subst (λ (r : Result Request WireFault). Gives (λ (asked : Request). asked) r q) c.in-Err.is gives) other)
               (ap (λ n. reply.Fault n) c.number.ensures) it.1,
           it.2,

@@ -1,8 +1,8 @@
 use Rattle.std.proofs.Common.{◌+◌, ◌*◌, ◌∙◌, Ok, Err, ap, arith, length, refl}
 use Rattle.std.specs.Io.KnownBytes.{prepend_known}
-use Rattle.land_desk.proofs.Asking.{asked_to_end, asked_to_last, begins_short, broken_off, called_before, kept_short, spent_all, spent_on, unspent}
-use Rattle.land_desk.proofs.Honesty.{comes_to, heard_later, keeps_on, starts}
-use Rattle.land_desk.proofs.Moving.{moves_on, unmoved}
+use Rattle.land_desk.proofs.Asking.{asked_to_end, asked_to_last, begins_short, broken_off, called_before, kept_short, spent_all, spent_on, spends_nothing}
+use Rattle.land_desk.proofs.Honesty.{comes_to, step_later, keeps_on, starts}
+use Rattle.land_desk.proofs.Moving.{moves_on, reach_self}
 use Rattle.land_desk.proofs.ServingLemmas.{serves_end, serves_last, serves_fault}
 use Rattle.land_desk.specs.Serving.{HearsIf}
 use Rattle.land_desk.specs.Turns.{IsTurn}
@@ -14,7 +14,7 @@ pub returns-in-Ok-Eof-clause-served : goal.returns-in-Ok-Eof-clause-served
 returns-in-Ok-Eof-clause-served g c =
     let hears = HearsIf (g.K.Keeper.honest c.loop-fault.keeper) g.C.Clock.reads in
     let later = HearsIf (g.K.Keeper.honest c.take_turn.new.keeper) g.C.Clock.reads in
-    let weaken = heard_later g.C.Clock.reads (g.K.Keeper.honest c.loop-fault.keeper) (g.K.Keeper.honest c.take_turn.new.keeper) c.in-Ok-Eof.ensures.was in
+    let weaken = step_later g.C.Clock.reads (g.K.Keeper.honest c.loop-fault.keeper) (g.K.Keeper.honest c.take_turn.new.keeper) c.in-Ok-Eof.ensures.was in
     let from : State g.row.C.Denot = record { closed = g.K.Keeper.closed c.args.keeper.now; timeline = g.K.Keeper.timeline c.args.keeper.now; clock = c.args.clock.now } in
     let start = g.R.Read.remaining c.args.reader.now.reader.now in
     let before = prepend_known c.loop-fault.buffer.items (g.R.Read.remaining c.loop-fault.reader.reader.now) in
@@ -34,7 +34,7 @@ pub returns-in-Ok-Close-clause-served : goal.returns-in-Ok-Close-clause-served
 returns-in-Ok-Close-clause-served g c =
     let hears = HearsIf (g.K.Keeper.honest c.loop-fault.keeper) g.C.Clock.reads in
     let later = HearsIf (g.K.Keeper.honest c.take_turn.new.keeper) g.C.Clock.reads in
-    let weaken = heard_later g.C.Clock.reads (g.K.Keeper.honest c.loop-fault.keeper) (g.K.Keeper.honest c.take_turn.new.keeper) c.in-Ok-Close.ensures.was in
+    let weaken = step_later g.C.Clock.reads (g.K.Keeper.honest c.loop-fault.keeper) (g.K.Keeper.honest c.take_turn.new.keeper) c.in-Ok-Close.ensures.was in
     let from : State g.row.C.Denot = record { closed = g.K.Keeper.closed c.args.keeper.now; timeline = g.K.Keeper.timeline c.args.keeper.now; clock = c.args.clock.now } in
     let start = g.R.Read.remaining c.args.reader.now.reader.now in
     let before = prepend_known c.loop-fault.buffer.items (g.R.Read.remaining c.loop-fault.reader.reader.now) in
@@ -54,7 +54,7 @@ pub returns-in-Err-clause-served : goal.returns-in-Err-clause-served
 returns-in-Err-clause-served g c =
     let hears = HearsIf (g.K.Keeper.honest c.loop-fault.keeper) g.C.Clock.reads in
     let later = HearsIf (g.K.Keeper.honest c.take_turn.new.keeper) g.C.Clock.reads in
-    let weaken = heard_later g.C.Clock.reads (g.K.Keeper.honest c.loop-fault.keeper) (g.K.Keeper.honest c.take_turn.new.keeper) c.in-Err.ensures.was in
+    let weaken = step_later g.C.Clock.reads (g.K.Keeper.honest c.loop-fault.keeper) (g.K.Keeper.honest c.take_turn.new.keeper) c.in-Err.ensures.was in
     let from : State g.row.C.Denot = record { closed = g.K.Keeper.closed c.args.keeper.now; timeline = g.K.Keeper.timeline c.args.keeper.now; clock = c.args.clock.now } in
     let start = g.R.Read.remaining c.args.reader.now.reader.now in
     let before = prepend_known c.loop-fault.buffer.items (g.R.Read.remaining c.loop-fault.reader.reader.now) in
@@ -74,7 +74,7 @@ pub loop-fault-preserved : goal.loop-fault-preserved
 loop-fault-preserved g c =
     let hears = HearsIf (g.K.Keeper.honest c.loop-fault.keeper) g.C.Clock.reads in
     let later = HearsIf (g.K.Keeper.honest c.take_turn.new.keeper) g.C.Clock.reads in
-    let weaken = heard_later g.C.Clock.reads (g.K.Keeper.honest c.loop-fault.keeper) (g.K.Keeper.honest c.take_turn.new.keeper) c.in-Ok-KeepAlive.ensures.was in
+    let weaken = step_later g.C.Clock.reads (g.K.Keeper.honest c.loop-fault.keeper) (g.K.Keeper.honest c.take_turn.new.keeper) c.in-Ok-KeepAlive.ensures.was in
     let from : State g.row.C.Denot = record { closed = g.K.Keeper.closed c.args.keeper.now; timeline = g.K.Keeper.timeline c.args.keeper.now; clock = c.args.clock.now } in
     let start = g.R.Read.remaining c.args.reader.now.reader.now in
     let before = prepend_known c.loop-fault.buffer.items (g.R.Read.remaining c.loop-fault.reader.reader.now) in
@@ -109,10 +109,10 @@ loop-fault-init g c =
       starts (HearsIf (g.K.Keeper.honest c.args.keeper.now) g.C.Clock.reads)
           (λ s. IsAt (g.K.Keeper.honest c.args.keeper.now) (g.K.Keeper.closed c.args.keeper.now) (g.K.Keeper.timeline c.args.keeper.now) c.args.clock.now s) from
           (g.R.Read.remaining c.args.reader.now.reader.now) c.new-buffer.result.items (g.W.Write.contents c.args.writer.now) (refl, refl, λ live. refl) c.new-buffer.ensures.items,
-      (from, unmoved (HearsIf (g.K.Keeper.honest c.args.keeper.now) g.C.Clock.reads) from, (refl, refl, λ live. refl)),
+      (from, reach_self (HearsIf (g.K.Keeper.honest c.args.keeper.now) g.C.Clock.reads) from, (refl, refl, λ live. refl)),
       (λ trust. trust),
       begins_short (g.R.Read.remaining c.args.reader.now.reader.now) c.new-buffer.result.items c.new-buffer.ensures.items,
-      unspent (g.R.Read.remaining c.args.reader.now.reader.now) c.new-buffer.result.items (1024 * c.args.reader.now.left) c.new-buffer.ensures.items,
+      spends_nothing (g.R.Read.remaining c.args.reader.now.reader.now) c.new-buffer.result.items (1024 * c.args.reader.now.left) c.new-buffer.ensures.items,
       refl,
       omega (arith, ap length c.new-buffer.ensures.items),
       omega arith,
@@ -122,7 +122,7 @@ pub returns-in-Ok-Eof-clause-reached : goal.returns-in-Ok-Eof-clause-reached
 returns-in-Ok-Eof-clause-reached g c =
     let hears = HearsIf (g.K.Keeper.honest c.loop-fault.keeper) g.C.Clock.reads in
     let later = HearsIf (g.K.Keeper.honest c.take_turn.new.keeper) g.C.Clock.reads in
-    let weaken = heard_later g.C.Clock.reads (g.K.Keeper.honest c.loop-fault.keeper) (g.K.Keeper.honest c.take_turn.new.keeper) c.in-Ok-Eof.ensures.was in
+    let weaken = step_later g.C.Clock.reads (g.K.Keeper.honest c.loop-fault.keeper) (g.K.Keeper.honest c.take_turn.new.keeper) c.in-Ok-Eof.ensures.was in
     moves_on hears later weaken
     (λ s. IsAt (g.K.Keeper.honest c.loop-fault.keeper) (g.K.Keeper.closed c.loop-fault.keeper) (g.K.Keeper.timeline c.loop-fault.keeper) c.loop-fault.clock s)
     (λ s. IsAt (g.K.Keeper.honest c.take_turn.new.keeper) (g.K.Keeper.closed c.take_turn.new.keeper) (g.K.Keeper.timeline c.take_turn.new.keeper) c.take_turn.new.clock s)
@@ -133,7 +133,7 @@ pub returns-in-Ok-Close-clause-reached : goal.returns-in-Ok-Close-clause-reached
 returns-in-Ok-Close-clause-reached g c =
     let hears = HearsIf (g.K.Keeper.honest c.loop-fault.keeper) g.C.Clock.reads in
     let later = HearsIf (g.K.Keeper.honest c.take_turn.new.keeper) g.C.Clock.reads in
-    let weaken = heard_later g.C.Clock.reads (g.K.Keeper.honest c.loop-fault.keeper) (g.K.Keeper.honest c.take_turn.new.keeper) c.in-Ok-Close.ensures.was in
+    let weaken = step_later g.C.Clock.reads (g.K.Keeper.honest c.loop-fault.keeper) (g.K.Keeper.honest c.take_turn.new.keeper) c.in-Ok-Close.ensures.was in
     moves_on hears later weaken
     (λ s. IsAt (g.K.Keeper.honest c.loop-fault.keeper) (g.K.Keeper.closed c.loop-fault.keeper) (g.K.Keeper.timeline c.loop-fault.keeper) c.loop-fault.clock s)
     (λ s. IsAt (g.K.Keeper.honest c.take_turn.new.keeper) (g.K.Keeper.closed c.take_turn.new.keeper) (g.K.Keeper.timeline c.take_turn.new.keeper) c.take_turn.new.clock s)
@@ -144,7 +144,7 @@ pub returns-in-Err-clause-reached : goal.returns-in-Err-clause-reached
 returns-in-Err-clause-reached g c =
     let hears = HearsIf (g.K.Keeper.honest c.loop-fault.keeper) g.C.Clock.reads in
     let later = HearsIf (g.K.Keeper.honest c.take_turn.new.keeper) g.C.Clock.reads in
-    let weaken = heard_later g.C.Clock.reads (g.K.Keeper.honest c.loop-fault.keeper) (g.K.Keeper.honest c.take_turn.new.keeper) c.in-Err.ensures.was in
+    let weaken = step_later g.C.Clock.reads (g.K.Keeper.honest c.loop-fault.keeper) (g.K.Keeper.honest c.take_turn.new.keeper) c.in-Err.ensures.was in
     moves_on hears later weaken
     (λ s. IsAt (g.K.Keeper.honest c.loop-fault.keeper) (g.K.Keeper.closed c.loop-fault.keeper) (g.K.Keeper.timeline c.loop-fault.keeper) c.loop-fault.clock s)
     (λ s. IsAt (g.K.Keeper.honest c.take_turn.new.keeper) (g.K.Keeper.closed c.take_turn.new.keeper) (g.K.Keeper.timeline c.take_turn.new.keeper) c.take_turn.new.clock s)

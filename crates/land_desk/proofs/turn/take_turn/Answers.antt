@@ -1,8 +1,8 @@
 use Rattle.std.proofs.Common.{◌+◌, ◌*◌, [], arith, inl, length, refl, Err, Ok, drop}
 use Rattle.std.specs.Io.KnownBytes.{prepend_known}
-use Rattle.land_desk.proofs.Asking.{called, end_asked, fault_asked, front_gone, if_more, none_gone, none_more, none_unread, not_read, request_asked, request_gone}
-use Rattle.land_desk.proofs.Moving.{one_heard}
-use Rattle.land_desk.proofs.TurnLemmas.{end_told, fault_told, request_told, stays_put, unread}
+use Rattle.land_desk.proofs.Asking.{called, eof_reads, fault_reads, front_gone, if_more, none_gone, none_more, none_unread, not_read, request_reads, request_gone}
+use Rattle.land_desk.proofs.Moving.{one_step}
+use Rattle.land_desk.proofs.TurnLemmas.{serves_eof, serves_framing_fault, serves_request, stays_put, read_failed}
 use Rattle.land_desk.specs.Serving.{HearsIf}
 use Rattle.land_desk.specs.Turns.{IsTurn, answer_bytes}
 use Rattle.land_desk.specs.declared.serve.DeskFault.TheVariants as desk
@@ -16,14 +16,14 @@ returns-in-Ok-Fault-clause-turn g c =
     let left = prepend_known c.read_item.new.buffer.items (g.R.Read.remaining c.read_item.new.reader.reader.now) in
     stays_put hears start _ _ (λ bytes from to. IsTurn hears bytes from to left (g.W.Write.contents c.args.writer.now) (g.W.Write.contents c.write_response.new.writer) c.write_response.result)
     (λ s at. at)
-    (λ s. fault_told hears start left left (g.W.Write.contents c.args.writer.now) (g.W.Write.contents c.write_response.new.writer) c.in-Ok-Fault.field-0
+    (λ s. serves_framing_fault hears start left left (g.W.Write.contents c.args.writer.now) (g.W.Write.contents c.write_response.new.writer) c.in-Ok-Fault.field-0
     c.in-Ok-Fault.fault c.reject.result s c.write_response.result
     c.in-Ok-Fault.field-0-is c.in-Ok-Fault.ensures.stream c.in-Ok-Fault.ensures.item c.reject.ensures c.write_response.ensures)
 
 pub returns-in-Ok-Request-clause-turn : goal.returns-in-Ok-Request-clause-turn
 returns-in-Ok-Request-clause-turn g c =
     let it = rw c.deref.ensures.value at c.answer_request-answer.ensures.spoken in
-    request_told (HearsIf (g.K.Keeper.honest c.answer_request-answer.new.keeper) g.C.Clock.reads)
+    serves_request (HearsIf (g.K.Keeper.honest c.answer_request-answer.new.keeper) g.C.Clock.reads)
     (prepend_known c.args.buffer.now.items (g.R.Read.remaining c.args.reader.now.reader.now))
     (g.R.Read.remaining c.read_item.new.reader.reader.now) _ _ c.read_item.new.buffer.items
     (drop (c.in-Ok-Request.spans.len + c.in-Ok-Request.length) c.read_item.new.buffer.items) c.drop_front.new.buffer.items
@@ -37,7 +37,7 @@ returns-in-Ok-End-clause-turn g c =
     let left = prepend_known c.read_item.new.buffer.items (g.R.Read.remaining c.read_item.new.reader.reader.now) in
     let w = g.W.Write.contents c.args.writer.now in
     stays_put hears start _ _ (λ bytes from to. IsTurn hears bytes from to left w w (Ok turn.Eof)) (λ s at. at)
-    (λ s. end_told hears start left left w c.in-Ok-End.field-0 s c.in-Ok-End.field-0-is c.in-Ok-End.ensures.stream c.in-Ok-End.ensures.item)
+    (λ s. serves_eof hears start left left w c.in-Ok-End.field-0 s c.in-Ok-End.field-0-is c.in-Ok-End.ensures.stream c.in-Ok-End.ensures.item)
 
 pub returns-in-Err-Read-clause-turn : goal.returns-in-Err-Read-clause-turn
 returns-in-Err-Read-clause-turn g c =
@@ -46,7 +46,7 @@ returns-in-Err-Read-clause-turn g c =
     let left = prepend_known c.read_item.new.buffer.items (g.R.Read.remaining c.read_item.new.reader.reader.now) in
     let w = g.W.Write.contents c.args.writer.now in
     stays_put hears start _ _ (λ bytes from to. IsTurn hears bytes from to left w w (Err desk.Read)) (λ s at. at)
-    (λ s. unread hears start left w s desk.Read (λ e. cc))
+    (λ s. read_failed hears start left w s desk.Read (λ e. cc))
 
 pub returns-in-Err-NoMemory-clause-turn : goal.returns-in-Err-NoMemory-clause-turn
 returns-in-Err-NoMemory-clause-turn g c =
@@ -55,7 +55,7 @@ returns-in-Err-NoMemory-clause-turn g c =
     let left = prepend_known c.read_item.new.buffer.items (g.R.Read.remaining c.read_item.new.reader.reader.now) in
     let w = g.W.Write.contents c.args.writer.now in
     stays_put hears start _ _ (λ bytes from to. IsTurn hears bytes from to left w w (Err desk.NoMemory)) (λ s at. at)
-    (λ s. unread hears start left w s desk.NoMemory (λ e. cc))
+    (λ s. read_failed hears start left w s desk.NoMemory (λ e. cc))
 
 pub returns-in-Ok-Fault-clause-step : goal.returns-in-Ok-Fault-clause-step
 returns-in-Ok-Fault-clause-step g c from at = (from, inl refl, at)
@@ -72,7 +72,7 @@ returns-in-Err-NoMemory-clause-step g c from at = (from, inl refl, at)
 pub returns-in-Ok-Request-clause-step : goal.returns-in-Ok-Request-clause-step
 returns-in-Ok-Request-clause-step g c from at =
     let it = c.answer_request-answer.ensures.spoken [] from at in
-    (it.0, one_heard (HearsIf (g.K.Keeper.honest c.answer_request-answer.new.keeper) g.C.Clock.reads) _ from it.1.0 _ it.0 it.1.1, it.2)
+    (it.0, one_step (HearsIf (g.K.Keeper.honest c.answer_request-answer.new.keeper) g.C.Clock.reads) _ from it.1.0 _ it.0 it.1.1, it.2)
 
 pub returns-in-Err-Read-clause-reads : goal.returns-in-Err-Read-clause-reads
 returns-in-Err-Read-clause-reads g c small =
@@ -86,19 +86,19 @@ returns-in-Err-NoMemory-clause-reads g c small =
 
 pub returns-in-Ok-End-clause-reads : goal.returns-in-Ok-End-clause-reads
 returns-in-Ok-End-clause-reads g c small =
-    end_asked (prepend_known c.args.buffer.now.items (g.R.Read.remaining c.args.reader.now.reader.now)) (g.R.Read.remaining c.read_item.new.reader.reader.now)
+    eof_reads (prepend_known c.args.buffer.now.items (g.R.Read.remaining c.args.reader.now.reader.now)) (g.R.Read.remaining c.read_item.new.reader.reader.now)
     c.read_item.new.buffer.items c.in-Ok-End.field-0 c.in-Ok-End.field-0-is c.in-Ok-End.ensures.stream c.in-Ok-End.ensures.item
 
 pub returns-in-Ok-Fault-clause-reads : goal.returns-in-Ok-Fault-clause-reads
 returns-in-Ok-Fault-clause-reads g c small =
-    fault_asked (prepend_known c.args.buffer.now.items (g.R.Read.remaining c.args.reader.now.reader.now)) (g.R.Read.remaining c.read_item.new.reader.reader.now)
+    fault_reads (prepend_known c.args.buffer.now.items (g.R.Read.remaining c.args.reader.now.reader.now)) (g.R.Read.remaining c.read_item.new.reader.reader.now)
     (g.W.Write.contents c.args.writer.now) (g.W.Write.contents c.write_response.new.writer) c.read_item.new.buffer.items (answer_bytes c.reject.result.bytes)
     c.in-Ok-Fault.field-0 c.in-Ok-Fault.fault c.reject.result.close_after c.write_response.result
     c.in-Ok-Fault.field-0-is c.in-Ok-Fault.ensures.stream c.in-Ok-Fault.ensures.item (c.in-Ok-Fault.ensures.ahead small) c.reject.ensures.2.1 c.write_response.ensures
 
 pub returns-in-Ok-Request-clause-reads : goal.returns-in-Ok-Request-clause-reads
 returns-in-Ok-Request-clause-reads g c small =
-    request_asked (prepend_known c.args.buffer.now.items (g.R.Read.remaining c.args.reader.now.reader.now)) (g.R.Read.remaining c.read_item.new.reader.reader.now)
+    request_reads (prepend_known c.args.buffer.now.items (g.R.Read.remaining c.args.reader.now.reader.now)) (g.R.Read.remaining c.read_item.new.reader.reader.now)
     (g.W.Write.contents c.args.writer.now) (g.W.Write.contents c.write_response-turn.new.writer) c.read_item.new.buffer.items c.drop_front.new.buffer.items
     (answer_bytes c.answer_request-answer.result.bytes) c.read_item.new.headers c.in-Ok-Request.field-0 c.in-Ok-Request.spans c.in-Ok-Request.length
     c.answer_request-answer.result.close_after c.write_response-turn.result c.in-Ok-Request.field-0-is c.in-Ok-Request.ensures.stream c.in-Ok-Request.ensures.item

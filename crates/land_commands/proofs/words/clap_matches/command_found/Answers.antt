@@ -11,12 +11,12 @@ pairs X A B f g None (Some p) e h = cc
 pairs X A B f g (Some x) None e h = cc
 pairs X A B f g (Some x) (Some (a, b)) e h = cc
 
-firsts : {S A B : Type 0} (f : S → A) (g : S → B) (s : Option S) → option_map f s ≡ option_map (λ (p : A × B). p.0) (option_map (λ b. (f b, g b)) s)
-firsts f g None = refl
-firsts f g (Some b) = refl
+map_first : {S A B : Type 0} (f : S → A) (g : S → B) (s : Option S) → option_map f s ≡ option_map (λ (p : A × B). p.0) (option_map (λ b. (f b, g b)) s)
+map_first f g None = refl
+map_first f g (Some b) = refl
 
 name_of_rows : (m : ArgMatches) → subcommand_name_of m ≡ option_map (λ (p : Text × List Row). p.0) (subcommand_rows_of m)
-name_of_rows m = firsts _ _ (out-ArgMatches m).subcommand
+name_of_rows m = map_first _ _ (out-ArgMatches m).subcommand
 
 pub returns : goal.returns
 returns c =

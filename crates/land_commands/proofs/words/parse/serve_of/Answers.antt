@@ -9,30 +9,30 @@ abbrev first_code : Text → ℕ
 first_code [] = 0
 first_code (x ∷ xs) = x
 
-unlike : (code : ℕ) → code ≡ 99 → code ≡ 115 → ⊥
-unlike code e f = absurd (omega (arith, e, f))
+codes_differ : (code : ℕ) → code ≡ 99 → code ≡ 115 → ⊥
+codes_differ code e f = absurd (omega (arith, e, f))
 
 -- without a port no service is named
-portless : (rows : List Row) (port : Option ℕ) → IsNumberOf rows (codes "port") (pos 1) (pos 65535) (option_map pos port) → port ≡ None
+without_port : (rows : List Row) (port : Option ℕ) → IsNumberOf rows (codes "port") (pos 1) (pos 65535) (option_map pos port) → port ≡ None
     → IsOrderOf (codes "serve") rows None
-portless rows None none e (to_serve file port connections) word has = none (pos port) has.1
-portless rows None none e (to_talk clock) word has = cc
-portless rows None none e (to_make file) word has = cc
-portless rows None none e (to_check file) word has = unlike 99 refl (ap first_code word)
-portless rows None none e (to_migrate file) word has = cc
-portless rows None none e (to_extract file clock party role kind at) word has = cc
-portless rows (Some port) some e order word has = cc
+without_port rows None none e (to_serve file port connections) word has = none (pos port) has.1
+without_port rows None none e (to_talk clock) word has = cc
+without_port rows None none e (to_make file) word has = cc
+without_port rows None none e (to_check file) word has = codes_differ 99 refl (ap first_code word)
+without_port rows None none e (to_migrate file) word has = cc
+without_port rows None none e (to_extract file clock party role kind at) word has = cc
+without_port rows (Some port) some e order word has = cc
 
 -- nor without a number of connections
-countless : (rows : List Row) (count : Option ℕ) → IsNumberOf rows (codes "connections") (pos 1) (pos 1000000) (option_map pos count) → count ≡ None
+without_count : (rows : List Row) (count : Option ℕ) → IsNumberOf rows (codes "connections") (pos 1) (pos 1000000) (option_map pos count) → count ≡ None
     → IsOrderOf (codes "serve") rows None
-countless rows None none e (to_serve file port connections) word has = none (pos connections) has.2
-countless rows None none e (to_talk clock) word has = cc
-countless rows None none e (to_make file) word has = cc
-countless rows None none e (to_check file) word has = unlike 99 refl (ap first_code word)
-countless rows None none e (to_migrate file) word has = cc
-countless rows None none e (to_extract file clock party role kind at) word has = cc
-countless rows (Some count) some e order word has = cc
+without_count rows None none e (to_serve file port connections) word has = none (pos connections) has.2
+without_count rows None none e (to_talk clock) word has = cc
+without_count rows None none e (to_make file) word has = cc
+without_count rows None none e (to_check file) word has = codes_differ 99 refl (ap first_code word)
+without_count rows None none e (to_migrate file) word has = cc
+without_count rows None none e (to_extract file clock party role kind at) word has = cc
+without_count rows (Some count) some e order word has = cc
 
 none_named : (rows : List Row) (result : Option Command) → result ≡ None → IsOrderOf (codes "serve") rows None → IsOrderOf (codes "serve") rows (option_map order_of result)
 none_named rows None e none = none
@@ -42,10 +42,10 @@ pub returns-in_err-port : goal.returns-in_err-port
 returns-in_err-port c =
     let none : c.port_of.result ≡ None = search rules in
     let ended : c.from_residual-in_err-port.result ≡ None = search rules in
-    none_named _ _ ended (portless _ _ c.port_of.ensures none)
+    none_named _ _ ended (without_port _ _ c.port_of.ensures none)
 
 pub returns-in_err-connections : goal.returns-in_err-connections
 returns-in_err-connections c =
     let none : c.connections_of.result ≡ None = search rules in
     let ended : c.from_residual-in_err-connections.result ≡ None = search rules in
-    none_named _ _ ended (countless _ _ c.connections_of.ensures none)
+    none_named _ _ ended (without_count _ _ c.connections_of.ensures none)
