@@ -142,8 +142,8 @@ request_reads (Some bytes) (Some rest) u v buffer new text headers fr spans n cl
 
 -- ---- reading for all items
 
-module _ {C : Type 0} (hears : State C → Request → Reply → State C → Type 0) where
-  items_begin : (bytes : List ℕ) (from : State C) (xs : List Exchange) (rest : List ℕ) (now : State C) → ServesPrefix hears bytes from xs rest now
+module _ {C : Type 0} (step : State C → Request → Reply → State C → Type 0) where
+  items_begin : (bytes : List ℕ) (from : State C) (xs : List Exchange) (rest : List ℕ) (now : State C) → ServesPrefix step bytes from xs rest now
       → BeginsWith bytes (map (λ x. x.item) xs) rest
   items_begin bytes from [] rest now so = so.0
   items_begin bytes from (x ∷ xs) rest now so = (so.0, so.2.0, items_begin so.0 so.1 xs rest now so.4)
@@ -155,7 +155,7 @@ module _ {C : Type 0} (hears : State C → Request → Reply → State C → Typ
   none_after (faulty f) closed bytes mid left stays none all = absurd (false≢true (sym stays))
 
   last_asked : (bytes left : List ℕ) (from : State C) (x : Exchange) (xs : List Exchange) (rest : List ℕ) (now : State C)
-      → ServesPrefix hears bytes from (x ∷ xs) rest now → rest ≡ [] → left ≡ []
+      → ServesPrefix step bytes from (x ∷ xs) rest now → rest ≡ [] → left ≡ []
       → (items : List Item) × (at_last : List ℕ) × BeginsWith bytes items at_last × (length items ≡ length xs) × AsksForOne at_last left
   last_asked bytes left from x [] rest now so none all =
       ([], bytes, refl, refl, (x.item, so.0, so.2.0, none_after x.item (closes x.reply) bytes so.0 left so.3 (sym so.4.0 ∙ none) all))
@@ -164,7 +164,7 @@ module _ {C : Type 0} (hears : State C → Request → Reply → State C → Typ
       (x.item ∷ more.0, more.1, (so.0, so.2.0, more.2), omega (arith, more.3), more.4)
 
   reads_to_end : (bytes left : List ℕ) (from : State C) (xs : List Exchange) (rest : List ℕ) (now : State C) (n : ℕ)
-      → ServesPrefix hears bytes from xs rest now → rest ≡ [] → left ≡ [] → length xs ≡ n → AsksFor n bytes left
+      → ServesPrefix step bytes from xs rest now → rest ≡ [] → left ≡ [] → length xs ≡ n → AsksFor n bytes left
   reads_to_end bytes left from [] rest now n so none all count = inl (sym count, all)
   reads_to_end bytes left from (x ∷ xs) rest now n so none all count =
       let it = last_asked bytes left from x xs rest now so none all in
@@ -173,7 +173,7 @@ module _ {C : Type 0} (hears : State C → Request → Reply → State C → Typ
   module _ (from : State C) (stood : State C → Type 0) where
     -- the input ended
     pub asked_to_end : (start before left w u : Option (List ℕ)) (old new : List ℕ) (n : ℕ) (t : Turn) → t ≡ turn.Eof
-        → IfBoth start before (λ bytes rest. (now : State C) × SoFar hears bytes rest from now w u n × stood now)
+        → IfBoth start before (λ bytes rest. (now : State C) × SoFar step bytes rest from now w u n × stood now)
         → IfBoth start before (λ bytes rest. length old ≤ 1024)
         → (length old ≤ 1024 → IfBoth before left (λ rest after. IsAsked rest new after (Ok t)))
         → IfBoth start left (λ bytes after. AsksFor n bytes after)
@@ -186,7 +186,7 @@ module _ {C : Type 0} (hears : State C → Request → Reply → State C → Typ
 
     -- the connection closed
     pub asked_to_last : (start before left w u : Option (List ℕ)) (old new : List ℕ) (n : ℕ) (t : Turn) → t ≡ turn.Close
-        → IfBoth start before (λ bytes rest. (now : State C) × SoFar hears bytes rest from now w u n × stood now)
+        → IfBoth start before (λ bytes rest. (now : State C) × SoFar step bytes rest from now w u n × stood now)
         → IfBoth start before (λ bytes rest. length old ≤ 1024)
         → (length old ≤ 1024 → IfBoth before left (λ rest after. IsAsked rest new after (Ok t)))
         → IfBoth start left (λ bytes after. AsksFor (n + 1) bytes after)

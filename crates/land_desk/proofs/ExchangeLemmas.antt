@@ -59,10 +59,10 @@ module _ {C : Type 0} (reads : C → ℤ → C → Type 0) (was_honest honest : 
       )
 
 -- the reply to a request that could not be parsed is its fault, or 501, and nothing changes
-pub fault_reply : {C : Type 0} (hears : State C → Request → Reply → State C → Type 0) (q : Result Request WireFault) (fault : WireFault) (wanted r : Reply) (from : State C)
-    → q ≡ Err fault → wanted ≡ reply.Fault (fault_number fault) → (r ≡ wanted) ⊎ (r ≡ reply.Store 501) → HandlesOr501 hears q from r from
-fault_reply hears q fault wanted r from is sent (inl e) = subst (λ (x : Result Request WireFault). HandlesOr501 hears x from r from) (sym is) (inr (e ∙ sent, refl))
-fault_reply hears q fault wanted r from is sent (inr e) = inl (e, refl)
+pub fault_reply : {C : Type 0} (step : State C → Request → Reply → State C → Type 0) (q : Result Request WireFault) (fault : WireFault) (wanted r : Reply) (from : State C)
+    → q ≡ Err fault → wanted ≡ reply.Fault (fault_number fault) → (r ≡ wanted) ⊎ (r ≡ reply.Store 501) → HandlesOr501 step q from r from
+fault_reply step q fault wanted r from is sent (inl e) = subst (λ (x : Result Request WireFault). HandlesOr501 step x from r from) (sym is) (inr (e ∙ sent, refl))
+fault_reply step q fault wanted r from is sent (inr e) = inl (e, refl)
 
 -- ---- a title sheet is of a valid moment
 

@@ -31,36 +31,36 @@ step_honestly reads honest trust from asked r to h = (h.0, h.1, h.3 trust)
 
 -- ---- weaker transitions
 
-module _ {C : Type 0} (hears later : State C → Request → Reply → State C → Type 0)
-    (weaken : (from : State C) (asked : Request) (r : Reply) (to : State C) → hears from asked r to → later from asked r to) where
-  told_later : (q : Result Request WireFault) (from : State C) (r : Reply) (to : State C) → HandlesOr501 hears q from r to → HandlesOr501 later q from r to
+module _ {C : Type 0} (step later : State C → Request → Reply → State C → Type 0)
+    (weaken : (from : State C) (asked : Request) (r : Reply) (to : State C) → step from asked r to → later from asked r to) where
+  told_later : (q : Result Request WireFault) (from : State C) (r : Reply) (to : State C) → HandlesOr501 step q from r to → HandlesOr501 later q from r to
   told_later (Err fault) from r to (inl none) = inl none
   told_later (Err fault) from r to (inr heard) = inr heard
   told_later (Ok asked) from r to (inl none) = inl none
   told_later (Ok asked) from r to (inr heard) = inr (weaken from asked r to heard)
 
-  answers_later : (from : State C) (item : Item) (r : Reply) (to : State C) → RepliesTo hears from item r to → RepliesTo later from item r to
+  answers_later : (from : State C) (item : Item) (r : Reply) (to : State C) → RepliesTo step from item r to → RepliesTo later from item r to
   answers_later from (request h body) r to is = told_later (reading h.method h.target (field_map (fields_of h)) body) from r to is
   answers_later from (faulty f) r to is = is
 
-  one_later : (bytes : List ℕ) (from : State C) (x : Exchange) (rest : List ℕ) (to : State C) → ServesItem hears bytes from x rest to → ServesItem later bytes from x rest to
+  one_later : (bytes : List ℕ) (from : State C) (x : Exchange) (rest : List ℕ) (to : State C) → ServesItem step bytes from x rest to → ServesItem later bytes from x rest to
   one_later bytes from x rest to one = (one.0, answers_later from x.item x.reply to one.1, one.2)
 
-  goes_later : (bytes : List ℕ) (from : State C) (xs : List Exchange) (rest : List ℕ) (to : State C) → ServesPrefix hears bytes from xs rest to → ServesPrefix later bytes from xs rest to
+  goes_later : (bytes : List ℕ) (from : State C) (xs : List Exchange) (rest : List ℕ) (to : State C) → ServesPrefix step bytes from xs rest to → ServesPrefix later bytes from xs rest to
   goes_later bytes from [] rest to so = so
   goes_later bytes from (x ∷ xs) rest to so =
       (so.0, so.1, one_later bytes from x so.0 so.1 so.2, so.3, goes_later so.0 so.1 xs rest to so.4)
 
-  so_far_later : (bytes rest : List ℕ) (from to : State C) (old new : Option (List ℕ)) (n : ℕ) → SoFar hears bytes rest from to old new n → SoFar later bytes rest from to old new n
+  so_far_later : (bytes rest : List ℕ) (from to : State C) (old new : Option (List ℕ)) (n : ℕ) → SoFar step bytes rest from to old new n → SoFar later bytes rest from to old new n
   so_far_later bytes rest from to old new n so = (so.0, goes_later bytes from so.0 rest to so.1, so.2, so.3)
 
-  served_later : (bytes : List ℕ) (from : State C) (xs : List Exchange) (to : State C) → IsServed hears bytes from xs to → IsServed later bytes from xs to
+  served_later : (bytes : List ℕ) (from : State C) (xs : List Exchange) (to : State C) → IsServed step bytes from xs to → IsServed later bytes from xs to
   served_later bytes from [] to s = s
   served_later bytes from (x ∷ xs) to s =
       (s.0, s.1, one_later bytes from x s.0 s.1 s.2, s.3, λ e. served_later s.0 s.1 xs to (s.4 e))
 
   serves_later : (bytes : List ℕ) (from to : State C) (old new : Option (List ℕ)) (result : Result Served DeskFault)
-      → Serves hears bytes from to old new result → Serves later bytes from to old new result
+      → Serves step bytes from to old new result → Serves later bytes from to old new result
   serves_later bytes from to old new (Ok served) s = (s.0, served_later bytes from s.0 to s.1, s.2, s.3)
   serves_later bytes from to old new (Err desk.Write) s =
       (s.0, s.1, s.2, s.3, s.4, s.5, goes_later bytes from s.0 s.2 s.4 s.6, one_later s.2 s.4 s.1 s.3 to s.7, s.8)
@@ -77,7 +77,7 @@ module _ {C : Type 0} (hears later : State C → Request → Reply → State C �
 
     -- the connection stays open
     pub keeps_on : (start before after w u v : Option (List ℕ)) (n : ℕ) (t : Turn) → t ≡ turn.KeepAlive
-        → IfBoth start before (λ bytes rest. (now : State C) × SoFar hears bytes rest from now w u n × stood now)
+        → IfBoth start before (λ bytes rest. (now : State C) × SoFar step bytes rest from now w u n × stood now)
         → IfSome before (λ rest. ForwardSimulation stood stands (λ now to. IsTurn later rest now to after u v (Ok t)))
         → IfBoth start after (λ bytes rest. (to : State C) × SoFar later bytes rest from to w v (n + 1) × stands to)
     keeps_on None before after w u v n t is so brings = tt
@@ -92,7 +92,7 @@ module _ {C : Type 0} (hears later : State C → Request → Reply → State C �
     pub comes_to : (start before w u v : Option (List ℕ)) (n : ℕ) (result : Result Served DeskFault) (way : List ℕ → State C → State C → Type 0)
         → ((now to : State C) → IfBoth start before (λ bytes rest. SoFar later bytes rest from now w u n) → IfSome before (λ rest. way rest now to)
         → IfSome start (λ bytes. Serves later bytes from to w v result))
-        → IfBoth start before (λ bytes rest. (now : State C) × SoFar hears bytes rest from now w u n × stood now)
+        → IfBoth start before (λ bytes rest. (now : State C) × SoFar step bytes rest from now w u n × stood now)
         → IfSome before (λ rest. ForwardSimulation stood stands (way rest))
         → IfSome start (λ bytes. ServesTo later bytes from stands w v result)
     comes_to None before w u v n result way concludes so brings = tt
@@ -103,15 +103,15 @@ module _ {C : Type 0} (hears later : State C → Request → Reply → State C �
 
 -- ---- serving that has not started, and serving that ended
 
-module _ {C : Type 0} (hears : State C → Request → Reply → State C → Type 0) (stands : State C → Type 0) (from : State C) where
-  pub comes_to_nothing : (known w : Option (List ℕ)) → stands from → IfSome known (λ bytes. ServesTo hears bytes from stands w w (Err desk.NoMemory))
+module _ {C : Type 0} (step : State C → Request → Reply → State C → Type 0) (stands : State C → Type 0) (from : State C) where
+  pub comes_to_nothing : (known w : Option (List ℕ)) → stands from → IfSome known (λ bytes. ServesTo step bytes from stands w w (Err desk.NoMemory))
   comes_to_nothing None w at = tt
-  comes_to_nothing (Some bytes) w at = (from, nothing_done hears (Some bytes) w from, at)
+  comes_to_nothing (Some bytes) w at = (from, nothing_done step (Some bytes) w from, at)
 
   pub starts : (known : Option (List ℕ)) (buffer : List ℕ) (w : Option (List ℕ)) → stands from → buffer ≡ []
-      → IfBoth known (prepend_known buffer known) (λ bytes rest. (now : State C) × SoFar hears bytes rest from now w w 0 × stands now)
+      → IfBoth known (prepend_known buffer known) (λ bytes rest. (now : State C) × SoFar step bytes rest from now w w 0 × stands now)
   starts None buffer w at none = tt
-  starts (Some bytes) buffer w at none = (from, begins hears (Some bytes) buffer from w none, at)
+  starts (Some bytes) buffer w at none = (from, begins step (Some bytes) buffer from w none, at)
 
 -- on an honest store, serving is a run of the model
 pub serves_honestly : {C : Type 0} (reads : C → ℤ → C → Type 0) (honest : Type 0) → honest

@@ -4,7 +4,7 @@ use Rattle.std.proofs.lemmas.List.{length-append, map-append}
 use Rattle.land_core.specs.declared.ask.Request.{Request}
 use Rattle.land_desk.proofs.Honesty.{serves_honestly}
 use Rattle.land_desk.proofs.Moving.{moves_later}
-use Rattle.land_desk.specs.Service.{AreFirst, AreWanted, Connection, InTurn, Serves, ServesOver, one_or_none}
+use Rattle.land_desk.specs.Service.{AreFirst, AreWanted, Connection, InTurn, ServesUpTo, ServesOver, one_or_none}
 use Rattle.land_desk.specs.Service.Coming.{Comes}
 use Rattle.land_desk.specs.Serving.{Hears, HearsIf, MovesTo, ServesTo}
 use Rattle.land_desk.specs.declared.serve.DeskFault.{DeskFault}
@@ -41,7 +41,7 @@ module _ {C : Type 0} (reads : C → ℤ → C → Type 0) where
   pub next_served : (honest : Type 0) → honest → (bytes old new : Option (List ℕ)) (outcome : Result Served DeskFault) (from : State C) (stands : State C → Type 0)
       (coming after : Option (List (Option (List ℕ)))) → from.closed ≡ false → Comes coming after (Some bytes)
       → IfSome bytes (λ known. ServesTo (HearsIf honest reads) known from stands old new outcome) → MovesTo (HearsIf honest reads) from stands
-      → Serves reads from stands coming after (λ n. n ≡ 1)
+      → ServesUpTo reads from stands coming after (λ n. n ≡ 1)
   next_served honest trust bytes old new outcome from stands coming after open_store comes served moves =
       let it = served_over honest trust bytes old new outcome from stands served moves in (
         record { bytes = bytes; old = old; new = new; outcome = outcome } ∷ [],
@@ -59,7 +59,7 @@ module _ {C : Type 0} (reads : C → ℤ → C → Type 0) where
 
   -- accepting a connection failed
   pub none_served : (from : State C) (stands : State C → Type 0) (coming after : Option (List (Option (List ℕ)))) → stands from → Comes coming after None
-      → Serves reads from stands coming after (λ n. n ≡ 0)
+      → ServesUpTo reads from stands coming after (λ n. n ≡ 0)
   none_served from stands coming after at comes = ([], from, refl, at, none_first coming after comes, refl)
 
   in_turn : (from : State C) (xs : List Connection) (now : State C) (ys : List Connection) (to : State C) → InTurn reads from xs now → InTurn reads now ys to
@@ -93,9 +93,9 @@ module _ {C : Type 0} (reads : C → ℤ → C → Type 0) where
   -- connections are served, and then the next one, on a keeper that is open between them
   pub served_more : (honest : Type 0) → honest → (closed : Bool) → closed ≡ false → (shown : Timeline) (clock : C) (from : State C) (stands : State C → Type 0)
       (coming mid after : Option (List (Option (List ℕ)))) (k m : ℕ)
-      → Serves reads from (IsAt honest closed shown clock) coming mid (λ n. n ≡ k)
-      → Serves reads (record { closed = closed; timeline = shown; clock = clock }) stands mid after (λ n. n ≡ m)
-      → Serves reads from stands coming after (λ n. n ≡ k + m)
+      → ServesUpTo reads from (IsAt honest closed shown clock) coming mid (λ n. n ≡ k)
+      → ServesUpTo reads (record { closed = closed; timeline = shown; clock = clock }) stands mid after (λ n. n ≡ m)
+      → ServesUpTo reads from stands coming after (λ n. n ≡ k + m)
   served_more honest trust closed is_open shown clock from stands coming mid after k m so next =
       let now = so.1 in
       let same = same_state closed shown clock now so.3.0 so.3.1 (sym (so.3.2 (trust, is_open))) in (
@@ -108,13 +108,13 @@ module _ {C : Type 0} (reads : C → ℤ → C → Type 0) where
       )
 
   -- no connection is served yet
-  pub serves_none : (from : State C) (stands : State C → Type 0) (coming : Option (List (Option (List ℕ)))) → stands from → Serves reads from stands coming coming (λ n. n ≡ 0)
+  pub serves_none : (from : State C) (stands : State C → Type 0) (coming : Option (List (Option (List ℕ)))) → stands from → ServesUpTo reads from stands coming coming (λ n. n ≡ 0)
   serves_none from stands None at = ([], from, refl, at, tt, refl)
   serves_none from stands (Some all) at = ([], from, refl, at, refl, refl)
 
   -- a weaker condition on the number of connections served
   pub weaken_count : (from : State C) (stands : State C → Type 0) (coming after : Option (List (Option (List ℕ)))) (P Q : ℕ → Type 0) → ((n : ℕ) → P n → Q n)
-      → Serves reads from stands coming after P → Serves reads from stands coming after Q
+      → ServesUpTo reads from stands coming after P → ServesUpTo reads from stands coming after Q
   weaken_count from stands coming after P Q next so = (so.0, so.1, so.2, so.3, so.4, next (length so.0) so.5)
 
 -- fewer connections are served than requested if accepting failed or the store closed

@@ -56,10 +56,10 @@ one_or_none (Err Accept) = 0
 one_or_none (Err Closed) = 1
 
 -- Connections are served up to a state that is represented after the call. The others are still pending.
-abbrev pub Serves : {C : Type 0} → (reads : C → ℤ → C → Type 0) → State C → (stands : State C → Type 0)
+abbrev pub ServesUpTo : {C : Type 0} → (reads : C → ℤ → C → Type 0) → State C → (stands : State C → Type 0)
     → (coming after : Option (List (Option (List ℕ))))
     → (count : ℕ → Type 0) → Type 0
-Serves {C} reads from stands coming after count =
+ServesUpTo {C} reads from stands coming after count =
     (xs : List Connection) × (to : State C) × InTurn reads from xs to × stands to × AreFirst xs coming after
     × count (length xs)
 
@@ -68,14 +68,14 @@ abbrev pub IsNext : {C T : Type 0} → (reads : C → ℤ → C → Type 0) → 
     → (coming after : Option (List (Option (List ℕ))))
     → Result T ServiceFault → Type 0
 IsNext reads from stands coming after result =
-    Serves reads from stands coming after (λ n. n ≡ one_or_none result)
+    ServesUpTo reads from stands coming after (λ n. n ≡ one_or_none result)
 
 -- As many connections are served as requested, unless the service ended early.
 abbrev pub IsService : {C T : Type 0} → (reads : C → ℤ → C → Type 0) → (wanted : ℕ) → State C
     → (stands : State C → Type 0)
     → (coming after : Option (List (Option (List ℕ)))) → Result T ServiceFault → Type 0
 IsService reads wanted from stands coming after result =
-    Serves reads from stands coming after (λ n. AreWanted n wanted result)
+    ServesUpTo reads from stands coming after (λ n. AreWanted n wanted result)
 
 -- The result reports a closed store if and only if the store is closed.
 abbrev pub TellsClosed : {T : Type 0} → Result T ServiceFault → (closed : Bool) → Type 0

@@ -82,95 +82,95 @@ ForwardSimulation {C} stood stands way =
 -- nothing changes.
 abbrev pub Handles : {C : Type 0} → Transition C → Result Request WireFault → State C → Reply → State C
     → Type 0
-Handles hears (Err fault) from r to = (r ≡ reply.Fault (fault_number fault)) × (to ≡ from)
-Handles hears (Ok asked) from r to = hears from asked r to
+Handles step (Err fault) from r to = (r ≡ reply.Fault (fault_number fault)) × (to ≡ from)
+Handles step (Ok asked) from r to = step from asked r to
 
 -- Or the reply is 501 (out of memory), and nothing changes.
 abbrev pub HandlesOr501 : {C : Type 0} → Transition C → Result Request WireFault → State C → Reply → State C
     → Type 0
-HandlesOr501 hears q from r to = ((r ≡ reply.Store 501) × (to ≡ from)) ⊎ Handles hears q from r to
+HandlesOr501 step q from r to = ((r ≡ reply.Store 501) × (to ≡ from)) ⊎ Handles step q from r to
 
 -- The reply to an item: that of its request, or the fault of framing (or 501), which changes nothing.
 abbrev pub RepliesTo : {C : Type 0} → Transition C → State C → Item → Reply → State C → Type 0
-RepliesTo hears from (request h body) r to =
-    HandlesOr501 hears (reading h.method h.target (field_map (fields_of h)) body) from r to
-RepliesTo hears from (faulty f) r to = ((r ≡ reply.Fault (number_of f)) ⊎ (r ≡ reply.Store 501)) × (to ≡ from)
+RepliesTo step from (request h body) r to =
+    HandlesOr501 step (reading h.method h.target (field_map (fields_of h)) body) from r to
+RepliesTo step from (faulty f) r to = ((r ≡ reply.Fault (number_of f)) ⊎ (r ≡ reply.Store 501)) × (to ≡ from)
 
 -- ---- transitions caused by a stream, whether its bytes are known or not
 
 -- At most one transition.
 abbrev pub MayHear : {C : Type 0} → Transition C → State C → State C → Type 0
-MayHear hears from to = (to ≡ from) ⊎ ((asked : Request) × (r : Reply) × hears from asked r to)
+MayHear step from to = (to ≡ from) ⊎ ((asked : Request) × (r : Reply) × step from asked r to)
 
 -- A trace: these requests, in order, get these replies.
 abbrev pub HearsAll : {C : Type 0} → Transition C → State C → List Request → List Reply → State C → Type 0
-HearsAll hears from [] [] to = to ≡ from
-HearsAll {C} hears from (asked ∷ requests) (r ∷ replies) to =
-    (mid : State C) × hears from asked r mid × HearsAll hears mid requests replies to
-HearsAll hears from [] (r ∷ replies) to = ⊥
-HearsAll hears from (asked ∷ requests) [] to = ⊥
+HearsAll step from [] [] to = to ≡ from
+HearsAll {C} step from (asked ∷ requests) (r ∷ replies) to =
+    (mid : State C) × step from asked r mid × HearsAll step mid requests replies to
+HearsAll step from [] (r ∷ replies) to = ⊥
+HearsAll step from (asked ∷ requests) [] to = ⊥
 
 -- `to` is reachable from `from` by requests, and by nothing else.
 abbrev pub Reachable : {C : Type 0} → Transition C → State C → State C → Type 0
-Reachable hears from to =
-    (requests : List Request) × (replies : List Reply) × HearsAll hears from requests replies to
+Reachable step from to =
+    (requests : List Request) × (replies : List Reply) × HearsAll step from requests replies to
 
 -- Some state that is represented after the call is reachable.
 abbrev pub MovesTo : {C : Type 0} → Transition C → State C → (stands : State C → Type 0) → Type 0
-MovesTo {C} hears from stands = (to : State C) × Reachable hears from to × stands to
+MovesTo {C} step from stands = (to : State C) × Reachable step from to × stands to
 
 -- ---- items of known bytes
 
 -- The first item of the bytes gets this reply, and its response is sent. `rest` follows the item.
 abbrev pub ServesItem : {C : Type 0} → Transition C → List ℕ → State C → Exchange → List ℕ → State C → Type 0
-ServesItem hears bytes from x rest to =
-    IsItem bytes x.item rest × RepliesTo hears from x.item x.reply to
+ServesItem step bytes from x rest to =
+    IsItem bytes x.item rest × RepliesTo step from x.item x.reply to
     × IsResponse x.reply (closing x) (asks_head x.item) x.sent
 
 -- These items are answered in order, and none of them closes the connection. `rest` follows them.
 abbrev pub ServesPrefix : {C : Type 0} → Transition C → List ℕ → State C → List Exchange → List ℕ → State C
     → Type 0
-ServesPrefix hears bytes from [] rest to = (rest ≡ bytes) × (to ≡ from)
-ServesPrefix {C} hears bytes from (x ∷ xs) rest to =
-    (mid : List ℕ) × (next : State C) × ServesItem hears bytes from x mid next × (closing x ≡ false)
-    × ServesPrefix hears mid next xs rest to
+ServesPrefix step bytes from [] rest to = (rest ≡ bytes) × (to ≡ from)
+ServesPrefix {C} step bytes from (x ∷ xs) rest to =
+    (mid : List ℕ) × (next : State C) × ServesItem step bytes from x mid next × (closing x ≡ false)
+    × ServesPrefix step mid next xs rest to
 
 -- The items of the bytes are answered, until no byte is left or one of them closes the connection.
 abbrev pub IsServed : {C : Type 0} → Transition C → List ℕ → State C → List Exchange → State C → Type 0
-IsServed hears bytes from [] to = (bytes ≡ []) × (to ≡ from)
-IsServed {C} hears bytes from (x ∷ xs) to =
-    (mid : List ℕ) × (next : State C) × ServesItem hears bytes from x mid next
-    × (closing x ≡ true → (xs ≡ []) × (to ≡ next)) × (closing x ≡ false → IsServed hears mid next xs to)
+IsServed step bytes from [] to = (bytes ≡ []) × (to ≡ from)
+IsServed {C} step bytes from (x ∷ xs) to =
+    (mid : List ℕ) × (next : State C) × ServesItem step bytes from x mid next
+    × (closing x ≡ true → (xs ≡ []) × (to ≡ next)) × (closing x ≡ false → IsServed step mid next xs to)
 
 -- This number of items was answered, exactly their responses were written, and `rest` follows them.
 abbrev pub SoFar : {C : Type 0} → Transition C → (bytes rest : List ℕ) → (from to : State C)
     → (old new : Option (List ℕ)) → (replies : ℕ) → Type 0
-SoFar hears bytes rest from to old new replies =
-    (xs : List Exchange) × ServesPrefix hears bytes from xs rest to × Appends old new (said_all xs)
+SoFar step bytes rest from to old new replies =
+    (xs : List Exchange) × ServesPrefix step bytes from xs rest to × Appends old new (said_all xs)
     × (length xs ≡ replies)
 
 -- Serving known bytes. Without a fault, all responses are written, and counted.
 abbrev pub Serves : {C : Type 0} → Transition C → List ℕ → State C → State C → (old new : Option (List ℕ))
     → Result Served DeskFault → Type 0
-Serves hears bytes from to old new (Ok served) =
-    (xs : List Exchange) × IsServed hears bytes from xs to × Appends old new (said_all xs)
+Serves step bytes from to old new (Ok served) =
+    (xs : List Exchange) × IsServed step bytes from xs to × Appends old new (said_all xs)
     × (served.replies ≡ length xs)
 -- After a failed write a prefix of the last response is written, and its change is committed.
-Serves {C} hears bytes from to old new (Err desk.Write) =
+Serves {C} step bytes from to old new (Err desk.Write) =
     (xs : List Exchange) × (x : Exchange) × (rest after : List ℕ) × (now : State C) × (n : ℕ)
-    × ServesPrefix hears bytes from xs rest now × ServesItem hears rest now x after to
+    × ServesPrefix step bytes from xs rest now × ServesItem step rest now x after to
     × Appends old new (said_all xs ++ take n x.sent)
 -- After a failed read, or out of memory for the input, the responses to all items before it are written.
-Serves hears bytes from to old new (Err desk.Read) =
-    (rest : List ℕ) × (n : ℕ) × SoFar hears bytes rest from to old new n
-Serves hears bytes from to old new (Err desk.NoMemory) =
-    (rest : List ℕ) × (n : ℕ) × SoFar hears bytes rest from to old new n
+Serves step bytes from to old new (Err desk.Read) =
+    (rest : List ℕ) × (n : ℕ) × SoFar step bytes rest from to old new n
+Serves step bytes from to old new (Err desk.NoMemory) =
+    (rest : List ℕ) × (n : ℕ) × SoFar step bytes rest from to old new n
 
 -- Serving known bytes up to a state that is represented after the call.
 abbrev pub ServesTo : {C : Type 0} → Transition C → List ℕ → State C → (stands : State C → Type 0)
     → (old new : Option (List ℕ)) → Result Served DeskFault → Type 0
-ServesTo {C} hears bytes from stands old new result =
-    (to : State C) × Serves hears bytes from to old new result × stands to
+ServesTo {C} step bytes from stands old new result =
+    (to : State C) × Serves step bytes from to old new result × stands to
 
 -- Serving known bytes by a run of the model, over a store that is honest.
 abbrev pub IsServing : {C : Type 0} → (C → ℤ → C → Type 0) → List ℕ → State C → State C
@@ -179,7 +179,7 @@ IsServing reads bytes from to old new result = Serves (Hears reads) bytes from t
 
 -- The items that are answered are the first items of the stream, in their order.
 abbrev pub ServedItems : {C : Type 0} → Transition C → Type 0
-ServedItems {C} hears =
+ServedItems {C} step =
     (bytes : List ℕ) (from to : State C) (xs : List Exchange) (items : List Item)
-    → IsServed hears bytes from xs to → AreItems bytes items → (more : List Item)
+    → IsServed step bytes from xs to → AreItems bytes items → (more : List Item)
     × (items ≡ map (λ x. x.item) xs ++ more)

@@ -29,8 +29,8 @@ IsResponseTo a r ends is_head =
 
 -- The response is the one for a reply to the first item of the bytes.
 abbrev pub Spoken : {C : Type 0} → Transition C → List ℕ → State C → Response → List ℕ → State C → Type 0
-Spoken hears bytes from a rest to =
-    (x : Exchange) × ServesItem hears bytes from x rest to × (x.sent ≡ answer_bytes a.bytes)
+Spoken step bytes from a rest to =
+    (x : Exchange) × ServesItem step bytes from x rest to × (x.sent ≡ answer_bytes a.bytes)
     × (closing x ≡ a.close_after)
 
 -- What to do after a response.
@@ -49,18 +49,18 @@ IsWritten bytes close_after old new (Err desk.NoMemory) = ⊥
 -- Serving the first item of known bytes. `left`: the bytes that remain.
 abbrev pub IsTurn : {C : Type 0} → Transition C → List ℕ → State C → State C → (left : Option (List ℕ))
     → (old new : Option (List ℕ)) → Result Turn DeskFault → Type 0
-IsTurn hears bytes from to left old new (Ok turn.Eof) = (bytes ≡ []) × (to ≡ from) × Appends old new []
-IsTurn hears bytes from to left old new (Ok turn.Close) =
-    (x : Exchange) × (rest : List ℕ) × ServesItem hears bytes from x rest to × (closing x ≡ true)
+IsTurn step bytes from to left old new (Ok turn.Eof) = (bytes ≡ []) × (to ≡ from) × Appends old new []
+IsTurn step bytes from to left old new (Ok turn.Close) =
+    (x : Exchange) × (rest : List ℕ) × ServesItem step bytes from x rest to × (closing x ≡ true)
     × Appends old new x.sent
-IsTurn hears bytes from to left old new (Ok turn.KeepAlive) =
-    (x : Exchange) × (rest : List ℕ) × ServesItem hears bytes from x rest to × (closing x ≡ false)
+IsTurn step bytes from to left old new (Ok turn.KeepAlive) =
+    (x : Exchange) × (rest : List ℕ) × ServesItem step bytes from x rest to × (closing x ≡ false)
     × Appends old new x.sent × (left ≡ Some rest)
-IsTurn hears bytes from to left old new (Err desk.Write) =
-    (x : Exchange) × (rest : List ℕ) × (n : ℕ) × ServesItem hears bytes from x rest to
+IsTurn step bytes from to left old new (Err desk.Write) =
+    (x : Exchange) × (rest : List ℕ) × (n : ℕ) × ServesItem step bytes from x rest to
     × Appends old new (take n x.sent)
-IsTurn hears bytes from to left old new (Err desk.Read) = (to ≡ from) × Appends old new []
-IsTurn hears bytes from to left old new (Err desk.NoMemory) = (to ≡ from) × Appends old new []
+IsTurn step bytes from to left old new (Err desk.Read) = (to ≡ from) × Appends old new []
+IsTurn step bytes from to left old new (Err desk.NoMemory) = (to ≡ from) × Appends old new []
 
 -- How far the reader was read to serve one item. `buffer`: the bytes read ahead. `left`: the bytes still in
 -- the reader.

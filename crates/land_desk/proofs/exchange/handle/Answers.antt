@@ -33,12 +33,12 @@ returns-in-Err g c =
 pub returns-in-Ok-clause-reply : goal.returns-in-Ok-clause-reply
 returns-in-Ok-clause-reply g c q gives from at =
     let it = c.exchange_request.ensures.reply from at in
-    let hears = HearsIf (g.K.Keeper.honest c.exchange_request.new.keeper) g.C.Clock.reads in
+    let step = HearsIf (g.K.Keeper.honest c.exchange_request.new.keeper) g.C.Clock.reads in
     let q_is = subst (λ (r : Result Request WireFault). Gives (λ (asked : Request). asked) r q) c.in-Ok.is gives in (
       it.0,
       (
         it.1.0,
-        subst (λ (x : Result Request WireFault). HandlesOr501 hears x from it.1.0 it.0) (sym q_is) (inr it.1.1),
+        subst (λ (x : Result Request WireFault). HandlesOr501 step x from it.1.0 it.0) (sym q_is) (inr it.1.1),
         it.1.2,
       ),
       it.2,

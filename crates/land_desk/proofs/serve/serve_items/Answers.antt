@@ -12,7 +12,7 @@ use Rattle.land_desk.proofs.serve.serve_items.Goals as goal
 
 pub returns-in-Ok-Eof-clause-served : goal.returns-in-Ok-Eof-clause-served
 returns-in-Ok-Eof-clause-served g c =
-    let hears = HearsIf (g.K.Keeper.honest c.loop-fault.keeper) g.C.Clock.reads in
+    let step = HearsIf (g.K.Keeper.honest c.loop-fault.keeper) g.C.Clock.reads in
     let later = HearsIf (g.K.Keeper.honest c.take_turn.new.keeper) g.C.Clock.reads in
     let weaken = step_later g.C.Clock.reads (g.K.Keeper.honest c.loop-fault.keeper) (g.K.Keeper.honest c.take_turn.new.keeper) c.in-Ok-Eof.ensures.was in
     let from : State g.row.C.Denot = record { closed = g.K.Keeper.closed c.args.keeper.now; timeline = g.K.Keeper.timeline c.args.keeper.now; clock = c.args.clock.now } in
@@ -22,7 +22,7 @@ returns-in-Ok-Eof-clause-served g c =
     let w = g.W.Write.contents c.args.writer.now in
     let u = g.W.Write.contents c.loop-fault.writer in
     let v = g.W.Write.contents c.take_turn.new.writer in
-    comes_to hears later weaken
+    comes_to step later weaken
     (λ s. IsAt (g.K.Keeper.honest c.loop-fault.keeper) (g.K.Keeper.closed c.loop-fault.keeper) (g.K.Keeper.timeline c.loop-fault.keeper) c.loop-fault.clock s)
     (λ s. IsAt (g.K.Keeper.honest c.take_turn.new.keeper) (g.K.Keeper.closed c.take_turn.new.keeper) (g.K.Keeper.timeline c.take_turn.new.keeper) c.take_turn.new.clock s)
     from start before w u v c.loop-fault.replies (Ok (record { replies = c.loop-fault.replies }))
@@ -32,7 +32,7 @@ returns-in-Ok-Eof-clause-served g c =
 
 pub returns-in-Ok-Close-clause-served : goal.returns-in-Ok-Close-clause-served
 returns-in-Ok-Close-clause-served g c =
-    let hears = HearsIf (g.K.Keeper.honest c.loop-fault.keeper) g.C.Clock.reads in
+    let step = HearsIf (g.K.Keeper.honest c.loop-fault.keeper) g.C.Clock.reads in
     let later = HearsIf (g.K.Keeper.honest c.take_turn.new.keeper) g.C.Clock.reads in
     let weaken = step_later g.C.Clock.reads (g.K.Keeper.honest c.loop-fault.keeper) (g.K.Keeper.honest c.take_turn.new.keeper) c.in-Ok-Close.ensures.was in
     let from : State g.row.C.Denot = record { closed = g.K.Keeper.closed c.args.keeper.now; timeline = g.K.Keeper.timeline c.args.keeper.now; clock = c.args.clock.now } in
@@ -42,7 +42,7 @@ returns-in-Ok-Close-clause-served g c =
     let w = g.W.Write.contents c.args.writer.now in
     let u = g.W.Write.contents c.loop-fault.writer in
     let v = g.W.Write.contents c.take_turn.new.writer in
-    comes_to hears later weaken
+    comes_to step later weaken
     (λ s. IsAt (g.K.Keeper.honest c.loop-fault.keeper) (g.K.Keeper.closed c.loop-fault.keeper) (g.K.Keeper.timeline c.loop-fault.keeper) c.loop-fault.clock s)
     (λ s. IsAt (g.K.Keeper.honest c.take_turn.new.keeper) (g.K.Keeper.closed c.take_turn.new.keeper) (g.K.Keeper.timeline c.take_turn.new.keeper) c.take_turn.new.clock s)
     from start before w u v c.loop-fault.replies (Ok (record { replies = c.loop-fault.replies + 1 }))
@@ -52,7 +52,7 @@ returns-in-Ok-Close-clause-served g c =
 
 pub returns-in-Err-clause-served : goal.returns-in-Err-clause-served
 returns-in-Err-clause-served g c =
-    let hears = HearsIf (g.K.Keeper.honest c.loop-fault.keeper) g.C.Clock.reads in
+    let step = HearsIf (g.K.Keeper.honest c.loop-fault.keeper) g.C.Clock.reads in
     let later = HearsIf (g.K.Keeper.honest c.take_turn.new.keeper) g.C.Clock.reads in
     let weaken = step_later g.C.Clock.reads (g.K.Keeper.honest c.loop-fault.keeper) (g.K.Keeper.honest c.take_turn.new.keeper) c.in-Err.ensures.was in
     let from : State g.row.C.Denot = record { closed = g.K.Keeper.closed c.args.keeper.now; timeline = g.K.Keeper.timeline c.args.keeper.now; clock = c.args.clock.now } in
@@ -62,7 +62,7 @@ returns-in-Err-clause-served g c =
     let w = g.W.Write.contents c.args.writer.now in
     let u = g.W.Write.contents c.loop-fault.writer in
     let v = g.W.Write.contents c.take_turn.new.writer in
-    comes_to hears later weaken
+    comes_to step later weaken
     (λ s. IsAt (g.K.Keeper.honest c.loop-fault.keeper) (g.K.Keeper.closed c.loop-fault.keeper) (g.K.Keeper.timeline c.loop-fault.keeper) c.loop-fault.clock s)
     (λ s. IsAt (g.K.Keeper.honest c.take_turn.new.keeper) (g.K.Keeper.closed c.take_turn.new.keeper) (g.K.Keeper.timeline c.take_turn.new.keeper) c.take_turn.new.clock s)
     from start before w u v c.loop-fault.replies (Err c.in-Err.fault)
@@ -72,7 +72,7 @@ returns-in-Err-clause-served g c =
 
 pub loop-fault-preserved : goal.loop-fault-preserved
 loop-fault-preserved g c =
-    let hears = HearsIf (g.K.Keeper.honest c.loop-fault.keeper) g.C.Clock.reads in
+    let step = HearsIf (g.K.Keeper.honest c.loop-fault.keeper) g.C.Clock.reads in
     let later = HearsIf (g.K.Keeper.honest c.take_turn.new.keeper) g.C.Clock.reads in
     let weaken = step_later g.C.Clock.reads (g.K.Keeper.honest c.loop-fault.keeper) (g.K.Keeper.honest c.take_turn.new.keeper) c.in-Ok-KeepAlive.ensures.was in
     let from : State g.row.C.Denot = record { closed = g.K.Keeper.closed c.args.keeper.now; timeline = g.K.Keeper.timeline c.args.keeper.now; clock = c.args.clock.now } in
@@ -83,12 +83,12 @@ loop-fault-preserved g c =
     let u = g.W.Write.contents c.loop-fault.writer in
     let v = g.W.Write.contents c.take_turn.new.writer in (
       omega (arith, c.loop-fault.invariant.0, c.in-Ok-KeepAlive.ensures.room),
-      keeps_on hears later weaken
+      keeps_on step later weaken
           (λ s. IsAt (g.K.Keeper.honest c.loop-fault.keeper) (g.K.Keeper.closed c.loop-fault.keeper) (g.K.Keeper.timeline c.loop-fault.keeper) c.loop-fault.clock s)
           (λ s. IsAt (g.K.Keeper.honest c.take_turn.new.keeper) (g.K.Keeper.closed c.take_turn.new.keeper) (g.K.Keeper.timeline c.take_turn.new.keeper) c.take_turn.new.clock s)
           from start before after w u v c.loop-fault.replies c.in-Ok-KeepAlive.field-0 c.in-Ok-KeepAlive.field-0-is
           c.loop-fault.invariant.1 c.in-Ok-KeepAlive.ensures.turn,
-      moves_on hears later weaken
+      moves_on step later weaken
           (λ s. IsAt (g.K.Keeper.honest c.loop-fault.keeper) (g.K.Keeper.closed c.loop-fault.keeper) (g.K.Keeper.timeline c.loop-fault.keeper) c.loop-fault.clock s)
           (λ s. IsAt (g.K.Keeper.honest c.take_turn.new.keeper) (g.K.Keeper.closed c.take_turn.new.keeper) (g.K.Keeper.timeline c.take_turn.new.keeper) c.take_turn.new.clock s)
           from c.loop-fault.invariant.2 c.in-Ok-KeepAlive.ensures.step,
@@ -120,10 +120,10 @@ loop-fault-init g c =
 
 pub returns-in-Ok-Eof-clause-reached : goal.returns-in-Ok-Eof-clause-reached
 returns-in-Ok-Eof-clause-reached g c =
-    let hears = HearsIf (g.K.Keeper.honest c.loop-fault.keeper) g.C.Clock.reads in
+    let step = HearsIf (g.K.Keeper.honest c.loop-fault.keeper) g.C.Clock.reads in
     let later = HearsIf (g.K.Keeper.honest c.take_turn.new.keeper) g.C.Clock.reads in
     let weaken = step_later g.C.Clock.reads (g.K.Keeper.honest c.loop-fault.keeper) (g.K.Keeper.honest c.take_turn.new.keeper) c.in-Ok-Eof.ensures.was in
-    moves_on hears later weaken
+    moves_on step later weaken
     (λ s. IsAt (g.K.Keeper.honest c.loop-fault.keeper) (g.K.Keeper.closed c.loop-fault.keeper) (g.K.Keeper.timeline c.loop-fault.keeper) c.loop-fault.clock s)
     (λ s. IsAt (g.K.Keeper.honest c.take_turn.new.keeper) (g.K.Keeper.closed c.take_turn.new.keeper) (g.K.Keeper.timeline c.take_turn.new.keeper) c.take_turn.new.clock s)
     (record { closed = g.K.Keeper.closed c.args.keeper.now; timeline = g.K.Keeper.timeline c.args.keeper.now; clock = c.args.clock.now })
@@ -131,10 +131,10 @@ returns-in-Ok-Eof-clause-reached g c =
 
 pub returns-in-Ok-Close-clause-reached : goal.returns-in-Ok-Close-clause-reached
 returns-in-Ok-Close-clause-reached g c =
-    let hears = HearsIf (g.K.Keeper.honest c.loop-fault.keeper) g.C.Clock.reads in
+    let step = HearsIf (g.K.Keeper.honest c.loop-fault.keeper) g.C.Clock.reads in
     let later = HearsIf (g.K.Keeper.honest c.take_turn.new.keeper) g.C.Clock.reads in
     let weaken = step_later g.C.Clock.reads (g.K.Keeper.honest c.loop-fault.keeper) (g.K.Keeper.honest c.take_turn.new.keeper) c.in-Ok-Close.ensures.was in
-    moves_on hears later weaken
+    moves_on step later weaken
     (λ s. IsAt (g.K.Keeper.honest c.loop-fault.keeper) (g.K.Keeper.closed c.loop-fault.keeper) (g.K.Keeper.timeline c.loop-fault.keeper) c.loop-fault.clock s)
     (λ s. IsAt (g.K.Keeper.honest c.take_turn.new.keeper) (g.K.Keeper.closed c.take_turn.new.keeper) (g.K.Keeper.timeline c.take_turn.new.keeper) c.take_turn.new.clock s)
     (record { closed = g.K.Keeper.closed c.args.keeper.now; timeline = g.K.Keeper.timeline c.args.keeper.now; clock = c.args.clock.now })
@@ -142,10 +142,10 @@ returns-in-Ok-Close-clause-reached g c =
 
 pub returns-in-Err-clause-reached : goal.returns-in-Err-clause-reached
 returns-in-Err-clause-reached g c =
-    let hears = HearsIf (g.K.Keeper.honest c.loop-fault.keeper) g.C.Clock.reads in
+    let step = HearsIf (g.K.Keeper.honest c.loop-fault.keeper) g.C.Clock.reads in
     let later = HearsIf (g.K.Keeper.honest c.take_turn.new.keeper) g.C.Clock.reads in
     let weaken = step_later g.C.Clock.reads (g.K.Keeper.honest c.loop-fault.keeper) (g.K.Keeper.honest c.take_turn.new.keeper) c.in-Err.ensures.was in
-    moves_on hears later weaken
+    moves_on step later weaken
     (λ s. IsAt (g.K.Keeper.honest c.loop-fault.keeper) (g.K.Keeper.closed c.loop-fault.keeper) (g.K.Keeper.timeline c.loop-fault.keeper) c.loop-fault.clock s)
     (λ s. IsAt (g.K.Keeper.honest c.take_turn.new.keeper) (g.K.Keeper.closed c.take_turn.new.keeper) (g.K.Keeper.timeline c.take_turn.new.keeper) c.take_turn.new.clock s)
     (record { closed = g.K.Keeper.closed c.args.keeper.now; timeline = g.K.Keeper.timeline c.args.keeper.now; clock = c.args.clock.now })

@@ -11,12 +11,12 @@ use Rattle.land_desk.proofs.turn.take_turn.Goals as goal
 
 pub returns-in-Ok-Fault-clause-turn : goal.returns-in-Ok-Fault-clause-turn
 returns-in-Ok-Fault-clause-turn g c =
-    let hears = HearsIf (g.K.Keeper.honest c.args.keeper.now) g.C.Clock.reads in
+    let step = HearsIf (g.K.Keeper.honest c.args.keeper.now) g.C.Clock.reads in
     let start = prepend_known c.args.buffer.now.items (g.R.Read.remaining c.args.reader.now.reader.now) in
     let left = prepend_known c.read_item.new.buffer.items (g.R.Read.remaining c.read_item.new.reader.reader.now) in
-    stays_put hears start _ _ (λ bytes from to. IsTurn hears bytes from to left (g.W.Write.contents c.args.writer.now) (g.W.Write.contents c.write_response.new.writer) c.write_response.result)
+    stays_put step start _ _ (λ bytes from to. IsTurn step bytes from to left (g.W.Write.contents c.args.writer.now) (g.W.Write.contents c.write_response.new.writer) c.write_response.result)
     (λ s at. at)
-    (λ s. serves_framing_fault hears start left left (g.W.Write.contents c.args.writer.now) (g.W.Write.contents c.write_response.new.writer) c.in-Ok-Fault.field-0
+    (λ s. serves_framing_fault step start left left (g.W.Write.contents c.args.writer.now) (g.W.Write.contents c.write_response.new.writer) c.in-Ok-Fault.field-0
     c.in-Ok-Fault.fault c.reject.result s c.write_response.result
     c.in-Ok-Fault.field-0-is c.in-Ok-Fault.ensures.stream c.in-Ok-Fault.ensures.item c.reject.ensures c.write_response.ensures)
 
@@ -32,30 +32,30 @@ returns-in-Ok-Request-clause-turn g c =
 
 pub returns-in-Ok-End-clause-turn : goal.returns-in-Ok-End-clause-turn
 returns-in-Ok-End-clause-turn g c =
-    let hears = HearsIf (g.K.Keeper.honest c.args.keeper.now) g.C.Clock.reads in
+    let step = HearsIf (g.K.Keeper.honest c.args.keeper.now) g.C.Clock.reads in
     let start = prepend_known c.args.buffer.now.items (g.R.Read.remaining c.args.reader.now.reader.now) in
     let left = prepend_known c.read_item.new.buffer.items (g.R.Read.remaining c.read_item.new.reader.reader.now) in
     let w = g.W.Write.contents c.args.writer.now in
-    stays_put hears start _ _ (λ bytes from to. IsTurn hears bytes from to left w w (Ok turn.Eof)) (λ s at. at)
-    (λ s. serves_eof hears start left left w c.in-Ok-End.field-0 s c.in-Ok-End.field-0-is c.in-Ok-End.ensures.stream c.in-Ok-End.ensures.item)
+    stays_put step start _ _ (λ bytes from to. IsTurn step bytes from to left w w (Ok turn.Eof)) (λ s at. at)
+    (λ s. serves_eof step start left left w c.in-Ok-End.field-0 s c.in-Ok-End.field-0-is c.in-Ok-End.ensures.stream c.in-Ok-End.ensures.item)
 
 pub returns-in-Err-Read-clause-turn : goal.returns-in-Err-Read-clause-turn
 returns-in-Err-Read-clause-turn g c =
-    let hears = HearsIf (g.K.Keeper.honest c.args.keeper.now) g.C.Clock.reads in
+    let step = HearsIf (g.K.Keeper.honest c.args.keeper.now) g.C.Clock.reads in
     let start = prepend_known c.args.buffer.now.items (g.R.Read.remaining c.args.reader.now.reader.now) in
     let left = prepend_known c.read_item.new.buffer.items (g.R.Read.remaining c.read_item.new.reader.reader.now) in
     let w = g.W.Write.contents c.args.writer.now in
-    stays_put hears start _ _ (λ bytes from to. IsTurn hears bytes from to left w w (Err desk.Read)) (λ s at. at)
-    (λ s. read_failed hears start left w s desk.Read (λ e. cc))
+    stays_put step start _ _ (λ bytes from to. IsTurn step bytes from to left w w (Err desk.Read)) (λ s at. at)
+    (λ s. read_failed step start left w s desk.Read (λ e. cc))
 
 pub returns-in-Err-NoMemory-clause-turn : goal.returns-in-Err-NoMemory-clause-turn
 returns-in-Err-NoMemory-clause-turn g c =
-    let hears = HearsIf (g.K.Keeper.honest c.args.keeper.now) g.C.Clock.reads in
+    let step = HearsIf (g.K.Keeper.honest c.args.keeper.now) g.C.Clock.reads in
     let start = prepend_known c.args.buffer.now.items (g.R.Read.remaining c.args.reader.now.reader.now) in
     let left = prepend_known c.read_item.new.buffer.items (g.R.Read.remaining c.read_item.new.reader.reader.now) in
     let w = g.W.Write.contents c.args.writer.now in
-    stays_put hears start _ _ (λ bytes from to. IsTurn hears bytes from to left w w (Err desk.NoMemory)) (λ s at. at)
-    (λ s. read_failed hears start left w s desk.NoMemory (λ e. cc))
+    stays_put step start _ _ (λ bytes from to. IsTurn step bytes from to left w w (Err desk.NoMemory)) (λ s at. at)
+    (λ s. read_failed step start left w s desk.NoMemory (λ e. cc))
 
 pub returns-in-Ok-Fault-clause-step : goal.returns-in-Ok-Fault-clause-step
 returns-in-Ok-Fault-clause-step g c from at = (from, inl refl, at)
