@@ -1,5 +1,5 @@
 -- Contracts of serving, as relations between a keeper and a clock before a call and after it.
-use Rattle.std.specs.Prelude.{◌≡◌, ℕ, ℤ, Bool, List, ◌++◌, drop, Option, Result, Ok, IfSome}
+use Rattle.std.specs.Prelude.{ℕ, ℤ, Bool, List, ◌++◌, drop, Option, Result, Ok, IfSome}
 use Rattle.land_core.specs.declared.ask.Request.{Request}
 use Rattle.land_desk.specs.Serving.{Handles, HandlesOr501, HearsIf, MayHear, MovesTo, ServesTo}
 use Rattle.land_desk.specs.Turns.{IsResponseTo, IsTurn, Spoken}
