@@ -1,9 +1,10 @@
-//! The land register's program: its words, streams and clock are those of the machine. What it does with them stands in `land_commands`.
+//! The program of the land register. Passes the arguments, streams and clock of the process to
+//! `land_commands`.
 #![tactic(auto)]
 
 use land_commands::host::Host;
 use land_commands::local_host::LocalHost;
-use land_commands::obey::obey;
+use land_commands::obey::run_args;
 use land_commands::program_fault::ProgramFault;
 use land_commands::run::complain;
 use land_desk::service::machine_clock::MachineClock;
@@ -29,7 +30,7 @@ fn main(rt: HostRuntime) -> ExitCode {
     ExitCode::from(status)
 }
 
-/// Does what the words of the command line ask for, and gives the status.
+/// Runs the command that the arguments name, and returns the exit status.
 fn start<R: Env + AllocGlobal, H: Host, I: Read, O: Write, E: Write, C: Clock>(
     rt: &R,
     host: &mut H,
@@ -39,12 +40,12 @@ fn start<R: Env + AllocGlobal, H: Host, I: Read, O: Write, E: Write, C: Clock>(
     clock: &mut C,
 ) -> u8 {
     match words(rt) {
-        Ok(words) => obey(host, &words, input, output, errors, clock),
+        Ok(words) => run_args(host, &words, input, output, errors, clock),
         Err(fault) => complain(errors, fault),
     }
 }
 
-/// The words of the command line, of which the first is the program's name.
+/// Returns the arguments. The first is the name of the program.
 fn words<R: Env + AllocGlobal>(rt: &R) -> Result<Vec<String>, ProgramFault> {
     Ok(env::args(rt)?.collect::<Vec<_>>(rt.alloc())?)
 }

@@ -16,7 +16,7 @@ built_of name options = record (new_shape name) {
 abbrev pub talk_built : Shape
 talk_built = built_of (codes "talk") (moment_rule (codes "clock") true ∷ [])
 
--- a command with a file alone
+-- a command with only a file
 abbrev pub file_built : Text → Shape
 file_built name = built_of name (file_rule ∷ [])
 

@@ -1,4 +1,4 @@
--- Words of `extract` in which `clap` finds no fault name an extract.
+-- Arguments of `extract` in which `clap` finds no fault name an extract.
 use Rattle.std.proofs.Common.{◌≡◌, ◌⊎◌, ◌||◌, inl, inr, ap, refl, sym, subst, ℕ, ℤ, pos, negsuc, Bool, true, false, List, [], ◌∷◌, ◌++◌, Option, Some, None, codes, map}
 use Rattle.std.specs.Prelude.{◌≤ℤ◌}
 use Rattle.std.specs.Borrow.{Bor}
@@ -19,52 +19,52 @@ use Rattle.land_commands.proofs.NumberRows.{AllPass}
 use Rattle.land_commands.specs.Words.Choices.{AreSpelled, Places, kind_word, kind_words, role_word, role_words}
 use Rattle.land_commands.specs.Words.Names.{HasMaybe, IsFoundAs}
 use Rattle.land_commands.specs.Words.Options.{moments, option_rule, parties}
-use Rattle.land_commands.specs.Words.Orders.{Order, to_extract}
+use Rattle.land_commands.specs.Words.PlainCommands.{PlainCommand, to_extract}
 use Rattle.land_commands.specs.declared.words.choices.Choices.{Choices}
 use Rattle.land_core.specs.declared.kind.Kind.{Kind}
 use Rattle.land_core.specs.declared.kind.Kind.TheVariants as kind
 use Rattle.land_core.specs.declared.role.Role.{Role}
 use Rattle.land_core.specs.declared.role.Role.TheVariants as role
 
--- a number that is not below 1 is that of a count
-pub counted : (z : ℤ) → pos 1 ≤ℤ z → (n : ℕ) × (z ≡ pos n)
-counted (pos n) h = (n, refl)
-counted (negsuc n) h = absurd h.le
+-- a number that is not below 1 is a natural number
+pub count_of : (z : ℤ) → pos 1 ≤ℤ z → (n : ℕ) × (z ≡ pos n)
+count_of (pos n) h = (n, refl)
+count_of (negsuc n) h = absurd h.le
 
--- ---- options beside one another
+-- ---- several options
 
--- an option that a command is told of
-record Told : Type 0 where
+-- an option of a command
+record OptionShape : Type 0 where
   name : Text
   is_required : Bool
   values : ValueParser
 
-abbrev told : Text → Bool → ValueParser → Told
+abbrev told : Text → Bool → ValueParser → OptionShape
 told name is_required values = record { name = name; is_required = is_required; values = values }
 
-abbrev rule_told : Told → Rule
+abbrev rule_told : OptionShape → Rule
 rule_told o = filled (option_rule o.name o.is_required o.values)
 
 module _ (name : Text) (Passes : Text → Type 0) where
-  -- what the options of this name take passes
-  abbrev Suits : List Told → Type 0
+  -- the values that the options with this name accept pass
+  abbrev Suits : List OptionShape → Type 0
   Suits [] = Unit {0}
   Suits (o ∷ options) = (bytes_eq o.name name ≡ true → (text : Text) → Accepts false o.values text → Passes text) × Suits options
 
-  suits_keep : (options : List Told) → Suits options → Each (Keeps (AllPass name Passes)) (map rule_told options ++ filled help_rule ∷ [])
+  suits_keep : (options : List OptionShape) → Suits options → Each (Keeps (AllPass name Passes)) (map rule_told options ++ filled help_rule ∷ [])
   suits_keep [] suits = (help_keeps _, tt)
   suits_keep (o ∷ options) suits = (option_keeps name Passes o.name o.is_required o.values suits.0, suits_keep options suits.1)
 
-  -- options of other names
-  others_suit : (options : List Told) → list_any (λ o. bytes_eq o.name name) options ≡ false → Suits options
+  -- options with other names
+  others_suit : (options : List OptionShape) → list_any (λ o. bytes_eq o.name name) options ≡ false → Suits options
   others_suit [] e = tt
   others_suit (o ∷ options) e =
       let parts = or_parts (bytes_eq o.name name) _ e in
       let other = parts.0 in
       ((λ same. cc), others_suit options parts.1)
 
-  -- one option of this name among others
-  one_suits : (before : List Told) (o : Told) (after : List Told) → list_any (λ o. bytes_eq o.name name) before ≡ false
+  -- one option with this name among others
+  one_suits : (before : List OptionShape) (o : OptionShape) (after : List OptionShape) → list_any (λ o. bytes_eq o.name name) before ≡ false
       → list_any (λ o. bytes_eq o.name name) after ≡ false → ((text : Text) → Accepts false o.values text → Passes text) → Suits (before ++ o ∷ after)
   one_suits [] o after e f h = ((λ same. h), others_suit after f)
   one_suits (x ∷ before) o after e f h =
@@ -72,18 +72,18 @@ module _ (name : Text) (Passes : Text → Type 0) where
       let other = parts.0 in
       ((λ same. cc), one_suits before o after parts.1 f h)
 
-  one_keeps : (before : List Told) (o : Told) (after : List Told) → list_any (λ o. bytes_eq o.name name) before ≡ false
+  one_keeps : (before : List OptionShape) (o : OptionShape) (after : List OptionShape) → list_any (λ o. bytes_eq o.name name) before ≡ false
       → list_any (λ o. bytes_eq o.name name) after ≡ false → ((text : Text) → Accepts false o.values text → Passes text)
       → Each (Keeps (AllPass name Passes)) (map rule_told (before ++ o ∷ after) ++ filled help_rule ∷ [])
   one_keeps before o after e f h = suits_keep (before ++ o ∷ after) (one_suits before o after e f h)
 
--- ---- words that are chosen
+-- ---- options with a fixed set of words
 
 pub any_text : (text : Text) (words : List (Bor Text)) → list_any (λ word. bytes_eq word.now text) words ≡ list_any (λ word. bytes_eq word text) (texts words)
 any_text text [] = refl
 any_text text (word ∷ words) = ap (λ b. bytes_eq word.now text || b) (any_text text words)
 
--- one of these is spelled like the text
+-- the value is the word of one of these
 module _ {A : Type 0} (spell : A → Text) where
   spelled_so : (all : List A) (text : Text) → list_any (λ a. bytes_eq (spell a) text) all ≡ true → (a : A) × (text ≡ spell a)
   spelled_so [] text e = cc
@@ -115,25 +115,25 @@ kind_chosen places text e accepted =
 
 -- ---- the command
 
-abbrev file_told : Told
-file_told = told (codes "file") true parser.String
+abbrev file_shape : OptionShape
+file_shape = told (codes "file") true parser.String
 
-abbrev clock_told : Told
-clock_told = told (codes "clock") true moments
+abbrev clock_shape : OptionShape
+clock_shape = told (codes "clock") true moments
 
-abbrev party_told : Told
-party_told = told (codes "party") true parties
+abbrev party_shape : OptionShape
+party_shape = told (codes "party") true parties
 
-abbrev role_told : Places → Told
-role_told roles = told (codes "role") true (parser.Names roles)
+abbrev role_shape : Places → OptionShape
+role_shape roles = told (codes "role") true (parser.Names roles)
 
-abbrev kind_told : Places → Told
-kind_told kinds = told (codes "kind") true (parser.Names kinds)
+abbrev kind_shape : Places → OptionShape
+kind_shape kinds = told (codes "kind") true (parser.Names kinds)
 
-abbrev at_told : Told
+abbrev at_told : OptionShape
 at_told = told (codes "at") false moments
 
--- an option that may be left out has a moment, or none
+-- an optional option has a moment, or is absent
 moment_if_any : (rows : List Row) → (first_of (codes "at") rows ≡ None) ⊎ ((text : Text) × (first_of (codes "at") rows ≡ Some text) × Accepts false moments text)
     → (at : Option ℤ) × HasMaybe rows (codes "at") (pos 0) (pos 4102444799999) at
 moment_if_any rows (inl none) = (None, none)
@@ -154,45 +154,45 @@ module _ (choices : Choices) (spelled : AreSpelled choices) (words : List Text)
   file_given : Given (codes "file") (Accepts false parser.String)
   file_given =
       given_passes (extract_built choices) no_defaults words faultless (codes "file") (Accepts false parser.String)
-      (one_keeps (codes "file") (Accepts false parser.String) [] file_told (clock_told ∷ party_told ∷ role_told choices.roles ∷ kind_told choices.kinds ∷ at_told ∷ []) refl refl (λ text h. h))
+      (one_keeps (codes "file") (Accepts false parser.String) [] file_shape (clock_shape ∷ party_shape ∷ role_shape choices.roles ∷ kind_shape choices.kinds ∷ at_told ∷ []) refl refl (λ text h. h))
       ((required_given (extract_built choices) no_defaults words faultless).0 refl)
 
   clock_given : Given (codes "clock") (Accepts false moments)
   clock_given =
       given_passes (extract_built choices) no_defaults words faultless (codes "clock") (Accepts false moments)
-      (one_keeps (codes "clock") (Accepts false moments) (file_told ∷ []) clock_told (party_told ∷ role_told choices.roles ∷ kind_told choices.kinds ∷ at_told ∷ []) refl refl (λ text h. h))
+      (one_keeps (codes "clock") (Accepts false moments) (file_shape ∷ []) clock_shape (party_shape ∷ role_shape choices.roles ∷ kind_shape choices.kinds ∷ at_told ∷ []) refl refl (λ text h. h))
       ((required_given (extract_built choices) no_defaults words faultless).1.0 refl)
 
   party_given : Given (codes "party") (Accepts false parties)
   party_given =
       given_passes (extract_built choices) no_defaults words faultless (codes "party") (Accepts false parties)
-      (one_keeps (codes "party") (Accepts false parties) (file_told ∷ clock_told ∷ []) party_told (role_told choices.roles ∷ kind_told choices.kinds ∷ at_told ∷ []) refl refl (λ text h. h))
+      (one_keeps (codes "party") (Accepts false parties) (file_shape ∷ clock_shape ∷ []) party_shape (role_shape choices.roles ∷ kind_shape choices.kinds ∷ at_told ∷ []) refl refl (λ text h. h))
       ((required_given (extract_built choices) no_defaults words faultless).1.1.0 refl)
 
   role_given : Given (codes "role") (Accepts false (parser.Names choices.roles))
   role_given =
       given_passes (extract_built choices) no_defaults words faultless (codes "role") (Accepts false (parser.Names choices.roles))
-      (one_keeps (codes "role") (Accepts false (parser.Names choices.roles)) (file_told ∷ clock_told ∷ party_told ∷ []) (role_told choices.roles) (kind_told choices.kinds ∷ at_told ∷ []) refl refl (λ text h. h))
+      (one_keeps (codes "role") (Accepts false (parser.Names choices.roles)) (file_shape ∷ clock_shape ∷ party_shape ∷ []) (role_shape choices.roles) (kind_shape choices.kinds ∷ at_told ∷ []) refl refl (λ text h. h))
       ((required_given (extract_built choices) no_defaults words faultless).1.1.1.0 refl)
 
   kind_given : Given (codes "kind") (Accepts false (parser.Names choices.kinds))
   kind_given =
       given_passes (extract_built choices) no_defaults words faultless (codes "kind") (Accepts false (parser.Names choices.kinds))
-      (one_keeps (codes "kind") (Accepts false (parser.Names choices.kinds)) (file_told ∷ clock_told ∷ party_told ∷ role_told choices.roles ∷ []) (kind_told choices.kinds) (at_told ∷ []) refl refl (λ text h. h))
+      (one_keeps (codes "kind") (Accepts false (parser.Names choices.kinds)) (file_shape ∷ clock_shape ∷ party_shape ∷ role_shape choices.roles ∷ []) (kind_shape choices.kinds) (at_told ∷ []) refl refl (λ text h. h))
       ((required_given (extract_built choices) no_defaults words faultless).1.1.1.1.0 refl)
 
   at_if_any : (at : Option ℤ) × HasMaybe rows (codes "at") (pos 0) (pos 4102444799999) at
   at_if_any =
       moment_if_any rows
       (passes_if_any (extract_built choices) no_defaults words faultless (codes "at") (Accepts false moments)
-      (one_keeps (codes "at") (Accepts false moments) (file_told ∷ clock_told ∷ party_told ∷ role_told choices.roles ∷ kind_told choices.kinds ∷ []) at_told [] refl refl (λ text h. h)))
+      (one_keeps (codes "at") (Accepts false moments) (file_shape ∷ clock_shape ∷ party_shape ∷ role_shape choices.roles ∷ kind_shape choices.kinds ∷ []) at_told [] refl refl (λ text h. h)))
 
-  -- words of `extract` without a fault have a file, a clock, a party, a role and a kind, and a moment if any
-  pub extract_named : (order : Order) × IsFoundAs (Some (rows_at (extract_built choices) words)) order
+  -- arguments of `extract` without a fault have a file, a clock, a party, a role and a kind, and a moment if `--at` is given
+  pub extract_named : (order : PlainCommand) × IsFoundAs (Some (rows_at (extract_built choices) words)) order
   extract_named =
       let clock = clock_given in
       let party = party_given in
-      let number = counted (signed_digits_value 10 party.0) party.2.2 in
+      let number = count_of (signed_digits_value 10 party.0) party.2.2 in
       let role = role_chosen choices.roles role_given.0 spelled.roles role_given.2 in
       let kind = kind_chosen choices.kinds kind_given.0 spelled.kinds kind_given.2 in (
         to_extract file_given.0 (signed_digits_value 10 clock.0) number.0 role.0 kind.0 at_if_any.0,

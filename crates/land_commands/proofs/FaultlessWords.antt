@@ -1,4 +1,4 @@
--- Words in which `clap` finds no fault name a command. Each command has such a lemma of its own.
+-- Arguments in which `clap` finds no fault name a command. There is one such lemma for each command.
 use Rattle.std.proofs.Common.{◌≡◌, refl, Bool, true, false, List, [], Option, Some, None, cond, is_some, option_map, codes}
 use Rattle.std.specs.Option.{option_map_or}
 use Rattle.std.specs.Str.Parse.{signed_digits_value}
@@ -8,19 +8,19 @@ use Rattle.clap.specs.Values.{Accepts}
 use Rattle.clap.specs.Walk.{Row, Text, answers_to, finished, first_of, nothing_held, rows_after, settled, stop_after, walk, walk_from}
 use Rattle.clap.specs.declared.builder.value_parser.ValueParser.TheVariants as parser
 use Rattle.land_commands.proofs.BuiltCommands.{extract_built, file_built, serve_built, talk_built}
-use Rattle.land_commands.proofs.FaultlessExtract.{counted, extract_named}
+use Rattle.land_commands.proofs.FaultlessExtract.{count_of, extract_named}
 use Rattle.land_commands.proofs.GivenOptions.{Each, HasNoDefault, given_passes, help_keeps, option_keeps, required_given}
 use Rattle.land_commands.proofs.WalkKeeps.{both_none}
 use Rattle.land_commands.specs.Words.Choices.{AreSpelled}
 use Rattle.land_commands.specs.Words.Commands.{land_app}
 use Rattle.land_commands.specs.Words.Names.{IsFoundAs, NamesBy}
 use Rattle.land_commands.specs.Words.Options.{counts, moments, ports}
-use Rattle.land_commands.specs.Words.Orders.{Order, to_talk, to_make, to_serve, to_check, to_migrate}
+use Rattle.land_commands.specs.Words.PlainCommands.{PlainCommand, to_talk, to_make, to_serve, to_check, to_migrate}
 use Rattle.land_commands.specs.declared.words.choices.Choices.{Choices}
 
--- words of `talk` without a fault have a moment for its clock
+-- arguments of `talk` without a fault have a moment for the clock
 talk_named : (words : List Text) → level_fault talk_built [] nothing_held words false [] ≡ []
-    → (order : Order) × IsFoundAs (Some (rows_at talk_built words)) order
+    → (order : PlainCommand) × IsFoundAs (Some (rows_at talk_built words)) order
 talk_named words e =
     let none : Each HasNoDefault talk_built.rules = (refl, (refl, tt)) in
     let given = required_given talk_built none words e in
@@ -30,7 +30,7 @@ talk_named words e =
       (rows_after talk_built.rules [] words, refl, record { text = clock.0; found = clock.1; in_range = clock.2; value = refl }),
     )
 
--- words of a command with a file alone have a text for it
+-- arguments of a command with only a file have a value for it
 file_named : (name : Text) (words : List Text) → level_fault (file_built name) [] nothing_held words false [] ≡ []
     → (file : Text) × (first_of (codes "file") (rows_after (file_built name).rules [] words) ≡ Some file)
 file_named name words e =
@@ -40,9 +40,9 @@ file_named name words e =
     (option_keeps (codes "file") (Accepts false parser.String) (codes "file") true parser.String (λ same text h. h), (help_keeps _, tt)) (given.0 refl) in
     (file.0, file.1)
 
--- words of `serve` without a fault have a file, a port and how many connections to serve
+-- arguments of `serve` without a fault have a file, a port and a number of connections
 serve_named : (words : List Text) → level_fault serve_built [] nothing_held words false [] ≡ []
-    → (order : Order) × IsFoundAs (Some (rows_at serve_built words)) order
+    → (order : PlainCommand) × IsFoundAs (Some (rows_at serve_built words)) order
 serve_named words e =
     let none : Each HasNoDefault serve_built.rules = (refl, (refl, (refl, (refl, tt)))) in
     let given = required_given serve_built none words e in
@@ -67,8 +67,8 @@ serve_named words e =
         (option_keeps (codes "connections") (Accepts false counts) (codes "connections") true counts (λ same text h. h), (help_keeps _, tt)),
       ),
     ) (given.1.1.0 refl) in
-    let at_port = counted (signed_digits_value 10 port.0) port.2.2 in
-    let in_all = counted (signed_digits_value 10 count.0) count.2.2 in (
+    let at_port = count_of (signed_digits_value 10 port.0) port.2.2 in
+    let in_all = count_of (signed_digits_value 10 count.0) count.2.2 in (
       to_serve file.0 at_port.0 in_all.0,
       (
         rows_after serve_built.rules [] words,
@@ -82,23 +82,23 @@ serve_named words e =
     )
 
 module _ (choices : Choices) (spelled : AreSpelled choices) where
-  -- where a command is wanted, one is there
+  -- if a command is required, there is one
   command_wanted : (rows : List Row) (has : Bool) → check_fault (built (land_app choices)).top rows has ≡ [] → has ≡ true
   command_wanted rows true e = refl
   command_wanted rows false e = cc
 
-  -- the command whose word this is
-  abbrev picked : (talk make serve check migrate extract : Bool) → Option Shape
-  picked talk make serve check migrate extract =
+  -- the command with this name
+  abbrev shape_of : (talk make serve check migrate extract : Bool) → Option Shape
+  shape_of talk make serve check migrate extract =
       cond talk (Some talk_built)
       (cond make (Some (file_built (codes "new")))
       (cond serve (Some serve_built)
       (cond check (Some (file_built (codes "check"))) (cond migrate (Some (file_built (codes "migrate"))) (cond extract (Some (extract_built choices)) None)))))
 
   picked_named : (words : List Text) (talk make serve check migrate extract : Bool)
-      → is_some (option_map (λ s. rows_at s words) (picked talk make serve check migrate extract)) ≡ true
-      → option_map_or (λ s. level_fault s [] nothing_held words false []) (picked talk make serve check migrate extract) [] ≡ []
-      → (order : Order) × IsFoundAs (option_map (λ s. rows_at s words) (picked talk make serve check migrate extract)) order
+      → is_some (option_map (λ s. rows_at s words) (shape_of talk make serve check migrate extract)) ≡ true
+      → option_map_or (λ s. level_fault s [] nothing_held words false []) (shape_of talk make serve check migrate extract) [] ≡ []
+      → (order : PlainCommand) × IsFoundAs (option_map (λ s. rows_at s words) (shape_of talk make serve check migrate extract)) order
   picked_named words true make serve check migrate extract has e = talk_named words e
   picked_named words false true serve check migrate extract has e =
       let file = file_named (codes "new") words e in
@@ -113,17 +113,17 @@ module _ (choices : Choices) (spelled : AreSpelled choices) where
   picked_named words false false false false false true has e = extract_named choices spelled words e
   picked_named words false false false false false false has e = cc
 
-  -- the command at which the walk over the words stops
+  -- the command at which the walk over the arguments stops
   command_named : (stop : Option (Text × List Text)) → is_some (entered (built (land_app choices)) stop) ≡ true
-      → entered_fault (built (land_app choices)) stop ≡ [] → (order : Order) × IsFoundAs (entered (built (land_app choices)) stop) order
+      → entered_fault (built (land_app choices)) stop ≡ [] → (order : PlainCommand) × IsFoundAs (entered (built (land_app choices)) stop) order
   command_named None has e = cc
   command_named (Some q) has e =
       picked_named q.1 (answers_to q.0 (label_of talk_built)) (answers_to q.0 (label_of (file_built (codes "new"))))
       (answers_to q.0 (label_of serve_built)) (answers_to q.0 (label_of (file_built (codes "check"))))
       (answers_to q.0 (label_of (file_built (codes "migrate")))) (answers_to q.0 (label_of (extract_built choices))) has e
 
-  -- words without a fault name a command
-  pub named_by_words : (words : List Text) → fault_of (land_app choices) words ≡ [] → (order : Order) × NamesBy choices words order
+  -- arguments without a fault name a command
+  pub named_by_words : (words : List Text) → fault_of (land_app choices) words ≡ [] → (order : PlainCommand) × NamesBy choices words order
   named_by_words words e =
       let a = built (land_app choices) in
       let given = argument_words (land_app choices) words in

@@ -1,4 +1,4 @@
--- Lemmas of the program.
+-- Lemmas about the program.
 pub mod BuiltCommands
 pub mod FaultlessExtract
 pub mod FaultlessWords

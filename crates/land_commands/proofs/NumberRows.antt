@@ -1,4 +1,4 @@
--- The rows of an option whose first values pass a test, over words without a fault.
+-- The rows of an option whose first values pass a test, for arguments without a fault.
 use Rattle.std.proofs.Common.{◌≡◌, ◌⊎◌, inl, inr, refl, subst, Bool, true, false, List, [], ◌∷◌, ◌++◌, Option, Some, None, if◌then◌else◌}
 use Rattle.std.specs.Prelude.{find, option_and_then, slice_get}
 use Rattle.std.specs.Option.{option_map_or}
@@ -15,7 +15,7 @@ use Rattle.clap.specs.declared.builder.value_parser.ValueParser.{ValueParser}
 use Rattle.clap.specs.declared.parser.matches.ValueSource.{ValueSource}
 
 module _ (id : Text) (Passes : Text → Type 0) where
-  -- the first value is there, and passes
+  -- there is a first value, and it passes
   abbrev pub HasFirst : List Text → Type 0
   HasFirst [] = ⊥
   HasFirst (v ∷ values) = Passes v
@@ -47,7 +47,7 @@ module _ (id : Text) (Passes : Text → Type 0) where
       go true rest = ((λ same. first_stays r.values values (h.0 same)), h.1)
       go false rest = (h.0, rest)
 
-  -- a use that replaces what was there
+  -- a use that replaces the value
   pub set_pass : (name : Text) (how : Reading) (source : ValueSource) (values : List Text) (rows : List Row) → (bytes_eq name id ≡ true → HasFirst values)
       → AllPass rows → AllPass (with_values name how source values (without name rows))
   set_pass name how source values rows first h = values_pass name how source values (without name rows) first (without_pass name rows h)
@@ -65,7 +65,7 @@ module _ (id : Text) (Passes : Text → Type 0) where
       go true same e rest = let one : x ≡ r = cc in subst (λ (r : Row). HasFirst r.values) one (h.0 same)
       go false same e rest = rest e
 
-  -- the first row of the option has its text
+  -- the first row of the option has its value
   pub given_first : (rows : List Row) → AllPass rows → is_given id rows ≡ true → (text : Text) × (first_of id rows ≡ Some text) × Passes text
   given_first rows h given = go (find (λ r. bytes_eq r.id id) rows) refl given
     where
@@ -74,7 +74,7 @@ module _ (id : Text) (Passes : Text → Type 0) where
       go None e given = cc
       go (Some r) e given = first_text r.values (found_first rows r h e)
 
-  -- the option has no row, or its first row has its text
+  -- the option has no row, or its first row has its value
   pub first_if_any : (rows : List Row) → AllPass rows → (first_of id rows ≡ None) ⊎ ((text : Text) × (first_of id rows ≡ Some text) × Passes text)
   first_if_any rows h = go (find (λ r. bytes_eq r.id id) rows) refl
     where

@@ -1,4 +1,4 @@
--- Plain words of `extract`, each option once and in the order of help, name the extract that they write.
+-- Arguments of `extract` with each option once, in the order of the help text, name this extract.
 use Rattle.std.proofs.Common.{◌≡◌, ◌∙◌, ◌==◌, refl, ap, arith, ℕ, pos, true, false, List, [], ◌∷◌, ◌++◌, Some, None, codes}
 use Rattle.std.specs.List.{list_any}
 use Rattle.std.specs.Str.{bytes_eq}
@@ -13,13 +13,13 @@ use Rattle.clap.specs.declared.builder.value_parser.Reading.TheVariants as readi
 use Rattle.clap.specs.declared.builder.value_parser.ValueParser.TheVariants as parser
 use Rattle.land_commands.proofs.BuiltCommands.{extract_built}
 use Rattle.land_commands.proofs.FaultlessExtract.{any_text}
-use Rattle.land_commands.proofs.PlainWords.{EndsWell, IsRead, Leads, answered, asked, clock_row, file_row, level_well, no_hyphen, none_of_both, nowhere, on_to, row_with, rows_well, written}
+use Rattle.land_commands.proofs.PlainWords.{EndsWell, IsRead, Leads, with_value, expects_value, clock_row, file_row, level_well, no_hyphen, none_of_both, empty_walk, on_to, row_with, rows_well, numeral_reads}
 use Rattle.land_commands.specs.Words.Choices.{Places, kind_word, kind_words, role_word, role_words}
 use Rattle.land_commands.specs.Words.Commands.{land_app}
 use Rattle.land_commands.specs.Words.Laws.{IsPlainText, PlainExtractLaw, extract_words}
 use Rattle.land_commands.specs.Words.Names.{NamesBy}
 use Rattle.land_commands.specs.Words.Options.{moments, parties}
-use Rattle.land_commands.specs.Words.Orders.{to_extract}
+use Rattle.land_commands.specs.Words.PlainCommands.{to_extract}
 use Rattle.land_commands.specs.declared.words.choices.Choices.{Choices}
 use Rattle.land_core.specs.declared.kind.Kind.{Kind}
 use Rattle.land_core.specs.declared.kind.Kind.TheVariants as kind
@@ -38,7 +38,7 @@ kind_row = row_with (codes "kind") reading.AsWritten
 abbrev at_row : Text → Row
 at_row = row_with (codes "at") reading.WithoutMinus
 
--- ---- words that are chosen
+-- ---- options with a fixed set of words
 
 chosen_passes : (places : Places) (words : List Text) (text : Text) → texts places.now ≡ words → list_any (λ word. bytes_eq word text) words ≡ true
     → accepts false (parser.Names places) text ≡ true
@@ -77,7 +77,7 @@ plain_kind kind.Rrr = λ e. absurd (omega arith)
 plain_kind kind.Source = λ e. absurd (omega arith)
 plain_kind kind.Mutation = λ e. absurd (omega arith)
 
--- the words of an extract behind its name, whatever role and kind are written
+-- the arguments of `extract` after its name, for any words for role and kind
 abbrev extract_texts : (file clock party role kind : Text) → List Text
 extract_texts file clock party role kind =
     codes "--file" ∷ file ∷ codes "--clock" ∷ clock ∷ codes "--party" ∷ party ∷ codes "--role" ∷ role ∷ codes "--kind" ∷ kind ∷ []
@@ -85,11 +85,11 @@ extract_texts file clock party role kind =
 -- ---- the walk
 
 module _ (choices : Choices) where
-  -- a value behind the name of an option is its value, and without fault
+  -- a value after the name of an option is its value, without a fault
   record Answers (name : Text) : Type 0 where
     answers : (rows : List Row) (x : ℕ) (xs : Text) → (x == 45) ≡ false
-        → walked (extract_built choices).rules [] (asked rows name) (x ∷ xs) ≡ answered rows name (x ∷ xs)
-    well : (rows : List Row) (x : ℕ) (xs : Text) → (x == 45) ≡ false → turn_fault (extract_built choices) [] (asked rows name) (x ∷ xs) ≡ []
+        → walked (extract_built choices).rules [] (expects_value rows name) (x ∷ xs) ≡ with_value rows name (x ∷ xs)
+    well : (rows : List Row) (x : ℕ) (xs : Text) → (x == 45) ≡ false → turn_fault (extract_built choices) [] (expects_value rows name) (x ∷ xs) ≡ []
 
   file_answers : Answers (codes "file")
   unfolding clap_on_literals
@@ -115,7 +115,7 @@ module _ (choices : Choices) where
   unfolding clap_on_literals
   at_answers = record { answers = λ rows x xs sign. rw sign (rw sign refl); well = λ rows x xs sign. rw sign (rw sign refl) }
 
-  file_asked : walked (extract_built choices).rules [] (walk_from nothing_held) (codes "--file") ≡ asked [] (codes "file")
+  file_asked : walked (extract_built choices).rules [] (walk_from nothing_held) (codes "--file") ≡ expects_value [] (codes "file")
   unfolding clap_on_literals
   file_asked = refl
 
@@ -123,69 +123,69 @@ module _ (choices : Choices) where
   unfolding clap_on_literals
   file_asked_well = refl
 
-  clock_asked : (file : Text) → walked (extract_built choices).rules [] (answered [] (codes "file") file) (codes "--clock") ≡ asked (file_row file ∷ []) (codes "clock")
+  clock_asked : (file : Text) → walked (extract_built choices).rules [] (with_value [] (codes "file") file) (codes "--clock") ≡ expects_value (file_row file ∷ []) (codes "clock")
   unfolding clap_on_literals
   clock_asked file = refl
 
-  clock_asked_well : (file : Text) → turn_fault (extract_built choices) [] (answered [] (codes "file") file) (codes "--clock") ≡ []
+  clock_asked_well : (file : Text) → turn_fault (extract_built choices) [] (with_value [] (codes "file") file) (codes "--clock") ≡ []
   unfolding clap_on_literals
   clock_asked_well file = refl
 
-  party_asked : (file clock : Text) → walked (extract_built choices).rules [] (answered (file_row file ∷ []) (codes "clock") clock) (codes "--party")
-      ≡ asked (file_row file ∷ clock_row clock ∷ []) (codes "party")
+  party_asked : (file clock : Text) → walked (extract_built choices).rules [] (with_value (file_row file ∷ []) (codes "clock") clock) (codes "--party")
+      ≡ expects_value (file_row file ∷ clock_row clock ∷ []) (codes "party")
   unfolding clap_on_literals
   party_asked file clock = refl
 
   party_asked_well : (file clock : Text) → accepts false moments clock ≡ true
-      → turn_fault (extract_built choices) [] (answered (file_row file ∷ []) (codes "clock") clock) (codes "--party") ≡ []
+      → turn_fault (extract_built choices) [] (with_value (file_row file ∷ []) (codes "clock") clock) (codes "--party") ≡ []
   unfolding clap_on_literals
   party_asked_well file clock accepted = rw accepted refl
 
   role_asked : (file clock party : Text)
-      → walked (extract_built choices).rules [] (answered (file_row file ∷ clock_row clock ∷ []) (codes "party") party) (codes "--role")
-      ≡ asked (file_row file ∷ clock_row clock ∷ party_row party ∷ []) (codes "role")
+      → walked (extract_built choices).rules [] (with_value (file_row file ∷ clock_row clock ∷ []) (codes "party") party) (codes "--role")
+      ≡ expects_value (file_row file ∷ clock_row clock ∷ party_row party ∷ []) (codes "role")
   unfolding clap_on_literals
   role_asked file clock party = refl
 
   role_asked_well : (file clock party : Text) → accepts false parties party ≡ true
-      → turn_fault (extract_built choices) [] (answered (file_row file ∷ clock_row clock ∷ []) (codes "party") party) (codes "--role") ≡ []
+      → turn_fault (extract_built choices) [] (with_value (file_row file ∷ clock_row clock ∷ []) (codes "party") party) (codes "--role") ≡ []
   unfolding clap_on_literals
   role_asked_well file clock party accepted = rw accepted refl
 
   kind_asked : (file clock party role : Text)
-      → walked (extract_built choices).rules [] (answered (file_row file ∷ clock_row clock ∷ party_row party ∷ []) (codes "role") role) (codes "--kind")
-      ≡ asked (file_row file ∷ clock_row clock ∷ party_row party ∷ role_row role ∷ []) (codes "kind")
+      → walked (extract_built choices).rules [] (with_value (file_row file ∷ clock_row clock ∷ party_row party ∷ []) (codes "role") role) (codes "--kind")
+      ≡ expects_value (file_row file ∷ clock_row clock ∷ party_row party ∷ role_row role ∷ []) (codes "kind")
   unfolding clap_on_literals
   kind_asked file clock party role = refl
 
   kind_asked_well : (file clock party role : Text) → accepts false (parser.Names choices.roles) role ≡ true
-      → turn_fault (extract_built choices) [] (answered (file_row file ∷ clock_row clock ∷ party_row party ∷ []) (codes "role") role) (codes "--kind") ≡ []
+      → turn_fault (extract_built choices) [] (with_value (file_row file ∷ clock_row clock ∷ party_row party ∷ []) (codes "role") role) (codes "--kind") ≡ []
   unfolding clap_on_literals
   kind_asked_well file clock party role accepted = rw accepted refl
 
   at_asked : (file clock party role kind : Text)
-      → walked (extract_built choices).rules [] (answered (file_row file ∷ clock_row clock ∷ party_row party ∷ role_row role ∷ []) (codes "kind") kind) (codes "--at")
-      ≡ asked (file_row file ∷ clock_row clock ∷ party_row party ∷ role_row role ∷ kind_row kind ∷ []) (codes "at")
+      → walked (extract_built choices).rules [] (with_value (file_row file ∷ clock_row clock ∷ party_row party ∷ role_row role ∷ []) (codes "kind") kind) (codes "--at")
+      ≡ expects_value (file_row file ∷ clock_row clock ∷ party_row party ∷ role_row role ∷ kind_row kind ∷ []) (codes "at")
   unfolding clap_on_literals
   at_asked file clock party role kind = refl
 
   at_asked_well : (file clock party role kind : Text) → accepts false (parser.Names choices.kinds) kind ≡ true
-      → turn_fault (extract_built choices) [] (answered (file_row file ∷ clock_row clock ∷ party_row party ∷ role_row role ∷ []) (codes "kind") kind) (codes "--at") ≡ []
+      → turn_fault (extract_built choices) [] (with_value (file_row file ∷ clock_row clock ∷ party_row party ∷ role_row role ∷ []) (codes "kind") kind) (codes "--at") ≡ []
   unfolding clap_on_literals
   at_asked_well file clock party role kind accepted = rw accepted refl
 
   kind_ends : (file clock party role kind : Text) → accepts false (parser.Names choices.kinds) kind ≡ true
-      → EndsWell (extract_built choices) (answered (file_row file ∷ clock_row clock ∷ party_row party ∷ role_row role ∷ []) (codes "kind") kind).held
+      → EndsWell (extract_built choices) (with_value (file_row file ∷ clock_row clock ∷ party_row party ∷ role_row role ∷ []) (codes "kind") kind).held
   unfolding clap_on_literals
   kind_ends file clock party role kind accepted = record { settles = rw accepted refl; defaults = refl; checks = refl }
 
   at_ends : (file clock party role kind at : Text) → accepts false moments at ≡ true
       → EndsWell (extract_built choices)
-      (answered (file_row file ∷ clock_row clock ∷ party_row party ∷ role_row role ∷ kind_row kind ∷ []) (codes "at") at).held
+      (with_value (file_row file ∷ clock_row clock ∷ party_row party ∷ role_row role ∷ kind_row kind ∷ []) (codes "at") at).held
   unfolding clap_on_literals
   at_ends file clock party role kind at accepted = record { settles = rw accepted refl; defaults = refl; checks = refl }
 
-  -- the words of the program are those of `extract` behind its name
+  -- the arguments of the program are those of `extract` after its name
   fault_below : (program file clock party role kind : Text) → fault_of (land_app choices) (program ∷ codes "extract" ∷ extract_texts file clock party role kind)
       ≡ or_else (level_fault (extract_built choices) [] nothing_held (extract_texts file clock party role kind) false []) []
   unfolding clap_on_literals
@@ -208,15 +208,15 @@ module _ (choices : Choices) where
   unfolding clap_on_literals
   rows_below_at program file clock party role kind at = refl
 
-  -- a plain value behind the name of an option leads on
+  -- after a value of an option the walk continues
   answer_on : (name : Text) → Answers name → (rows : List Row) (text : Text) (words : List Text) (end : Walk) → IsPlainText text
-      → Leads (extract_built choices) (answered rows name text) words end → Leads (extract_built choices) (asked rows name) (text ∷ words) end
+      → Leads (extract_built choices) (with_value rows name text) words end → Leads (extract_built choices) (expects_value rows name) (text ∷ words) end
   answer_on name it rows [] words end plain rest = absurd plain
   answer_on name it rows (x ∷ xs) words end plain rest =
       let sign = no_hyphen x plain in
       on_to (extract_built choices) _ _ _ _ _ (it.answers rows x xs sign) (it.well rows x xs sign) rest
 
-  -- texts that the options take
+  -- values that the options accept
   record AreTaken (file clock party role kind : Text) : Type 0 where
     file_plain : IsPlainText file
     clock_plain : IsPlainText clock
@@ -229,7 +229,7 @@ module _ (choices : Choices) where
     kind_passes : accepts false (parser.Names choices.kinds) kind ≡ true
 
   to_kind : (file clock party role kind : Text) (more : List Text) (end : Walk) → AreTaken file clock party role kind
-      → Leads (extract_built choices) (answered (file_row file ∷ clock_row clock ∷ party_row party ∷ role_row role ∷ []) (codes "kind") kind) more end
+      → Leads (extract_built choices) (with_value (file_row file ∷ clock_row clock ∷ party_row party ∷ role_row role ∷ []) (codes "kind") kind) more end
       → Leads (extract_built choices) (walk_from nothing_held) (extract_texts file clock party role kind ++ more) end
   to_kind file clock party role kind more end taken rest =
       on_to (extract_built choices) _ _ _ _ _ file_asked file_asked_well
@@ -249,7 +249,7 @@ module _ (choices : Choices) where
     at_clock : NamesBy choices (program ∷ codes "extract" ∷ extract_words file clock_digits party_digits role kind)
         (to_extract file (pos clock) party role kind None)
     at_clock =
-        let leads = to_kind file clock_digits party_digits (role_word role) (kind_word kind) [] _ taken (nowhere (extract_built choices) _) in
+        let leads = to_kind file clock_digits party_digits (role_word role) (kind_word kind) [] _ taken (empty_walk (extract_built choices) _) in
         let ends = kind_ends file clock_digits party_digits (role_word role) (kind_word kind) taken.kind_passes in
         record {
           faultless =
@@ -277,7 +277,7 @@ module _ (choices : Choices) where
         to_kind file clock_digits party_digits (role_word role) (kind_word kind) (codes "--at" ∷ at_digits ∷ []) _ taken
         (on_to (extract_built choices) _ _ _ _ _ (at_asked file clock_digits party_digits (role_word role) (kind_word kind))
         (at_asked_well file clock_digits party_digits (role_word role) (kind_word kind) taken.kind_passes)
-        (answer_on (codes "at") at_answers _ at_digits _ _ at_read.0 (nowhere (extract_built choices) _))) in
+        (answer_on (codes "at") at_answers _ at_digits _ _ at_read.0 (empty_walk (extract_built choices) _))) in
         let ends = at_ends file clock_digits party_digits (role_word role) (kind_word kind) at_digits at_passes in
         record {
           faultless =
@@ -299,8 +299,8 @@ module _ (choices : Choices) where
 
 pub plain_extract : PlainExtractLaw
 plain_extract choices program file clock_digits party_digits clock party role kind spelled plain clock_written party_written =
-    let clock_read = written clock_digits 0 4102444799999 clock (omega arith) clock_written in
-    let party_read = written party_digits 1 1000000000 party (omega arith) party_written in
+    let clock_read = numeral_reads clock_digits 0 4102444799999 clock (omega arith) clock_written in
+    let party_read = numeral_reads party_digits 1 1000000000 party (omega arith) party_written in
     let taken : AreTaken choices file clock_digits party_digits (role_word role) (kind_word kind) = record {
       file_plain = plain;
       clock_plain = clock_read.0;
@@ -314,7 +314,7 @@ plain_extract choices program file clock_digits party_digits clock party role ki
     } in (
       at_clock choices program file clock_digits party_digits clock party role kind taken clock_read party_read,
       λ at_digits at at_written.
-          let at_read = written at_digits 0 4102444799999 at (omega arith) at_written in
+          let at_read = numeral_reads at_digits 0 4102444799999 at (omega arith) at_written in
           at_moment choices program file clock_digits party_digits clock party role kind taken clock_read party_read at_digits at at_read
           (Accepts-accepts false moments at_digits at_read.1),
     )

@@ -1,4 +1,4 @@
--- Plain words, each option once and in the order of help, name the command with what they write.
+-- Arguments with each option once, in the order of the help text, name the command with these options.
 use Rattle.std.proofs.Common.{◌≡◌, ◌≢◌, ◌∙◌, ◌≤◌, ◌<◌, ◌==◌, refl, rules, sym, ap, subst, arith, ℕ, pos, Bool, true, false, List, [], ◌∷◌, Some, None, codes, w64}
 use Rattle.std.proofs.lemmas.Bool.Decides.{nat_tests}
 use Rattle.std.specs.Prelude.{◌≤ℤ◌, FitsSigned, fold}
@@ -18,19 +18,19 @@ use Rattle.clap.specs.declared.builder.value_parser.Reading.TheVariants as readi
 use Rattle.clap.specs.declared.parser.matches.ValueSource.TheVariants.{CommandLine}
 use Rattle.land_commands.proofs.BuiltCommands.{file_built, serve_built, talk_built}
 use Rattle.land_commands.specs.Words.Commands.{land_app}
-use Rattle.land_commands.specs.Words.Laws.{IsPlainText, Writes}
+use Rattle.land_commands.specs.Words.Laws.{IsPlainText, IsNumeralIn}
 use Rattle.land_commands.specs.Words.Names.{NamesBy}
 use Rattle.land_commands.specs.Words.Options.{counts, moments, ports}
-use Rattle.land_commands.specs.Words.Orders.{to_talk, to_make, to_serve, to_check, to_migrate}
+use Rattle.land_commands.specs.Words.PlainCommands.{to_talk, to_make, to_serve, to_check, to_migrate}
 use Rattle.land_commands.specs.declared.words.choices.Choices.{Choices}
 
 pub none_of_both : (a b : Kinds) → a ≡ [] → b ≡ [] → or_else a b ≡ []
 none_of_both [] b e f = f
 none_of_both (k ∷ ks) b e f = cc
 
--- behind the name of an option, its value is waited for
-abbrev pub asked : List Row → Text → Walk
-asked rows name = record {
+-- after the name of an option, its value is expected
+abbrev pub expects_value : List Row → Text → Walk
+expects_value rows name = record {
   held = record { rows = rows; pending = Some (name, []); skip = 0 };
   waiting = option name;
   position = 1;
@@ -38,9 +38,9 @@ asked rows name = record {
   stopped = None;
 }
 
--- and then it is there
-abbrev pub answered : List Row → Text → Text → Walk
-answered rows name value = record {
+-- and then it is present
+abbrev pub with_value : List Row → Text → Text → Walk
+with_value rows name value = record {
   held = record { rows = rows; pending = Some (name, value ∷ []); skip = 0 };
   waiting = idle;
   position = 1;
@@ -71,14 +71,14 @@ count_row = row_with (codes "connections") reading.WithoutMinus
 
 -- ---- walks
 
--- words without a fault lead from one place of a walk to another
+-- arguments without a fault lead from one position of a walk to another
 pub record Leads (s : Shape) (from : Walk) (words : List Text) (end : Walk) : Type 0 where
   pub well : walk_fault s [] from words ≡ []
   pub ends : fold (walked s.rules []) from words ≡ end
 
-pub nowhere : (s : Shape) (from : Walk) → Leads s from [] from
+pub empty_walk : (s : Shape) (from : Walk) → Leads s from [] from
 unfolding walk_fault
-nowhere s from = record { well = refl; ends = refl }
+empty_walk s from = record { well = refl; ends = refl }
 
 pub on_to : (s : Shape) (from next : Walk) (word : Text) (words : List Text) (end : Walk) → walked s.rules [] from word ≡ next → turn_fault s [] from word ≡ []
     → Leads s next words end → Leads s from (word ∷ words) end
@@ -108,7 +108,7 @@ module _ (s : Shape) (words : List Text) (end : Walk) (leads : Leads s (walk_fro
 
 -- ---- texts and numbers
 
--- a digit is no sign
+-- a digit is not a sign
 no_sign : (sign x : ℕ) → 36 ≤ digit_value sign → digit_value x < 10 → (x == sign) ≡ false
 no_sign sign x other digit = go (x == sign) refl
   where
@@ -126,18 +126,18 @@ no_hyphen x other = go (x == 45) refl
     go true e = let same : x ≡ 45 = grind (arith, nat_tests) in absurd (other same)
     go false e = refl
 
--- such a number fits into 64 bits
-fits : (n : ℕ) → n ≤ 9223372036854775807 → FitsSigned w64 (pos n)
-fits n most = omega arith
+-- such a number fits in 64 bits
+fits_64_bits : (n : ℕ) → n ≤ 9223372036854775807 → FitsSigned w64 (pos n)
+fits_64_bits n most = omega arith
 
--- digits that write a number begin with no hyphen, are in the range, and are read as that number
+-- digits of a number do not start with a hyphen, are in the range, and are read as that number
 abbrev pub IsRead : (digits : Text) (least most number : ℕ) → Type 0
 IsRead digits least most number =
     IsPlainText digits × IsSignedIn (pos least) (pos most) digits × (signed_digits_value 10 digits ≡ pos number)
 
-pub written : (digits : Text) (least most number : ℕ) → most ≤ 9223372036854775807 → Writes digits least most number → IsRead digits least most number
-written [] least most number small writes = absurd (omega arith)
-written (x ∷ xs) least most number small writes =
+pub numeral_reads : (digits : Text) (least most number : ℕ) → most ≤ 9223372036854775807 → IsNumeralIn digits least most number → IsRead digits least most number
+numeral_reads [] least most number small writes = absurd (omega arith)
+numeral_reads (x ∷ xs) least most number small writes =
     let minus = no_sign 45 x (omega arith) writes.0.1.0 in
     let plus = no_sign 43 x (omega arith) writes.0.1.0 in
     let unsigned : without_leading_sign (x ∷ xs) ≡ x ∷ xs = rw (minus, plus) refl in
@@ -146,11 +146,11 @@ written (x ∷ xs) least most number small writes =
     let low : pos least ≤ℤ pos number = search rules in
     let high : pos number ≤ℤ pos most = search rules in
     let small_one : number ≤ 9223372036854775807 = omega (arith, small, writes.3) in
-    ((λ e. let bad : (x == 45) ≡ true = rw e refl in cc), (numeral, rw value (fits number small_one), rw value low, rw value high), value)
+    ((λ e. let bad : (x == 45) ≡ true = rw e refl in cc), (numeral, rw value (fits_64_bits number small_one), rw value low, rw value high), value)
 
 -- ---- `talk`
 
-talk_asks : walked talk_built.rules [] (walk_from nothing_held) (codes "--clock") ≡ asked [] (codes "clock")
+talk_asks : walked talk_built.rules [] (walk_from nothing_held) (codes "--clock") ≡ expects_value [] (codes "clock")
 unfolding clap_on_literals
 talk_asks = refl
 
@@ -158,25 +158,25 @@ talk_asks_well : turn_fault talk_built [] (walk_from nothing_held) (codes "--clo
 unfolding clap_on_literals
 talk_asks_well = refl
 
-talk_answers : (x : ℕ) (xs : Text) → (x == 45) ≡ false → walked talk_built.rules [] (asked [] (codes "clock")) (x ∷ xs) ≡ answered [] (codes "clock") (x ∷ xs)
+talk_answers : (x : ℕ) (xs : Text) → (x == 45) ≡ false → walked talk_built.rules [] (expects_value [] (codes "clock")) (x ∷ xs) ≡ with_value [] (codes "clock") (x ∷ xs)
 unfolding clap_on_literals
 talk_answers x xs sign = rw sign (rw sign refl)
 
-talk_answers_well : (x : ℕ) (xs : Text) → (x == 45) ≡ false → turn_fault talk_built [] (asked [] (codes "clock")) (x ∷ xs) ≡ []
+talk_answers_well : (x : ℕ) (xs : Text) → (x == 45) ≡ false → turn_fault talk_built [] (expects_value [] (codes "clock")) (x ∷ xs) ≡ []
 unfolding clap_on_literals
 talk_answers_well x xs sign = rw sign (rw sign refl)
 
 talk_leads : (x : ℕ) (xs : Text) → (x == 45) ≡ false
-    → Leads talk_built (walk_from nothing_held) (codes "--clock" ∷ (x ∷ xs) ∷ []) (answered [] (codes "clock") (x ∷ xs))
+    → Leads talk_built (walk_from nothing_held) (codes "--clock" ∷ (x ∷ xs) ∷ []) (with_value [] (codes "clock") (x ∷ xs))
 talk_leads x xs sign =
     on_to talk_built _ _ _ _ _ talk_asks talk_asks_well
-    (on_to talk_built _ _ _ _ _ (talk_answers x xs sign) (talk_answers_well x xs sign) (nowhere talk_built _))
+    (on_to talk_built _ _ _ _ _ (talk_answers x xs sign) (talk_answers_well x xs sign) (empty_walk talk_built _))
 
-talk_ends : (digits : Text) → accepts false moments digits ≡ true → EndsWell talk_built (answered [] (codes "clock") digits).held
+talk_ends : (digits : Text) → accepts false moments digits ≡ true → EndsWell talk_built (with_value [] (codes "clock") digits).held
 unfolding clap_on_literals
 talk_ends digits accepted = record { settles = rw accepted refl; defaults = refl; checks = refl }
 
--- the words of the program are those of `talk` behind its name
+-- the arguments of the program are those of `talk` after its name
 talk_fault_below : (choices : Choices) (program digits : Text) → fault_of (land_app choices) (program ∷ codes "talk" ∷ codes "--clock" ∷ digits ∷ [])
     ≡ or_else (level_fault talk_built [] nothing_held (codes "--clock" ∷ digits ∷ []) false []) []
 unfolding clap_on_literals
@@ -187,11 +187,11 @@ talk_rows_below : (choices : Choices) (program digits : Text) → subcommand_of 
 unfolding clap_on_literals
 talk_rows_below choices program digits = refl
 
-pub plain_talk : (choices : Choices) (program digits : Text) (moment : ℕ) → Writes digits 0 4102444799999 moment
+pub plain_talk : (choices : Choices) (program digits : Text) (moment : ℕ) → IsNumeralIn digits 0 4102444799999 moment
     → NamesBy choices (program ∷ codes "talk" ∷ codes "--clock" ∷ digits ∷ []) (to_talk (pos moment))
 plain_talk choices program [] moment writes = absurd (omega arith)
 plain_talk choices program (x ∷ xs) moment writes =
-    let read = written (x ∷ xs) 0 4102444799999 moment (omega arith) writes in
+    let read = numeral_reads (x ∷ xs) 0 4102444799999 moment (omega arith) writes in
     let leads = talk_leads x xs (no_hyphen x read.0) in
     let ends = talk_ends (x ∷ xs) (Accepts-accepts false moments (x ∷ xs) read.1) in
     record {
@@ -203,9 +203,9 @@ plain_talk choices program (x ∷ xs) moment writes =
       );
     }
 
--- ---- commands with a file alone, of any name
+-- ---- commands with only a file, of any name
 
-file_asks : (name : Text) → walked (file_built name).rules [] (walk_from nothing_held) (codes "--file") ≡ asked [] (codes "file")
+file_asks : (name : Text) → walked (file_built name).rules [] (walk_from nothing_held) (codes "--file") ≡ expects_value [] (codes "file")
 unfolding clap_on_literals
 file_asks name = refl
 
@@ -214,21 +214,21 @@ unfolding clap_on_literals
 file_asks_well name = refl
 
 file_answers : (name : Text) (x : ℕ) (xs : Text) → (x == 45) ≡ false
-    → walked (file_built name).rules [] (asked [] (codes "file")) (x ∷ xs) ≡ answered [] (codes "file") (x ∷ xs)
+    → walked (file_built name).rules [] (expects_value [] (codes "file")) (x ∷ xs) ≡ with_value [] (codes "file") (x ∷ xs)
 unfolding clap_on_literals
 file_answers name x xs sign = rw sign (rw sign refl)
 
-file_answers_well : (name : Text) (x : ℕ) (xs : Text) → (x == 45) ≡ false → turn_fault (file_built name) [] (asked [] (codes "file")) (x ∷ xs) ≡ []
+file_answers_well : (name : Text) (x : ℕ) (xs : Text) → (x == 45) ≡ false → turn_fault (file_built name) [] (expects_value [] (codes "file")) (x ∷ xs) ≡ []
 unfolding clap_on_literals
 file_answers_well name x xs sign = rw sign (rw sign refl)
 
 file_leads : (name : Text) (x : ℕ) (xs : Text) → (x == 45) ≡ false
-    → Leads (file_built name) (walk_from nothing_held) (codes "--file" ∷ (x ∷ xs) ∷ []) (answered [] (codes "file") (x ∷ xs))
+    → Leads (file_built name) (walk_from nothing_held) (codes "--file" ∷ (x ∷ xs) ∷ []) (with_value [] (codes "file") (x ∷ xs))
 file_leads name x xs sign =
     on_to (file_built name) _ _ _ _ _ (file_asks name) (file_asks_well name)
-    (on_to (file_built name) _ _ _ _ _ (file_answers name x xs sign) (file_answers_well name x xs sign) (nowhere (file_built name) _))
+    (on_to (file_built name) _ _ _ _ _ (file_answers name x xs sign) (file_answers_well name x xs sign) (empty_walk (file_built name) _))
 
-file_ends : (name file : Text) → EndsWell (file_built name) (answered [] (codes "file") file).held
+file_ends : (name file : Text) → EndsWell (file_built name) (with_value [] (codes "file") file).held
 unfolding clap_on_literals
 file_ends name file = record { settles = refl; defaults = refl; checks = refl }
 
@@ -309,7 +309,7 @@ plain_files choices program (x ∷ xs) plain =
 
 -- ---- `serve`
 
-file_asked : walked serve_built.rules [] (walk_from nothing_held) (codes "--file") ≡ asked [] (codes "file")
+file_asked : walked serve_built.rules [] (walk_from nothing_held) (codes "--file") ≡ expects_value [] (codes "file")
 unfolding clap_on_literals
 file_asked = refl
 
@@ -317,68 +317,68 @@ file_asked_well : turn_fault serve_built [] (walk_from nothing_held) (codes "--f
 unfolding clap_on_literals
 file_asked_well = refl
 
-file_answered : (x : ℕ) (xs : Text) → (x == 45) ≡ false → walked serve_built.rules [] (asked [] (codes "file")) (x ∷ xs) ≡ answered [] (codes "file") (x ∷ xs)
+file_answered : (x : ℕ) (xs : Text) → (x == 45) ≡ false → walked serve_built.rules [] (expects_value [] (codes "file")) (x ∷ xs) ≡ with_value [] (codes "file") (x ∷ xs)
 unfolding clap_on_literals
 file_answered x xs sign = rw sign (rw sign refl)
 
-file_answered_well : (x : ℕ) (xs : Text) → (x == 45) ≡ false → turn_fault serve_built [] (asked [] (codes "file")) (x ∷ xs) ≡ []
+file_answered_well : (x : ℕ) (xs : Text) → (x == 45) ≡ false → turn_fault serve_built [] (expects_value [] (codes "file")) (x ∷ xs) ≡ []
 unfolding clap_on_literals
 file_answered_well x xs sign = rw sign (rw sign refl)
 
-port_asked : (file : Text) → walked serve_built.rules [] (answered [] (codes "file") file) (codes "--port") ≡ asked (file_row file ∷ []) (codes "port")
+port_asked : (file : Text) → walked serve_built.rules [] (with_value [] (codes "file") file) (codes "--port") ≡ expects_value (file_row file ∷ []) (codes "port")
 unfolding clap_on_literals
 port_asked file = refl
 
-port_asked_well : (file : Text) → turn_fault serve_built [] (answered [] (codes "file") file) (codes "--port") ≡ []
+port_asked_well : (file : Text) → turn_fault serve_built [] (with_value [] (codes "file") file) (codes "--port") ≡ []
 unfolding clap_on_literals
 port_asked_well file = refl
 
 port_answered : (rows : List Row) (x : ℕ) (xs : Text) → (x == 45) ≡ false
-    → walked serve_built.rules [] (asked rows (codes "port")) (x ∷ xs) ≡ answered rows (codes "port") (x ∷ xs)
+    → walked serve_built.rules [] (expects_value rows (codes "port")) (x ∷ xs) ≡ with_value rows (codes "port") (x ∷ xs)
 unfolding clap_on_literals
 port_answered rows x xs sign = rw sign (rw sign refl)
 
-port_answered_well : (rows : List Row) (x : ℕ) (xs : Text) → (x == 45) ≡ false → turn_fault serve_built [] (asked rows (codes "port")) (x ∷ xs) ≡ []
+port_answered_well : (rows : List Row) (x : ℕ) (xs : Text) → (x == 45) ≡ false → turn_fault serve_built [] (expects_value rows (codes "port")) (x ∷ xs) ≡ []
 unfolding clap_on_literals
 port_answered_well rows x xs sign = rw sign (rw sign refl)
 
-count_asked : (file digits : Text) → walked serve_built.rules [] (answered (file_row file ∷ []) (codes "port") digits) (codes "--connections")
-    ≡ asked (file_row file ∷ port_row digits ∷ []) (codes "connections")
+count_asked : (file digits : Text) → walked serve_built.rules [] (with_value (file_row file ∷ []) (codes "port") digits) (codes "--connections")
+    ≡ expects_value (file_row file ∷ port_row digits ∷ []) (codes "connections")
 unfolding clap_on_literals
 count_asked file digits = refl
 
 count_asked_well : (file digits : Text) → accepts false ports digits ≡ true
-    → turn_fault serve_built [] (answered (file_row file ∷ []) (codes "port") digits) (codes "--connections") ≡ []
+    → turn_fault serve_built [] (with_value (file_row file ∷ []) (codes "port") digits) (codes "--connections") ≡ []
 unfolding clap_on_literals
 count_asked_well file digits accepted = rw accepted refl
 
 count_answered : (rows : List Row) (x : ℕ) (xs : Text) → (x == 45) ≡ false
-    → walked serve_built.rules [] (asked rows (codes "connections")) (x ∷ xs) ≡ answered rows (codes "connections") (x ∷ xs)
+    → walked serve_built.rules [] (expects_value rows (codes "connections")) (x ∷ xs) ≡ with_value rows (codes "connections") (x ∷ xs)
 unfolding clap_on_literals
 count_answered rows x xs sign = rw sign (rw sign refl)
 
-count_answered_well : (rows : List Row) (x : ℕ) (xs : Text) → (x == 45) ≡ false → turn_fault serve_built [] (asked rows (codes "connections")) (x ∷ xs) ≡ []
+count_answered_well : (rows : List Row) (x : ℕ) (xs : Text) → (x == 45) ≡ false → turn_fault serve_built [] (expects_value rows (codes "connections")) (x ∷ xs) ≡ []
 unfolding clap_on_literals
 count_answered_well rows x xs sign = rw sign (rw sign refl)
 
--- the words of a service
+-- the arguments of `serve`
 abbrev pub service : (file port_digits count_digits : Text) → List Text
 service file port_digits count_digits =
     codes "--file" ∷ file ∷ codes "--port" ∷ port_digits ∷ codes "--connections" ∷ count_digits ∷ []
 
 serve_leads : (x y z : ℕ) (xs ys zs : Text) → (x == 45) ≡ false → (y == 45) ≡ false → (z == 45) ≡ false → accepts false ports (y ∷ ys) ≡ true
     → Leads serve_built (walk_from nothing_held) (service (x ∷ xs) (y ∷ ys) (z ∷ zs))
-    (answered (file_row (x ∷ xs) ∷ port_row (y ∷ ys) ∷ []) (codes "connections") (z ∷ zs))
+    (with_value (file_row (x ∷ xs) ∷ port_row (y ∷ ys) ∷ []) (codes "connections") (z ∷ zs))
 serve_leads x y z xs ys zs a b c accepted =
     on_to serve_built _ _ _ _ _ file_asked file_asked_well
     (on_to serve_built _ _ _ _ _ (file_answered x xs a) (file_answered_well x xs a)
     (on_to serve_built _ _ _ _ _ (port_asked (x ∷ xs)) (port_asked_well (x ∷ xs))
     (on_to serve_built _ _ _ _ _ (port_answered _ y ys b) (port_answered_well _ y ys b)
     (on_to serve_built _ _ _ _ _ (count_asked (x ∷ xs) (y ∷ ys)) (count_asked_well (x ∷ xs) (y ∷ ys) accepted)
-    (on_to serve_built _ _ _ _ _ (count_answered _ z zs c) (count_answered_well _ z zs c) (nowhere serve_built _))))))
+    (on_to serve_built _ _ _ _ _ (count_answered _ z zs c) (count_answered_well _ z zs c) (empty_walk serve_built _))))))
 
 serve_ends : (file port_digits count_digits : Text) → accepts false counts count_digits ≡ true
-    → EndsWell serve_built (answered (file_row file ∷ port_row port_digits ∷ []) (codes "connections") count_digits).held
+    → EndsWell serve_built (with_value (file_row file ∷ port_row port_digits ∷ []) (codes "connections") count_digits).held
 unfolding clap_on_literals
 serve_ends file port_digits count_digits accepted = record { settles = rw accepted refl; defaults = refl; checks = refl }
 
@@ -393,14 +393,14 @@ unfolding clap_on_literals
 serve_rows_below choices program file port_digits count_digits = refl
 
 pub plain_service : (choices : Choices) (program file port_digits count_digits : Text) (port connections : ℕ) → IsPlainText file
-    → Writes port_digits 1 65535 port → Writes count_digits 1 1000000 connections
+    → IsNumeralIn port_digits 1 65535 port → IsNumeralIn count_digits 1 1000000 connections
     → NamesBy choices (program ∷ codes "serve" ∷ service file port_digits count_digits) (to_serve file port connections)
 plain_service choices program [] port_digits count_digits port connections plain port_written count_written = absurd plain
 plain_service choices program (x ∷ xs) [] count_digits port connections plain port_written count_written = absurd (omega arith)
 plain_service choices program (x ∷ xs) (y ∷ ys) [] port connections plain port_written count_written = absurd (omega arith)
 plain_service choices program (x ∷ xs) (y ∷ ys) (z ∷ zs) port connections plain port_written count_written =
-    let at_port = written (y ∷ ys) 1 65535 port (omega arith) port_written in
-    let in_all = written (z ∷ zs) 1 1000000 connections (omega arith) count_written in
+    let at_port = numeral_reads (y ∷ ys) 1 65535 port (omega arith) port_written in
+    let in_all = numeral_reads (z ∷ zs) 1 1000000 connections (omega arith) count_written in
     let leads = serve_leads x y z xs ys zs (no_hyphen x plain) (no_hyphen y at_port.0) (no_hyphen z in_all.0) (Accepts-accepts false ports (y ∷ ys) at_port.1) in
     let ends = serve_ends (x ∷ xs) (y ∷ ys) (z ∷ zs) (Accepts-accepts false counts (z ∷ zs) in_all.1) in
     record {

@@ -1,4 +1,4 @@
--- What a use of an option keeps of the rows, a whole walk over words without a fault keeps.
+-- A condition on the rows that each use of an option preserves is preserved by a walk over arguments without a fault.
 use Rattle.std.proofs.Common.{◌≡◌, ◌&&◌, refl, ℕ, zero, suc, Bool, true, false, List, [], ◌∷◌, Option, Some, None, is_some, length, drop, if◌then◌else◌}
 use Rattle.std.specs.Prelude.{encode_utf8, find, fold, slice_get}
 use Rattle.std.specs.Option.{option_map_or}
@@ -10,7 +10,7 @@ use Rattle.clap.specs.Simple.{Shape}
 use Rattle.clap.specs.Walk.{Held, Names, Outcome, Row, Rule, Step, Text, Waiting, Walk, after_flag, after_step, arg_by_id, arg_by_index, arg_by_long, arg_by_short, attached_value, bundle_met, bundle_step, done, flag_met, idle, is_pending, long_met, long_or_other, next, option, option_met, option_word, plain, plain_word, positional, reacted, refused, settled, settled_rows, short_met, short_or_plain, subcommand, subcommand_met, subcommand_or_other, takes_several, takes_values, to_positional, trailing, used, used_by_id, value, waits, walked, walked_from, word_met}
 use Rattle.clap.specs.declared.error.kind.ErrorKind.TheVariants as kind
 
--- where no kind is left, neither list has one
+-- if the appended list is empty, both lists are
 pub both_none : (a b : Kinds) → or_else a b ≡ [] → (a ≡ []) × (b ≡ [])
 both_none [] b e = (refl, e)
 both_none (k ∷ ks) b e = cc

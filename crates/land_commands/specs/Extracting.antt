@@ -1,12 +1,12 @@
--- Extracts of the register in a file.
+-- The command `extract`.
 use Rattle.std.specs.Prelude.{◌≡◌, ◌⊎◌, ℕ, ℤ, List, [], Option, Result, Ok, Err, unwrap_or}
 use Rattle.std.specs.Io.KnownBytes.{Appends}
-use Rattle.land_commands.specs.Filed.{IsNotFound, IsTaken}
-use Rattle.land_commands.specs.Refusals.{refusal_of}
-use Rattle.land_commands.specs.declared.extracting.Wanted.{Wanted}
+use Rattle.land_commands.specs.Filed.{IsNotFound, IsOpened}
+use Rattle.land_commands.specs.CommandErrors.{command_error_of}
+use Rattle.land_commands.specs.declared.extracting.ExtractRequest.{ExtractRequest}
 use Rattle.land_commands.specs.declared.program_fault.ProgramFault.{ProgramFault}
-use Rattle.land_commands.specs.declared.refusal.Refusal.{Refusal}
-use Rattle.land_commands.specs.declared.refusal.Refusal.TheVariants.{Fault}
+use Rattle.land_commands.specs.declared.command_error.CommandError.{CommandError}
+use Rattle.land_commands.specs.declared.command_error.CommandError.TheVariants.{Fault}
 use Rattle.land_core.specs.declared.kind.Kind.{Kind}
 use Rattle.land_core.specs.declared.role.Role.{Role}
 use Rattle.land_keep.specs.Keeping.{Closes, IsLive}
@@ -19,42 +19,52 @@ use Rattle.land_tables.specs.Office.{IsHonest, Office, held}
 use Rattle.sqlite.specs.State.{State}
 use Rattle.sqlite.specs.Store.{Ghosts}
 
--- what an extract is asked for
-abbrev pub wanted_of : (clock : ℤ) → (party : ℕ) → Role → Kind → (at : Option ℤ) → Wanted
-wanted_of clock party role kind at = record { clock = clock; caller = record { party = party; role = role }; kind = kind; at = at }
+-- The request for an extract, by its parts.
+abbrev pub wanted_of : (clock : ℤ) → (party : ℕ) → Role → Kind → (at : Option ℤ) → ExtractRequest
+wanted_of clock party role kind at =
+    record { clock = clock; caller = record { party = party; role = role }; kind = kind; at = at }
 
--- what is wanted is extracted from a timeline: the extract of the register at the asked moment is written, or a front of it, or nothing
-abbrev pub Extracts : Timeline → Wanted → (old new : Option (List ℕ)) → Result ℕ ExtractFault → Type 0
-Extracts tl wanted old new r =
+-- The extract of the register at the requested time is written, or a prefix of it, or nothing, as the result
+-- reports.
+abbrev pub ExtractsFrom : Timeline → ExtractRequest → (old new : Option (List ℕ)) → Result ℕ ExtractFault
+    → Type 0
+ExtractsFrom tl wanted old new r =
     IsExtracted (list_reply wanted.clock wanted.caller wanted.kind wanted.at tl)
-    (extract_of (register_at tl (unwrap_or wanted.at (now_of wanted.clock tl))) wanted.caller wanted.kind) old new r
+    (extract_of (register_at tl (unwrap_or wanted.at (now_of wanted.clock tl))) wanted.caller wanted.kind)
+    old new r
 
--- what is wanted is extracted from tables, while their store is honest; nothing in the register changes
-pub record IsExtractedOver {S : Type 0} (g : Ghosts S) (from : Office S) (wanted : Wanted) (to : Office S) (old new : Option (List ℕ))
-    (r : Result ℕ ExtractFault) : Type 0 where
+-- The extract is written from tables, if their store is honest. The register does not change.
+pub record IsExtractedOver {S : Type 0} (g : Ghosts S) (from : Office S) (wanted : ExtractRequest) (to : Office S)
+    (old new : Option (List ℕ)) (r : Result ℕ ExtractFault) : Type 0 where
   pub was : IsHonest g to → IsHonest g from
   pub same : IsLive (IsHonest g to) to.is_closed → held g to ≡ held g from
   pub closes : Closes from.is_closed to.is_closed (of_store r)
-  pub extracts : IsHonest g to → Extracts (held g from) wanted old new r
+  pub extracts : IsHonest g to → ExtractsFrom (held g from) wanted old new r
 
--- a register is found in a file, and what is wanted is extracted from it
-pub record IsExtractedFrom {S : Type 0} (g : Ghosts S) (holds : State → Type 0) (wanted : Wanted) (old new : Option (List ℕ))
+-- A register is opened in a file, and the extract is written from it.
+pub record IsExtractedFrom {S : Type 0} (g : Ghosts S) (holds : State
+    → Type 0) (wanted : ExtractRequest) (old new : Option (List ℕ))
     (r : Result ℕ ExtractFault) : Type 0 where
   pub from : Office S
   pub to : Office S
-  pub taken : IsTaken g holds from
+  pub taken : IsOpened g holds from
   pub extracted : IsExtractedOver g from wanted to old new r
 
--- no register is found in a file, and nothing is written
-pub record IsMissing {S : Type 0} (g : Ghosts S) (holds : State → Type 0) (old new : Option (List ℕ)) (refusal : Refusal) : Type 0 where
+-- No register can be opened in a file, and nothing is written.
+pub record ReportsNotFound {S : Type 0} (g : Ghosts S) (holds : State
+    → Type 0) (old new : Option (List ℕ)) (command_error : CommandError) : Type 0 where
   pub why : ProgramFault
   pub missing : IsNotFound g holds why
   pub nothing : Appends old new []
-  pub told : refusal ≡ Fault why
+  pub told : command_error ≡ Fault why
 
--- the whole extract is written; or no register is found; or the extract is not written to its end, and that is told
-abbrev pub IsExtracting : {S T : Type 0} → Ghosts S → (holds : State → Type 0) → Wanted → (old new : Option (List ℕ)) → Result T Refusal → Type 0
-IsExtracting g holds wanted old new (Ok done) = (written : ℕ) × IsExtractedFrom g holds wanted old new (Ok written)
-IsExtracting g holds wanted old new (Err refusal) =
-    IsMissing g holds old new refusal
-    ⊎ ((why : ExtractFault) × IsExtractedFrom g holds wanted old new (Err why) × (refusal ≡ refusal_of why))
+-- The whole extract is written; or no register can be opened; or the extract is incomplete, and the error
+-- says why.
+abbrev pub IsExtracting : {S T : Type 0} → Ghosts S → (holds : State → Type 0) → ExtractRequest
+    → (old new : Option (List ℕ)) → Result T CommandError → Type 0
+IsExtracting g holds wanted old new (Ok done) =
+    (written : ℕ) × IsExtractedFrom g holds wanted old new (Ok written)
+IsExtracting g holds wanted old new (Err command_error) =
+    ReportsNotFound g holds old new command_error
+    ⊎ ((why : ExtractFault) × IsExtractedFrom g holds wanted old new (Err why)
+    × (command_error ≡ command_error_of why))

@@ -1,8 +1,10 @@
--- What commands over files do.
-use Rattle.std.specs.Prelude.{◌≡◌, ◌≢◌, ◌⊎◌, ◌<◌, ℕ, ℤ, List, [], ◌++◌, codes, decimal, length, take, Option, Result, Ok, Err}
+-- The commands `new`, `check` and `serve`, on files.
+use Rattle.std.specs.Prelude.{◌≡◌, ◌≢◌, ◌⊎◌, ◌<◌, ℕ, ℤ, List, [], ◌++◌, codes, decimal, length, take, Option}
+use Rattle.std.specs.Prelude.{Result, Ok, Err}
 use Rattle.std.specs.Fmt.{signed_decimal}
 use Rattle.std.specs.Io.KnownBytes.{Appends}
-use Rattle.land_commands.specs.ProgramFaults.{IsFaultOfClosing, IsFaultOfFinding, IsFaultOfOpening, fault_of_adopting, fault_of_making, fault_of_service}
+use Rattle.land_commands.specs.ProgramFaults.{IsFaultOfClosing, IsFaultOfFinding, IsFaultOfOpening}
+use Rattle.land_commands.specs.ProgramFaults.{fault_of_adopting, fault_of_making, fault_of_service}
 use Rattle.land_commands.specs.declared.program_fault.ProgramFault.{ProgramFault}
 use Rattle.land_commands.specs.declared.program_fault.ProgramFault.TheVariants as program
 use Rattle.land_desk.specs.Service.{IsService, TellsClosed}
@@ -21,90 +23,103 @@ use Rattle.sqlite.specs.Held.{Held, state}
 use Rattle.sqlite.specs.State.{HasCleanDisk, State, Survives}
 use Rattle.sqlite.specs.Store.{Ghosts}
 
--- a store shows what is held, if its disk is honest
-abbrev pub Shows : {S : Type 0} → Ghosts S → (holds : State → Type 0) → Held S → Type 0
-Shows g holds c = HasCleanDisk (state g c) → holds (state g c)
+-- The store has a state that its file may have, if its disk is honest.
+abbrev pub HoldsFileState : {S : Type 0} → Ghosts S → (holds : State → Type 0) → Held S → Type 0
+HoldsFileState g holds c = HasCleanDisk (state g c) → holds (state g c)
 
--- ---- a register is made
+-- ---- creating a register
 
--- a store was opened, and the tables of a new register were made in it; a crash leaves what was there, or the new register
-pub record IsMade {S : Type 0} (g : Ghosts S) (holds : State → Type 0) (o : Office S) : Type 0 where
+-- A store was opened, and the tables of a new register were created in it. A crash leaves the old state, or
+-- the new register.
+pub record IsCreatedIn {S : Type 0} (g : Ghosts S) (holds : State → Type 0) (o : Office S) : Type 0 where
   pub was : Held S
-  pub shows : Shows g holds was
+  pub shows : HoldsFileState g holds was
   pub created : IsCreated g o
   pub survives : Survives (state g was) (state g o.conn) (λ db. HoldsTimeline db new_timeline)
 
--- a store was opened, and no register was made in it: it has what it had, or what was committed last
+-- A store was opened, and no register was created in it: its state is unchanged, or the last committed one.
 pub record IsUnmade {S : Type 0} (g : Ghosts S) (holds : State → Type 0) (fault : ProgramFault) : Type 0 where
   pub was : Held S
   pub left : Held S
   pub why : StoreFault
-  pub shows : Shows g holds was
+  pub shows : HoldsFileState g holds was
   pub kept : IsKept (state g was) (state g left)
   pub told : fault ≡ fault_of_making why
 
--- a register is made and its file is closed; or no file was opened, no register was made in it, or it was made and could not be closed
-abbrev pub IsMaking : {S T : Type 0} → Ghosts S → (holds : State → Type 0) → (closed : Held S → Type 0) → Result T ProgramFault → Type 0
-IsMaking {S} g holds closed (Ok done) = (o : Office S) × IsMade g holds o × closed o.conn
+-- A register is created and its file closed; or opening, creating or closing failed.
+abbrev pub IsMaking : {S T : Type 0} → Ghosts S → (holds : State → Type 0) → (closed : Held S → Type 0)
+    → Result T ProgramFault → Type 0
+IsMaking {S} g holds closed (Ok done) = (o : Office S) × IsCreatedIn g holds o × closed o.conn
 IsMaking {S} g holds closed (Err fault) =
-    IsFaultOfOpening fault ⊎ IsUnmade g holds fault ⊎ ((o : Office S) × IsMade g holds o × IsFaultOfClosing fault)
+    IsFaultOfOpening fault ⊎ IsUnmade g holds fault
+    ⊎ ((o : Office S) × IsCreatedIn g holds o × IsFaultOfClosing fault)
 
--- ---- a register is found
+-- ---- opening a register
 
--- a store was opened and taken for a register's
-pub record IsTaken {S : Type 0} (g : Ghosts S) (holds : State → Type 0) (o : Office S) : Type 0 where
+-- A store was opened and is a valid register.
+pub record IsOpened {S : Type 0} (g : Ghosts S) (holds : State → Type 0) (o : Office S) : Type 0 where
   pub was : Held S
-  pub shows : Shows g holds was
+  pub shows : HoldsFileState g holds was
   pub adopted : IsAdopted g was o
 
--- a store was opened and not taken for a register's: why, and it is as it was, unless a call of it failed
-pub record IsNotTaken {S : Type 0} (g : Ghosts S) (holds : State → Type 0) (fault : ProgramFault) : Type 0 where
+-- A store was opened and is not a valid register. It is unchanged, unless a store operation failed.
+pub record IsNotTaken {S : Type 0} (g : Ghosts S) (holds : State
+    → Type 0) (fault : ProgramFault) : Type 0 where
   pub was : Held S
   pub left : Held S
   pub why : AdoptFault
-  pub shows : Shows g holds was
+  pub shows : HoldsFileState g holds was
   pub refused : HasCleanDisk (state g left) → IsRefused the_second why (state g was).now
   pub same : HasCleanDisk (state g left) → why ≢ adopt.Store → IsSame (state g was) (state g left)
   pub told : fault ≡ fault_of_adopting why
 
--- no register is found in a file: it cannot be opened, or it is not taken for a register's
+-- No register can be opened: the file cannot be opened, or is not a valid register.
 abbrev pub IsNotFound : {S : Type 0} → Ghosts S → (holds : State → Type 0) → ProgramFault → Type 0
 IsNotFound g holds fault = IsFaultOfFinding fault ⊎ IsNotTaken g holds fault
 
--- a register is found in a file, or is not
-abbrev pub IsFinding : {S : Type 0} → Ghosts S → (holds : State → Type 0) → Result (Office S) ProgramFault → Type 0
-IsFinding g holds (Ok o) = IsTaken g holds o
+-- A register is opened in a file, or cannot be.
+abbrev pub IsFinding : {S : Type 0} → Ghosts S → (holds : State → Type 0) → Result (Office S) ProgramFault
+    → Type 0
+IsFinding g holds (Ok o) = IsOpened g holds o
 IsFinding g holds (Err fault) = IsNotFound g holds fault
 
--- ---- a register is checked
+-- ---- checking a register
 
--- what is said of a sound register: the moment of its last change, and the number that comes next
+-- The line that reports a sound register: its last stamp and its next number.
 abbrev pub sound_text : (last : ℤ) → (next : ℕ) → List ℕ
-sound_text last next = codes "sound: last " ++ (signed_decimal last ++ (codes ", next " ++ (decimal next ++ codes "\n")))
+sound_text last next =
+    codes "sound: last " ++ (signed_decimal last ++ (codes ", next " ++ (decimal next ++ codes "\n")))
 
--- a front of a text is written, and not all of it
-abbrev pub IsCut : List ℕ → (old new : Option (List ℕ)) → Type 0
-IsCut text old new = (n : ℕ) × (n < length text) × Appends old new (take n text)
+-- A prefix of a text is written, and not all of it.
+abbrev pub IsTruncated : List ℕ → (old new : Option (List ℕ)) → Type 0
+IsTruncated text old new = (n : ℕ) × (n < length text) × Appends old new (take n text)
 
--- the register is sound, and that is said; or none is found, and nothing is said; or there was no memory for the line, or it could not be written
-abbrev pub IsChecking : {S T : Type 0} → Ghosts S → (holds : State → Type 0) → (old new : Option (List ℕ)) → Result T ProgramFault → Type 0
-IsChecking {S} g holds old new (Ok done) = (o : Office S) × IsTaken g holds o × Appends old new (sound_text o.last o.next)
+-- The register is sound, and the line is written; or none can be opened, and nothing is written; or the line
+-- could not be built or written.
+abbrev pub IsChecking : {S T : Type 0} → Ghosts S → (holds : State → Type 0) → (old new : Option (List ℕ))
+    → Result T ProgramFault → Type 0
+IsChecking {S} g holds old new (Ok done) =
+    (o : Office S) × IsOpened g holds o × Appends old new (sound_text o.last o.next)
 IsChecking {S} g holds old new (Err fault) =
     (IsNotFound g holds fault × Appends old new [])
-    ⊎ ((o : Office S) × IsTaken g holds o
-    × (((fault ≡ program.NoMemory) × Appends old new []) ⊎ ((fault ≡ program.Stream) × IsCut (sound_text o.last o.next) old new)))
+    ⊎ ((o : Office S) × IsOpened g holds o
+    × (((fault ≡ program.NoMemory) × Appends old new [])
+    ⊎ ((fault ≡ program.Stream) × IsTruncated (sound_text o.last o.next) old new)))
 
--- ---- a register is served
+-- ---- serving a register
 
--- `wanted` connections of those that come are served over tables, from one state of theirs to another, while their store is honest
-pub record IsServedOver {S C T : Type 0} (g : Ghosts S) (reads : C → ℤ → C → Type 0) (wanted : ℕ) (coming after : Option (List (Option (List ℕ))))
+-- `wanted` of the pending connections are served on tables, if their store is honest.
+pub record IsServedOver {S C T : Type 0} (g : Ghosts S) (reads : C → ℤ → C
+    → Type 0) (wanted : ℕ) (coming after : Option (List (Option (List ℕ))))
     (from : Office S) (clock : C) (to : Office S) (clock_after : C) (r : Result T ServiceFault) : Type 0 where
   pub told : TellsClosed r to.is_closed
   pub was : IsHonest g to → IsHonest g from
-  pub served : IsHonest g to → IsService reads wanted (record { closed = from.is_closed; timeline = held g from; clock = clock })
+  pub served : IsHonest g to
+      → IsService reads wanted (record { closed = from.is_closed; timeline = held g from; clock = clock })
       (IsAt (IsHonest g to) to.is_closed (held g to) clock_after) coming after r
 
--- what is served, and from when to when: the connections that come to the port before and after, and the clock before and after
+-- A service: the clock, the number of connections to serve, and the pending connections and the clock before
+-- and after.
 pub record Service (C : Type 0) : Type 1 where
   pub reads : C → ℤ → C → Type 0
   pub wanted : ℕ
@@ -113,19 +128,22 @@ pub record Service (C : Type 0) : Type 1 where
   pub clock : C
   pub clock_after : C
 
--- a register is found in a file and served
-pub record IsServedFrom {S C T : Type 0} (g : Ghosts S) (holds : State → Type 0) (s : Service C) (r : Result T ServiceFault) : Type 0 where
+-- A register is opened in a file and served.
+pub record IsServedFrom {S C T : Type 0} (g : Ghosts S) (holds : State
+    → Type 0) (s : Service C) (r : Result T ServiceFault) : Type 0 where
   pub from : Office S
   pub to : Office S
-  pub taken : IsTaken g holds from
+  pub taken : IsOpened g holds from
   pub served : IsServedOver g s.reads s.wanted s.coming s.after from s.clock to s.clock_after r
 
--- as many connections are served as are wanted, and the file is closed; or none is served: no register is found, or the port cannot be had; or the
--- service ends early; or the file cannot be closed
-abbrev pub IsFileService : {S C T : Type 0} → Ghosts S → (holds : State → Type 0) → (closed : Held S → Type 0) → Service C → Result T ProgramFault → Type 0
-IsFileService {S} {C} {T} g holds closed s (Ok done) = (it : IsServedFrom {T = T} g holds s (Ok done)) × closed it.to.conn
+-- As many connections are served as requested, and the file is closed. Or no register can be opened; or
+-- listening fails; or the service ends early; or closing fails.
+abbrev pub IsFileService : {S C T : Type 0} → Ghosts S → (holds : State → Type 0) → (closed : Held S → Type 0)
+    → Service C → Result T ProgramFault → Type 0
+IsFileService {S} {C} {T} g holds closed s (Ok done) =
+    (it : IsServedFrom {T = T} g holds s (Ok done)) × closed it.to.conn
 IsFileService {S} {C} {T} g holds closed s (Err fault) =
     IsNotFound g holds fault
-    ⊎ (((o : Office S) × IsTaken g holds o × (fault ≡ program.Listen))
+    ⊎ (((o : Office S) × IsOpened g holds o × (fault ≡ program.Listen))
     ⊎ (((why : ServiceFault) × IsServedFrom {T = T} g holds s (Err why) × (fault ≡ fault_of_service why))
     ⊎ ((done : T) × IsServedFrom {T = T} g holds s (Ok done) × IsFaultOfClosing fault)))

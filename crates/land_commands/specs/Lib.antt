@@ -5,5 +5,5 @@ pub mod Filed
 pub mod Migrating
 pub mod Program
 pub mod ProgramFaults
-pub mod Refusals
+pub mod CommandErrors
 pub mod Words

@@ -1,8 +1,8 @@
--- What the command does that makes of a register of the first version one of the second.
+-- The command `migrate`: from schema version 1 to 2.
 use Rattle.std.specs.Prelude.{◌≡◌, ◌≢◌, ◌⊎◌, ℕ, ℤ, List, [], ◌++◌, codes, decimal, Option, Result, Ok, Err}
 use Rattle.std.specs.Fmt.{signed_decimal}
 use Rattle.std.specs.Io.KnownBytes.{Appends}
-use Rattle.land_commands.specs.Filed.{IsCut, Shows}
+use Rattle.land_commands.specs.Filed.{IsTruncated, HoldsFileState}
 use Rattle.land_commands.specs.ProgramFaults.{IsFaultOfClosing, IsFaultOfFinding, fault_of_adopting}
 use Rattle.land_commands.specs.declared.program_fault.ProgramFault.{ProgramFault}
 use Rattle.land_commands.specs.declared.program_fault.ProgramFault.TheVariants as program
@@ -16,39 +16,46 @@ use Rattle.sqlite.specs.Held.{Held, state}
 use Rattle.sqlite.specs.State.{HasCleanDisk, State, Survives}
 use Rattle.sqlite.specs.Store.{Ghosts}
 
--- a store was opened, and its register of the first version became one of the second; a crash leaves what was there, or all of the second
+-- A store was opened, and its register migrated to version 2. A crash leaves version 1, or all of version 2.
 pub record IsRaised {S : Type 0} (g : Ghosts S) (holds : State → Type 0) (o : Office S) : Type 0 where
   pub was : Held S
-  pub shows : Shows g holds was
+  pub shows : HoldsFileState g holds was
   pub migrated : IsMigrated g was o
   pub survives : Survives (state g was) (state g o.conn) (AreRaised (state g was).now)
 
--- a store was opened and not migrated: why, and it is as it was, unless a call of it failed; a crash leaves what was there, or all of the
--- second version
-pub record IsNotRaised {S : Type 0} (g : Ghosts S) (holds : State → Type 0) (fault : ProgramFault) : Type 0 where
+-- A store was opened and not migrated. It is unchanged, unless a store operation failed. A crash leaves the
+-- old state, or all of version 2.
+pub record IsNotRaised {S : Type 0} (g : Ghosts S) (holds : State
+    → Type 0) (fault : ProgramFault) : Type 0 where
   pub was : Held S
   pub left : Held S
   pub why : AdoptFault
-  pub shows : Shows g holds was
+  pub shows : HoldsFileState g holds was
   pub refused : HasCleanDisk (state g left) → IsRefused the_first why (state g was).now
   pub same : HasCleanDisk (state g left) → why ≢ adopt.Store → StaysSame (state g was) (state g left)
   pub either : LeavesOrRaises (state g was) (state g left)
   pub told : fault ≡ fault_of_adopting why
 
--- the register in a file is migrated; or the file cannot be opened, or it is not migrated
-abbrev pub IsRaising : {S : Type 0} → Ghosts S → (holds : State → Type 0) → Result (Office S) ProgramFault → Type 0
+-- The register in a file is migrated; or the file cannot be opened, or is not migrated.
+abbrev pub IsRaising : {S : Type 0} → Ghosts S → (holds : State → Type 0) → Result (Office S) ProgramFault
+    → Type 0
 IsRaising g holds (Ok o) = IsRaised g holds o
 IsRaising g holds (Err fault) = IsFaultOfFinding fault ⊎ IsNotRaised g holds fault
 
--- what is said of a register that was migrated: the moment of its last change, and the number that comes next
+-- The line that reports a migrated register: its last stamp and its next number.
 abbrev pub migrated_text : (last : ℤ) → (next : ℕ) → List ℕ
-migrated_text last next = codes "migrated: last " ++ (signed_decimal last ++ (codes ", next " ++ (decimal next ++ codes "\n")))
+migrated_text last next =
+    codes "migrated: last " ++ (signed_decimal last ++ (codes ", next " ++ (decimal next ++ codes "\n")))
 
--- The register is migrated, its file is closed, and that is said; or it is not migrated, and nothing is said; or it is, and there was no
--- memory for the line, the file could not be closed, or the line could not be written after the file was closed.
-abbrev pub IsMigrating : {S T : Type 0} → Ghosts S → (holds : State → Type 0) → (closed : Held S → Type 0) → (old new : Option (List ℕ)) → Result T ProgramFault → Type 0
-IsMigrating {S} g holds closed old new (Ok done) = (o : Office S) × IsRaised g holds o × closed o.conn × Appends old new (migrated_text o.last o.next)
+-- The register is migrated, its file closed, and the line written. Or it is not migrated, and nothing is
+-- written. Or it is migrated, and the line could not be built, the file not closed, or the line not written
+-- after the file was closed.
+abbrev pub IsMigrating : {S T : Type 0} → Ghosts S → (holds : State → Type 0) → (closed : Held S → Type 0)
+    → (old new : Option (List ℕ)) → Result T ProgramFault → Type 0
+IsMigrating {S} g holds closed old new (Ok done) =
+    (o : Office S) × IsRaised g holds o × closed o.conn × Appends old new (migrated_text o.last o.next)
 IsMigrating {S} g holds closed old new (Err fault) =
     ((IsFaultOfFinding fault ⊎ IsNotRaised g holds fault) × Appends old new [])
     ⊎ ((o : Office S) × IsRaised g holds o
-    × ((IsFaultOfClosing fault × Appends old new []) ⊎ ((fault ≡ program.Stream) × closed o.conn × IsCut (migrated_text o.last o.next) old new)))
+    × ((IsFaultOfClosing fault × Appends old new [])
+    ⊎ ((fault ≡ program.Stream) × closed o.conn × IsTruncated (migrated_text o.last o.next) old new)))

@@ -1,17 +1,19 @@
--- What the program does with its words, the bytes of its input, and files.
-use Rattle.std.specs.Prelude.{◌≡◌, ◌⊎◌, ℕ, ℤ, false, List, [], take, string_bytes, Option, Result, Ok, Err, IfSome}
+-- The program: its arguments, its streams and the host.
+use Rattle.std.specs.Prelude.{◌≡◌, ◌⊎◌, ℕ, ℤ, false, List, [], take, string_bytes, Option, Result, Ok, Err}
+use Rattle.std.specs.Prelude.{IfSome}
 use Rattle.std.specs.Io.KnownBytes.{Appends}
 use Rattle.land_commands.specs.Extracting.{IsExtracting, wanted_of}
 use Rattle.land_commands.specs.Filed.{IsChecking, IsFileService, IsMaking}
 use Rattle.land_commands.specs.Migrating.{IsMigrating}
 use Rattle.land_commands.specs.ProgramFaults.{fault_of, line_of, status_of}
-use Rattle.land_commands.specs.Refusals.{denied_text}
+use Rattle.land_commands.specs.CommandErrors.{denied_text}
 use Rattle.land_commands.specs.Words.Names.{IsReading}
-use Rattle.land_commands.specs.Words.Orders.{Order, to_talk, to_make, to_serve, to_check, to_migrate, to_extract, order_of}
+use Rattle.land_commands.specs.Words.PlainCommands.{PlainCommand, to_talk, to_make, to_serve, to_check}
+use Rattle.land_commands.specs.Words.PlainCommands.{to_migrate, to_extract, order_of}
 use Rattle.land_commands.specs.declared.program_fault.ProgramFault.{ProgramFault}
 use Rattle.land_commands.specs.declared.program_fault.ProgramFault.TheVariants.{NoMemory}
-use Rattle.land_commands.specs.declared.refusal.Refusal.{Refusal}
-use Rattle.land_commands.specs.declared.refusal.Refusal.TheVariants as refusal
+use Rattle.land_commands.specs.declared.command_error.CommandError.{CommandError}
+use Rattle.land_commands.specs.declared.command_error.CommandError.TheVariants as command_error
 use Rattle.land_commands.specs.declared.set_clock.SetClock.{SetClock}
 use Rattle.land_commands.specs.declared.words.command.Command.{Command}
 use Rattle.land_commands.specs.declared.words.words_fault.WordsFault.{WordsFault}
@@ -25,83 +27,115 @@ use Rattle.sqlite.specs.Held.{Held}
 use Rattle.sqlite.specs.State.{State}
 use Rattle.sqlite.specs.Store.{Ghosts}
 
--- a clock that is set reads what it is set to, each time
+-- A fixed clock always reads the same.
 abbrev pub reads_as_set : SetClock → ℤ → SetClock → Type 0
 reads_as_set old reading new = (reading ≡ old.reading) × (new ≡ old)
 
--- a new register, which is open, and a clock that is set
+-- The state of an open, new register with a fixed clock.
 abbrev pub at_start : ℤ → machine.State SetClock
 at_start reading = record { closed = false; timeline = new_timeline; clock = record { reading = reading } }
 
--- the input is served over a new register, where the clock reads the same each time
-abbrev pub IsTalk : (input : List ℕ) → (reading : ℤ) → (old new : Option (List ℕ)) → Result Served DeskFault → Type 0
-IsTalk input reading old new result = (to : machine.State SetClock) × IsServing reads_as_set input (at_start reading) to old new result
+-- `talk`: the input is served on a new register with a fixed clock.
+abbrev pub IsTalk : (input : List ℕ) → (reading : ℤ) → (old new : Option (List ℕ)) → Result Served DeskFault
+    → Type 0
+IsTalk input reading old new result =
+    (to : machine.State SetClock) × IsServing reads_as_set input (at_start reading) to old new result
 
--- a text is written, or a front of it where the writer fails
-abbrev pub IsSaid : List ℕ → (old new : Option (List ℕ)) → Type 0
-IsSaid text old new = Appends old new text ⊎ ((n : ℕ) × Appends old new (take n text))
+-- A text is written, or a prefix of it if the writer fails.
+abbrev pub WritesOrFails : List ℕ → (old new : Option (List ℕ)) → Type 0
+WritesOrFails text old new = Appends old new text ⊎ ((n : ℕ) × Appends old new (take n text))
 
--- the status after serving is 0, and nothing is told; after a fault it is that of the fault, which is told
+-- After serving the status is 0 and nothing is written; after a fault it is that of the fault, whose line is
+-- written.
 abbrev pub IsEnding : Result Served DeskFault → (old new : Option (List ℕ)) → (status : ℕ) → Type 0
 IsEnding (Ok served) old new status = (status ≡ 0) × Appends old new []
-IsEnding (Err fault) old new status = (status ≡ status_of (fault_of fault)) × IsSaid (line_of (fault_of fault)) old new
+IsEnding (Err fault) old new status =
+    (status ≡ status_of (fault_of fault)) × WritesOrFails (line_of (fault_of fault)) old new
 
--- the same after a command over a file
-abbrev pub IsSettled : {T : Type 0} → Result T ProgramFault → (old new : Option (List ℕ)) → (status : ℕ) → Type 0
-IsSettled (Ok done) old new status = (status ≡ 0) × Appends old new []
-IsSettled (Err fault) old new status = (status ≡ status_of fault) × IsSaid (line_of fault) old new
+-- The same after a command on a file.
+abbrev pub ReportsDone : {T : Type 0} → Result T ProgramFault → (old new : Option (List ℕ)) → (status : ℕ)
+    → Type 0
+ReportsDone (Ok done) old new status = (status ≡ 0) × Appends old new []
+ReportsDone (Err fault) old new status = (status ≡ status_of fault) × WritesOrFails (line_of fault) old new
 
--- a denial is told, and the status is 1; where there is no memory for the line, that is told
-abbrev pub IsDenied : (rule : ℕ) → (old new : Option (List ℕ)) → (status : ℕ) → Type 0
-IsDenied rule old new status = (status ≡ 1) × (IsSaid (denied_text rule) old new ⊎ IsSaid (line_of NoMemory) old new)
+-- A denial is written, and the status is 1. If out of memory for the line, 501 is written.
+abbrev pub ReportsDenial : (rule : ℕ) → (old new : Option (List ℕ)) → (status : ℕ) → Type 0
+ReportsDenial rule old new status =
+    (status ≡ 1) × (WritesOrFails (denied_text rule) old new ⊎ WritesOrFails (line_of NoMemory) old new)
 
--- the status after a command of which the policy decides is 0, and nothing is told; what refuses it is told
-abbrev pub IsTold : {T : Type 0} → Result T Refusal → (old new : Option (List ℕ)) → (status : ℕ) → Type 0
-IsTold (Ok done) old new status = (status ≡ 0) × Appends old new []
-IsTold (Err (refusal.Denied rule)) old new status = IsDenied rule old new status
-IsTold (Err (refusal.Fault fault)) old new status = (status ≡ status_of fault) × IsSaid (line_of fault) old new
+-- After an extract the status is 0 and nothing is written; a denial or a fault is written.
+abbrev pub ReportsExtracted : {T : Type 0} → Result T CommandError → (old new : Option (List ℕ))
+    → (status : ℕ) → Type 0
+ReportsExtracted (Ok done) old new status = (status ≡ 0) × Appends old new []
+ReportsExtracted (Err (command_error.Denied rule)) old new status = ReportsDenial rule old new status
+ReportsExtracted (Err (command_error.Fault fault)) old new status =
+    (status ≡ status_of fault) × WritesOrFails (line_of fault) old new
 
--- what is known of a host: what its files may be found to hold, when one of them is closed, and which connections come to its ports
--- before a command and after it
+-- A host, as far as a command depends on it: the states that its files may have, when a file is closed, and
+-- the pending connections to its ports before the command and after it.
 pub record Files (S : Type 0) : Type 1 where
   pub holds : List ℕ → State → Type 0
   pub is_closed : Held S → Type 0
   pub coming : ℕ → Option (List (Option (List ℕ)))
   pub after : ℕ → Option (List (Option (List ℕ)))
 
--- what is done on a host, by a clock
+-- The host before a call and after it.
+abbrev pub files_of : {H S : Type 0} → (holds : List ℕ → State → Type 0) → (is_closed : Held S → Type 0)
+    → (coming : H → ℕ → Option (List (Option (List ℕ)))) → (old new : H) → Files S
+files_of holds is_closed coming old new =
+    record { holds = holds; is_closed = is_closed; coming = coming old; after = coming new }
+
+-- Running commands on a host, with a clock.
 module _ {S C : Type 0} (g : Ghosts S) (h : Files S) (reads : C → ℤ → C → Type 0) where
-  -- a command, by what it writes on the output and on that of errors, and its status
-  abbrev pub IsRun : Order → (input : Option (List ℕ)) → (clock clock_after : C) → (old new : Option (List ℕ)) → (old_errors new_errors : Option (List ℕ))
+  -- A command: its output, its errors and its exit status.
+  abbrev pub IsRun : PlainCommand → (input : Option (List ℕ)) → (clock clock_after : C)
+      → (old new : Option (List ℕ)) → (old_errors new_errors : Option (List ℕ))
       → (status : ℕ) → Type 0
   IsRun (to_talk reading) input clock clock_after old new old_errors new_errors status =
-      (served : Result Served DeskFault) × IfSome input (λ bytes. IsTalk bytes reading old new served) × IsEnding served old_errors new_errors status
+      (served : Result Served DeskFault) × IfSome input (λ bytes. IsTalk bytes reading old new served)
+      × IsEnding served old_errors new_errors status
   IsRun (to_make file) input clock clock_after old new old_errors new_errors status =
-      (done : Result (Unit {0}) ProgramFault) × IsMaking g (h.holds file) h.is_closed done × Appends old new [] × IsSettled done old_errors new_errors status
+      (done : Result (Unit {0}) ProgramFault) × IsMaking g (h.holds file) h.is_closed done
+      × Appends old new [] × ReportsDone done old_errors new_errors status
   IsRun (to_serve file port connections) input clock clock_after old new old_errors new_errors status =
       (done : Result (Unit {0}) ProgramFault) × IsFileService g (h.holds file) h.is_closed
-      (record { reads = reads; wanted = connections; coming = h.coming port; after = h.after port; clock = clock; clock_after = clock_after }) done × Appends old new []
-      × IsSettled done old_errors new_errors status
+      (record {
+        reads = reads;
+        wanted = connections;
+        coming = h.coming port;
+        after = h.after port;
+        clock = clock;
+        clock_after = clock_after;
+      }) done
+      × Appends old new [] × ReportsDone done old_errors new_errors status
   IsRun (to_check file) input clock clock_after old new old_errors new_errors status =
-      (done : Result (Unit {0}) ProgramFault) × IsChecking g (h.holds file) old new done × IsSettled done old_errors new_errors status
+      (done : Result (Unit {0}) ProgramFault) × IsChecking g (h.holds file) old new done
+      × ReportsDone done old_errors new_errors status
   IsRun (to_migrate file) input clock clock_after old new old_errors new_errors status =
-      (done : Result (Unit {0}) ProgramFault) × IsMigrating g (h.holds file) h.is_closed old new done × IsSettled done old_errors new_errors status
+      (done : Result (Unit {0}) ProgramFault) × IsMigrating g (h.holds file) h.is_closed old new done
+      × ReportsDone done old_errors new_errors status
   IsRun (to_extract file reading party role kind at) input clock clock_after old new old_errors new_errors status =
-      (done : Result (Unit {0}) Refusal) × IsExtracting g (h.holds file) (wanted_of reading party role kind at) old new done
-      × IsTold done old_errors new_errors status
+      (done : Result (Unit {0}) CommandError)
+      × IsExtracting g (h.holds file) (wanted_of reading party role kind at) old new done
+      × ReportsExtracted done old_errors new_errors status
 
-  -- what is done for what the words are read as: refused words write nothing but what `clap` says of them, and their status is 2
-  abbrev pub IsDone : Result Command WordsFault → (input : Option (List ℕ)) → (clock clock_after : C) → (old new : Option (List ℕ))
+  -- The command that was read is run. If `clap` rejects the arguments, only its message is written, and the
+  -- status is 2.
+  abbrev pub RunsParsed : Result Command WordsFault → (input : Option (List ℕ)) → (clock clock_after : C)
+      → (old new : Option (List ℕ))
       → (old_errors new_errors : Option (List ℕ)) → (status : ℕ) → Type 0
-  IsDone (Ok command) input clock clock_after old new old_errors new_errors status =
+  RunsParsed (Ok command) input clock clock_after old new old_errors new_errors status =
       IsRun (order_of command) input clock clock_after old new old_errors new_errors status
-  IsDone (Err (words.Refused text)) input clock clock_after old new old_errors new_errors status =
-      (status ≡ 2) × Appends old new [] × IsSaid (string_bytes text) old_errors new_errors
-  IsDone (Err words.NoMemory) input clock clock_after old new old_errors new_errors status =
-      (status ≡ status_of NoMemory) × Appends old new [] × IsSaid (line_of NoMemory) old_errors new_errors
+  RunsParsed (Err (words.Refused text)) input clock clock_after old new old_errors new_errors status =
+      (status ≡ 2) × Appends old new [] × WritesOrFails (string_bytes text) old_errors new_errors
+  RunsParsed (Err words.NoMemory) input clock clock_after old new old_errors new_errors status =
+      (status ≡ status_of NoMemory) × Appends old new []
+      × WritesOrFails (line_of NoMemory) old_errors new_errors
 
-  -- what is done for the words
-  abbrev pub IsObeyed : List (List ℕ) → (input : Option (List ℕ)) → (clock clock_after : C) → (old new : Option (List ℕ))
+  -- The arguments are read, and the command is run.
+  abbrev pub IsObeyed : List (List ℕ) → (input : Option (List ℕ)) → (clock clock_after : C)
+      → (old new : Option (List ℕ))
       → (old_errors new_errors : Option (List ℕ)) → (status : ℕ) → Type 0
   IsObeyed said input clock clock_after old new old_errors new_errors status =
-      (outcome : Result Command WordsFault) × IsReading said outcome × IsDone outcome input clock clock_after old new old_errors new_errors status
+      (outcome : Result Command WordsFault) × IsReading said outcome
+      × RunsParsed outcome input clock clock_after old new old_errors new_errors status

@@ -1,4 +1,4 @@
--- Why the program ends without success.
+-- Faults of the program.
 use Rattle.std.specs.Prelude.{◌≡◌, ◌≢◌, ◌⊎◌, ℕ, List, codes}
 use Rattle.std.specs.declared.io.ErrorKind.{ErrorKind}
 use Rattle.std.specs.declared.io.ErrorKind.TheVariants.{OutOfMemory}
@@ -13,19 +13,19 @@ use Rattle.land_keep.specs.declared.store_fault.StoreFault.TheVariants as store
 use Rattle.land_tables.specs.declared.fault.AdoptFault.{AdoptFault}
 use Rattle.land_tables.specs.declared.fault.AdoptFault.TheVariants as adopt
 
--- what is said of a stream that could not be served
+-- The fault for a stream that could not be served.
 abbrev pub fault_of : DeskFault → ProgramFault
 fault_of desk.Read = program.Stream
 fault_of desk.Write = program.Stream
 fault_of desk.NoMemory = program.NoMemory
 
--- what is said of a file in which no register could be made; a store that failed is closed
+-- The fault for a file in which no register could be created. A store that failed is closed.
 abbrev pub fault_of_making : StoreFault → ProgramFault
 fault_of_making store.NoMemory = program.NoMemory
 fault_of_making store.Store = program.Closed
 fault_of_making store.Closed = program.Closed
 
--- what is said of a file that was not taken for a register's
+-- The fault for a file that is not a valid register.
 abbrev pub fault_of_adopting : AdoptFault → ProgramFault
 fault_of_adopting adopt.NotOurs = program.NotOurs
 fault_of_adopting adopt.Interval = program.Interval
@@ -34,29 +34,30 @@ fault_of_adopting adopt.Version = program.Version
 fault_of_adopting adopt.NoMemory = program.NoMemory
 fault_of_adopting adopt.Store = program.Closed
 
--- what is said of a service that ended early
+-- The fault for a service that ended early.
 abbrev pub fault_of_service : ServiceFault → ProgramFault
 fault_of_service service.Closed = program.Closed
 fault_of_service service.Accept = program.Stream
 
--- the system's words could not be had: for want of memory, or because one is no text
+-- Reading the arguments failed: out of memory, or one is not valid UTF-8.
 abbrev pub IsFaultOfWords : ErrorKind → ProgramFault → Type 0
 IsFaultOfWords kind fault =
     ((kind ≡ OutOfMemory) × (fault ≡ program.NoMemory)) ⊎ ((kind ≢ OutOfMemory) × (fault ≡ program.Words))
 
--- a file could not be opened: for want of memory, or for another cause
+-- A file cannot be opened: out of memory, or for another reason.
 abbrev pub IsFaultOfOpening : ProgramFault → Type 0
 IsFaultOfOpening fault = (fault ≡ program.NoMemory) ⊎ (fault ≡ program.Open)
 
--- a register's file could not be opened; an empty file is no register's
+-- An existing file cannot be opened. An empty file is not a register.
 abbrev pub IsFaultOfFinding : ProgramFault → Type 0
 IsFaultOfFinding fault = IsFaultOfOpening fault ⊎ (fault ≡ program.NotOurs)
 
--- a file could not be closed: for want of memory, or because its store failed
+-- A file cannot be closed: out of memory, or its store failed.
 abbrev pub IsFaultOfClosing : ProgramFault → Type 0
 IsFaultOfClosing fault = (fault ≡ program.NoMemory) ⊎ (fault ≡ program.Closed)
 
--- 2 for words that are no text, as for other words, and 1 for a fault
+-- The exit status: 2 for arguments that are not valid UTF-8, as for other invalid arguments, and 1 for a
+-- fault.
 abbrev pub status_of : ProgramFault → ℕ
 status_of program.Words = 2
 status_of program.Stream = 1
@@ -70,7 +71,7 @@ status_of program.Interval = 1
 status_of program.Unsound = 1
 status_of program.Version = 1
 
--- the line that is told of it
+-- The line that reports a fault.
 abbrev pub line_of : ProgramFault → List ℕ
 line_of program.Words = codes "land: a word of the command line is no text\n"
 line_of program.Stream = codes "land: input or output failed\n"

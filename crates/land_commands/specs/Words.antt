@@ -1,7 +1,7 @@
--- Definitions of the words of the command line.
+-- Definitions of the arguments of the command line.
 pub mod Choices
 pub mod Commands
 pub mod Laws
 pub mod Names
 pub mod Options
-pub mod Orders
+pub mod PlainCommands

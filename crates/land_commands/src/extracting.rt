@@ -1,9 +1,9 @@
-//! Extracts of the register in a file.
+//! The command `extract`: writes an extract of the register in a file.
 ghost use Rattle.land_commands.specs.Extracting.{IsExtractedOver, IsExtracting};
 
-use crate::filed::found;
+use crate::command_error::CommandError;
+use crate::filed::open_register;
 use crate::host::Host;
-use crate::refusal::Refusal;
 use land_core::caller::Caller;
 use land_core::kind::Kind;
 use land_select::sql_keeper::SqlKeeper;
@@ -14,46 +14,48 @@ use sqlite::Alter;
 use std::alloc::Global;
 use std::io::Write;
 
-/// What an extract is asked for.
+/// The request for an extract.
 #[derive(Clone, Copy, Debug)]
-pub struct Wanted {
-    /// What the clock reads, in milliseconds since 1970 UTC.
+pub struct ExtractRequest {
+    /// The clock reading, in Unix milliseconds.
     pub clock: i64,
-    /// Who asks, in which role.
+    /// The caller and its role.
     pub caller: Caller,
-    /// Of which kind the objects are.
+    /// The kind of the objects.
     pub kind: Kind,
-    /// The moment, in milliseconds since 1970 UTC, or now.
+    /// The requested time, in Unix milliseconds; `None`: the time of the clock.
     pub at: Option<i64>,
 }
 
-/// Writes the extract of a kind from the register in a file, which is left as it is.
+/// Writes the extract of one kind of objects from the register in a file. Does not change the file.
 pub fn extract<H: Host, O: Write>(
     host: &mut H,
     file: &str,
-    wanted: Wanted,
+    wanted: ExtractRequest,
     output: &mut O,
-) -> Result<(), Refusal>
-    ensures { IsExtracting H.Store.Store (H.holds file.now) wanted (O.contents output.old) (O.contents output.new) result }
+) -> Result<(), CommandError>
+    ensures { IsExtracting H.Store.Store (H.holds file.now) wanted
+        (O.contents output.old) (O.contents output.new) result }
 {
-    let tables = found(host, file)?;
+    let tables = open_register(host, file)?;
     let (done, _left) = extract_tables(host.alloc(), tables, wanted, output);
     match done {
         Ok(_written) => Ok(()),
-        Err(fault) => Err(Refusal::from(fault)),
+        Err(fault) => Err(CommandError::from(fault)),
     }
 }
 
-/// Writes the extract of a kind from tables, and hands the tables back.
+/// Writes the extract of one kind of objects from tables, and returns the tables.
 fn extract_tables<S: Alter, O: Write>(
     alloc: Global,
     tables: Tables<S>,
-    wanted: Wanted,
+    wanted: ExtractRequest,
     output: &mut O,
 ) -> (Result<u64, ExtractFault>, Tables<S>)
-    ensures { IsExtractedOver S.Store tables wanted result.1 (O.contents output.old) (O.contents output.new) result.0 }
+    ensures { IsExtractedOver S.Store tables wanted result.1
+        (O.contents output.old) (O.contents output.new) result.0 }
 {
-    let Wanted {
+    let ExtractRequest {
         clock,
         caller,
         kind,

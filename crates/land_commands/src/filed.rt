@@ -1,6 +1,7 @@
-//! Commands over files.
+//! The commands `new`, `check` and `serve`, on files.
 ghost use Rattle.std.specs.Prelude.{◌≡◌, string_bytes, IfErr, IfOk, OnOk};
-ghost use Rattle.land_commands.specs.Filed.{IsChecking, IsFileService, IsFinding, IsMaking, IsServedOver, sound_text};
+ghost use Rattle.land_commands.specs.Filed.{IsChecking, IsFileService, IsFinding, IsMaking, IsServedOver};
+ghost use Rattle.land_commands.specs.Filed.{sound_text};
 ghost use Rattle.land_commands.specs.ProgramFaults.{IsFaultOfClosing};
 
 use crate::host::Host;
@@ -15,8 +16,9 @@ use sqlite::{Alter, Connection};
 use std::alloc::{AllocError, Global};
 use std::io::Write;
 
-/// Makes a new register in a file, which is made where it is not there. A file that has tables is left as it is.
-pub fn make<H: Host>(host: &mut H, file: &str) -> Result<(), ProgramFault>
+/// Creates a new register in a file, and the file if it does not exist. A file that has tables is not
+/// changed.
+pub fn create_register<H: Host>(host: &mut H, file: &str) -> Result<(), ProgramFault>
     ensures { IsMaking H.Store.Store (H.holds file.now) H.is_closed result }
 {
     let conn = host.open_new(file)?;
@@ -26,7 +28,7 @@ pub fn make<H: Host>(host: &mut H, file: &str) -> Result<(), ProgramFault>
     }
 }
 
-/// Closes a file, which then holds everything that was committed, without its log.
+/// Closes a file. The database file then holds all commits, and its log is empty.
 pub(crate) fn close<H: Host>(conn: Connection<H::Store>) -> Result<(), ProgramFault>
     ensures closed { OnOk result (H.is_closed conn) }
     ensures fault { IfErr result IsFaultOfClosing }
@@ -35,8 +37,11 @@ pub(crate) fn close<H: Host>(conn: Connection<H::Store>) -> Result<(), ProgramFa
     H::close(&mut left)
 }
 
-/// The register in a file, which is left as it is.
-pub(crate) fn found<H: Host>(host: &mut H, file: &str) -> Result<Tables<H::Store>, ProgramFault>
+/// Opens the register in a file. Does not change the file.
+pub(crate) fn open_register<H: Host>(
+    host: &mut H,
+    file: &str,
+) -> Result<Tables<H::Store>, ProgramFault>
     ensures finding { IsFinding H.Store.Store (H.holds file.now) result }
     ensures port { H.coming host.new ≡ H.coming host.old }
 {
@@ -47,15 +52,16 @@ pub(crate) fn found<H: Host>(host: &mut H, file: &str) -> Result<Tables<H::Store
     }
 }
 
-/// Says of a file that it holds a sound register, with the moment of its last change and its next number.
+/// Checks that a file holds a sound register, and writes its last stamp and its next number.
 pub fn check<H: Host, O: Write>(
     host: &mut H,
     file: &str,
     output: &mut O,
 ) -> Result<(), ProgramFault>
-    ensures { IsChecking H.Store.Store (H.holds file.now) (O.contents output.old) (O.contents output.new) result }
+    ensures { IsChecking H.Store.Store (H.holds file.now)
+        (O.contents output.old) (O.contents output.new) result }
 {
-    let tables = found(host, file)?;
+    let tables = open_register(host, file)?;
     let line = sound_line(host.alloc(), tables.last(), tables.next())?;
     match send(output, line.as_bytes()) {
         Ok(()) => Ok(()),
@@ -63,14 +69,14 @@ pub fn check<H: Host, O: Write>(
     }
 }
 
-/// What is said of a sound register.
+/// Formats the line that reports a sound register.
 fn sound_line(alloc: Global, last: i64, next: u64) -> Result<String, AllocError>
     ensures { IfOk result (λ text. string_bytes text ≡ sound_text last next) }
 {
     format!(in alloc; "sound: last {last}, next {next}\n")
 }
 
-/// Serves the first `connections` connections to a port, one at a time, over the register in a file.
+/// Serves the first `connections` connections to a port, one at a time, on the register in a file.
 pub fn serve_file<H: Host, C: Clock>(
     host: &mut H,
     file: &str,
@@ -87,7 +93,7 @@ pub fn serve_file<H: Host, C: Clock>(
       clock_after = clock.new;
     }) result }
 {
-    let tables = found(host, file)?;
+    let tables = open_register(host, file)?;
     let Ok(mut listener) = host.listen(port) else {
         return Err(ProgramFault::Listen);
     };
@@ -99,7 +105,7 @@ pub fn serve_file<H: Host, C: Clock>(
     }
 }
 
-/// Serves the first `connections` connections of a listener over tables, and hands the tables back.
+/// Serves the first `connections` connections of a listener on tables, and returns the tables.
 fn serve_tables<S: Alter, L: Connections, C: Clock>(
     alloc: Global,
     tables: Tables<S>,

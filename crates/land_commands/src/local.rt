@@ -1,5 +1,5 @@
-//! Work on the machine that the program runs on. What is done there is written over any machine, and handed in, so that what the machine owns
-//! of files and ports is let go here and in the program, and nowhere else: that it can be takes longer to prove than all else that a crate does
-//! with it.
+//! Work on the local host. The work is generic in the host and passed in, so that only this crate and the
+//! program drop the files and ports of the local host: proving that they can be dropped takes longer than the
+//! rest of a crate.
 
 pub mod machine;

@@ -1,4 +1,4 @@
-//! The machine that the program runs on.
+//! The local host.
 ghost use Rattle.std.specs.Prelude.{◌≡◌, None, IfErr, IfOk, IfSome, OnOk};
 ghost use Rattle.land_commands.specs.Closing.{IsClosedFile};
 ghost use Rattle.land_commands.specs.ProgramFaults.{IsFaultOfClosing, IsFaultOfOpening};
@@ -19,11 +19,13 @@ use std::net::{Ipv4Addr, TcpListener};
 use std::rt::HostRuntime;
 use std::{fs, io};
 
-/// What the first bytes of every store are.
+/// The first 16 bytes of every SQLite database file.
 const MAGIC: &[u8] = b"SQLite format 3\0";
 
-/// The host that the program runs on. Its files are opened as `Wary`: nothing is known of what they held before, and a torn write may leave
-/// any bytes, so that each commit syncs twice.
+/// The host that the program runs on.
+///
+/// Opens files as `Wary`: it assumes nothing about their earlier content, and that a torn write may leave any
+/// bytes. So each commit syncs twice.
 #[derive(Drop)]
 pub struct LocalHost<'a> {
     rt: HostRuntime,
@@ -31,43 +33,43 @@ pub struct LocalHost<'a> {
 }
 
 impl<'a> LocalHost<'a> {
-    /// The machine, with no file opened yet, and a stopwatch for those who call.
+    /// Creates the host, without an open file. `watch`: the timer of connections.
     pub fn new(rt: &HostRuntime, watch: &'a Stopwatch<HostRuntime>) -> LocalHost<'a> {
         LocalHost { rt: *rt, watch }
     }
 }
 
-/// What stands under a name.
+/// The content of a file, as far as its size and first bytes show.
 #[derive(Clone, Copy, Debug, PartialEq, Eq)]
-enum Standing {
-    /// Nothing, as far as can be seen.
+enum FileKind {
+    /// The file does not exist, or its metadata cannot be read.
     Nothing,
     /// An empty file.
     Empty,
-    /// A file that begins as a store does.
+    /// A file that starts with the header of a SQLite database.
     Store,
     /// Anything else.
     Other,
 }
 
-/// What stands under a name. It is not opened for writing.
-fn standing_of(rt: &HostRuntime, file: &str) -> Standing {
+/// Returns the kind of a file. Does not open it for writing.
+fn standing_of(rt: &HostRuntime, file: &str) -> FileKind {
     let Ok(stands) = fs::metadata(rt, file) else {
-        return Standing::Nothing;
+        return FileKind::Nothing;
     };
     if !stands.is_file() {
-        return Standing::Other;
+        return FileKind::Other;
     }
     if stands.len() == 0 {
-        return Standing::Empty;
+        return FileKind::Empty;
     }
     match begins_as_store(rt, file) {
-        Ok(true) => Standing::Store,
-        Ok(false) | Err(_) => Standing::Other,
+        Ok(true) => FileKind::Store,
+        Ok(false) | Err(_) => FileKind::Other,
     }
 }
 
-/// Whether a file begins as a store does.
+/// Checks whether a file starts with the header of a SQLite database.
 fn begins_as_store(rt: &HostRuntime, file: &str) -> io::Result<bool> {
     let mut opened = File::open(rt, file)?;
     let mut front = [0; 16];
@@ -75,13 +77,14 @@ fn begins_as_store(rt: &HostRuntime, file: &str) -> io::Result<bool> {
     Ok(front.as_slice() == MAGIC)
 }
 
-/// Opens a file as a store, or makes it. What it held is `S`, which no code reads.
+/// Opens a file as a store, or creates it. `S` describes its earlier content, and is not read by code.
 fn open_store<S: Start>(
     rt: &HostRuntime,
     file: &str,
     start: S,
 ) -> Result<Connection<FileStore<FileFrom<S>>>, ProgramFault>
-    ensures shows { IfOk result (λ c. HasCleanDisk (file_state c) → FindsIn (image_at S.Start) (file_state c)) }
+    ensures shows { IfOk result (λ c. HasCleanDisk (file_state c)
+        → FindsIn (image_at S.Start) (file_state c)) }
     ensures fault { IfErr result IsFaultOfOpening }
 {
     match Connection::open_from(rt, file, false, start) {
@@ -91,7 +94,7 @@ fn open_store<S: Start>(
     }
 }
 
-/// Closes a store's files. The database file then holds everything that its log had.
+/// Closes the files of a store. The database file then holds everything that was in its log.
 fn close_store<S: Start>(conn: Connection<FileStore<FileFrom<S>>>) -> Result<(), ProgramFault>
     ensures closed { OnOk result (IsClosedFile conn) }
     ensures fault { IfErr result IsFaultOfClosing }
@@ -102,7 +105,8 @@ fn close_store<S: Start>(conn: Connection<FileStore<FileFrom<S>>>) -> Result<(),
     }
 }
 
-/// Returns the fault of a store that could not be closed: 501 if it ran out of memory, else 502. The store is dropped.
+/// Returns the fault of a store that could not be closed: 501 if it ran out of memory, else 502. The store is
+/// dropped.
 fn closing_fault<S: Drop>(failure: (Error, S)) -> ProgramFault
     ensures { IsFaultOfClosing result }
 {
@@ -132,7 +136,7 @@ impl<'a> Host for LocalHost<'a> {
         file: &str,
     ) -> Result<Connection<FileStore<FileFrom<Wary>>>, ProgramFault> {
         match standing_of(&self.rt, file) {
-            Standing::Other => Err(ProgramFault::Open),
+            FileKind::Other => Err(ProgramFault::Open),
             _ => open_store(&self.rt, file, Wary),
         }
     }
@@ -142,9 +146,9 @@ impl<'a> Host for LocalHost<'a> {
         file: &str,
     ) -> Result<Connection<FileStore<FileFrom<Wary>>>, ProgramFault> {
         match standing_of(&self.rt, file) {
-            Standing::Nothing | Standing::Other => Err(ProgramFault::Open),
-            Standing::Empty => Err(ProgramFault::NotOurs),
-            Standing::Store => open_store(&self.rt, file, Wary),
+            FileKind::Nothing | FileKind::Other => Err(ProgramFault::Open),
+            FileKind::Empty => Err(ProgramFault::NotOurs),
+            FileKind::Store => open_store(&self.rt, file, Wary),
         }
     }
 

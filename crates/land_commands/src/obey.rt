@@ -1,18 +1,20 @@
-//! The words of the command line, and what is done for them.
+//! Runs the command that the arguments name.
 ghost use Rattle.std.specs.Prelude.{map, string_bytes};
-ghost use Rattle.land_commands.specs.Program.{IsObeyed};
+ghost use Rattle.land_commands.specs.Program.{IsObeyed, files_of};
 
 use crate::host::Host;
 use crate::program_fault::ProgramFault;
-use crate::run::{complain, run_command, say};
+use crate::run::{complain, run_command, write_stderr};
 use crate::words::read_words;
 use crate::words::words_fault::WordsFault;
 use land_keep::clock::Clock;
 use std::io::{Read, Write};
 
-/// Does what these words ask for, of which the first is the program's name, over the streams and the machine's clock that are handed in, and
-/// gives the status: 0, or 1 for a fault, which is told on `errors`; 2 where the words are refused, which `clap` tells on `errors`.
-pub fn obey<H: Host, I: Read, O: Write, E: Write, C: Clock>(
+/// Runs the command that the arguments name, on these streams and this clock, and returns the exit status.
+///
+/// The first argument is the name of the program. Status: 0; 1 for a fault, which is written to `errors`; 2
+/// if `clap` rejects the arguments, with its message on `errors`.
+pub fn run_args<H: Host, I: Read, O: Write, E: Write, C: Clock>(
     host: &mut H,
     words: &[String],
     input: &mut I,
@@ -20,14 +22,15 @@ pub fn obey<H: Host, I: Read, O: Write, E: Write, C: Clock>(
     errors: &mut E,
     clock: &mut C,
 ) -> u8
-    ensures { IsObeyed H.Store.Store
-        (record { holds = H.holds; is_closed = H.is_closed; coming = H.coming host.old; after = H.coming host.new }) C.reads (map string_bytes words.now) (I.remaining input.old) clock.old clock.new
-        (O.contents output.old) (O.contents output.new) (E.contents errors.old) (E.contents errors.new) result }
+    ensures { IsObeyed H.Store.Store (files_of H.holds H.is_closed H.coming host.old host.new) C.reads
+        (map string_bytes words.now) (I.remaining input.old) clock.old clock.new
+        (O.contents output.old) (O.contents output.new)
+        (E.contents errors.old) (E.contents errors.new) result }
 {
     match read_words(host.alloc(), words) {
         Ok(command) => run_command(host, command, input, output, errors, clock),
         Err(WordsFault::Refused(text)) => {
-            say(errors, text.as_str());
+            write_stderr(errors, text.as_str());
             2
         }
         Err(WordsFault::NoMemory) => complain(errors, ProgramFault::NoMemory),

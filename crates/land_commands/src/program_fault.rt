@@ -1,7 +1,9 @@
-//! Why the program ends without success.
+//! Faults of the program.
 ghost use Rattle.std.specs.Prelude.{◌≡◌};
 ghost use Rattle.std.specs.IoError.{error_kind};
-ghost use Rattle.land_commands.specs.ProgramFaults.{fault_of, fault_of_adopting, fault_of_making, fault_of_service, IsFaultOfWords, line_of, status_of};
+ghost use Rattle.land_commands.specs.ProgramFaults.{fault_of, fault_of_adopting, fault_of_making};
+ghost use Rattle.land_commands.specs.ProgramFaults.{fault_of_service};
+ghost use Rattle.land_commands.specs.ProgramFaults.{IsFaultOfWords, line_of, status_of};
 
 use land_desk::serve::DeskFault;
 use land_desk::service::serving::ServiceFault;
@@ -10,35 +12,35 @@ use land_tables::fault::AdoptFault;
 use std::alloc::AllocError;
 use std::io;
 
-/// Why the program ends without success.
+/// Why the program exits without success.
 #[derive(Clone, Copy, Debug, PartialEq, Eq)]
 pub enum ProgramFault {
-    /// A word of the command line is no text.
+    /// An argument is not valid UTF-8.
     Words,
-    /// A read or a write failed, or the next connection could not be had.
+    /// A read, a write or accepting a connection failed.
     Stream,
-    /// 501: there was no memory.
+    /// 501: out of memory.
     NoMemory,
-    /// A file could not be opened.
+    /// A file cannot be opened.
     Open,
-    /// A port could not be listened on.
+    /// Listening on a port failed.
     Listen,
-    /// 135: the asked moment is still to come.
+    /// 135: the requested time is in the future.
     ToCome,
-    /// 502: a call of the store failed, or a register was to be made where there is one.
+    /// 502: a store operation failed, or the file for a new register has tables already.
     Closed,
-    /// 520: the file has not the tables of a register, or a value that cannot be read as its field.
+    /// 520: the file does not have the tables of a register, or has a value that is not valid for its field.
     NotOurs,
-    /// 521: the lifespans of its rows do not go together.
+    /// 521: the validity intervals of its rows contradict each other.
     Interval,
     /// 522: the register at some stamp is not sound.
     Unsound,
-    /// 523: its tables were made by another version of their shapes.
+    /// 523: its tables have another schema version.
     Version,
 }
 
 impl ProgramFault {
-    /// The status that the program ends with: 2 for the words, 1 for any other fault.
+    /// Returns the exit status: 2 for the arguments, 1 for any other fault.
     pub fn status(self) -> u8
         ensures { result ≡ status_of self }
     {
@@ -51,7 +53,7 @@ impl ProgramFault {
         }
     }
 
-    /// The line that is told of it on standard error.
+    /// Returns the line for standard error.
     pub fn line(self) -> &'static str
         ensures { result.now ≡ line_of self }
     {
@@ -82,7 +84,7 @@ impl From<DeskFault> for ProgramFault {
     }
 }
 
-/// From a store in which no register could be made.
+/// From a store in which no register could be created.
 impl From<StoreFault> for ProgramFault {
     ghost from_gives = { λ from to. to ≡ fault_of_making from };
 
@@ -94,7 +96,7 @@ impl From<StoreFault> for ProgramFault {
     }
 }
 
-/// From a store that was not taken for a register's.
+/// From a store that is not a valid register.
 impl From<AdoptFault> for ProgramFault {
     ghost from_gives = { λ from to. to ≡ fault_of_adopting from };
 
@@ -132,7 +134,7 @@ impl From<AllocError> for ProgramFault {
     }
 }
 
-/// From the system's words, which may be no text.
+/// From reading the arguments, which may not be valid UTF-8.
 impl From<io::Error> for ProgramFault {
     ghost from_gives = { λ error fault. IsFaultOfWords (error_kind error) fault };
 

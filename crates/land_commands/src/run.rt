@@ -1,19 +1,21 @@
-//! The commands of the program.
+//! Runs the commands of the program.
 ghost use Rattle.std.specs.Prelude.{◌≡◌, [], string_bytes, IfOk, IfSome};
 ghost use Rattle.std.specs.Io.KnownBytes.{Appends};
-ghost use Rattle.land_commands.specs.Program.{IsDenied, IsEnding, IsRun, IsSaid, IsSettled, IsTalk, IsTold};
+ghost use Rattle.land_commands.specs.Program.{IsEnding, IsRun, IsTalk, ReportsDenial, ReportsDone};
+ghost use Rattle.land_commands.specs.Program.{ReportsExtracted};
+ghost use Rattle.land_commands.specs.Program.{WritesOrFails, files_of};
 ghost use Rattle.land_commands.specs.ProgramFaults.{line_of, status_of};
-ghost use Rattle.land_commands.specs.Refusals.{denied_text};
-ghost use Rattle.land_commands.specs.Words.Orders.{order_of};
+ghost use Rattle.land_commands.specs.CommandErrors.{denied_text};
+ghost use Rattle.land_commands.specs.Words.PlainCommands.{order_of};
 ghost use Rattle.land_tables.specs.Office.{IsCreated};
 ghost use Rattle.sqlite.specs.Steps.{over_memory};
 
-use crate::extracting::{Wanted, extract};
-use crate::filed::{check, make, serve_file};
+use crate::command_error::CommandError;
+use crate::extracting::{ExtractRequest, extract};
+use crate::filed::{check, create_register, serve_file};
 use crate::host::Host;
-use crate::migrating::migrate;
+use crate::migrate_command::migrate;
 use crate::program_fault::ProgramFault;
-use crate::refusal::Refusal;
 use crate::set_clock::SetClock;
 use crate::words::command::Command;
 use land_desk::serve::{DeskFault, Served, serve};
@@ -25,8 +27,9 @@ use sqlite::{Connection, MemStore};
 use std::alloc::{AllocError, Global};
 use std::io::{Read, Write};
 
-/// Does a command over the streams and the machine's clock that are handed in, and gives the status: 0, or 1 for a fault,
-/// which is told on `errors`. `talk` has a clock of its own.
+/// Runs a command on these streams and this clock, and returns the exit status.
+///
+/// Status: 0, or 1 for a fault, which is written to `errors`. `talk` has a clock of its own.
 pub fn run_command<H: Host, I: Read, O: Write, E: Write, C: Clock>(
     host: &mut H,
     command: Command<'_>,
@@ -35,23 +38,24 @@ pub fn run_command<H: Host, I: Read, O: Write, E: Write, C: Clock>(
     errors: &mut E,
     clock: &mut C,
 ) -> u8
-    ensures { IsRun H.Store.Store
-        (record { holds = H.holds; is_closed = H.is_closed; coming = H.coming host.old; after = H.coming host.new }) C.reads (order_of command.entry) (I.remaining input.old) clock.old clock.new
-        (O.contents output.old) (O.contents output.new) (E.contents errors.old) (E.contents errors.new) result }
+    ensures { IsRun H.Store.Store (files_of H.holds H.is_closed H.coming host.old host.new) C.reads
+        (order_of command.entry) (I.remaining input.old) clock.old clock.new
+        (O.contents output.old) (O.contents output.new)
+        (E.contents errors.old) (E.contents errors.new) result }
 {
     match command {
         Command::Talk { clock } => {
             let served = talk(host.alloc(), clock, input, output);
-            conclude(errors, served)
+            report_served(errors, served)
         }
-        Command::New { file } => settle(errors, make(host, file)),
+        Command::New { file } => report_done(errors, create_register(host, file)),
         Command::Serve {
             file,
             port,
             connections,
-        } => settle(errors, serve_file(host, file, port, connections, clock)),
-        Command::Check { file } => settle(errors, check(host, file, output)),
-        Command::Migrate { file } => settle(errors, migrate(host, file, output)),
+        } => report_done(errors, serve_file(host, file, port, connections, clock)),
+        Command::Check { file } => report_done(errors, check(host, file, output)),
+        Command::Migrate { file } => report_done(errors, migrate(host, file, output)),
         Command::Extract {
             file,
             clock,
@@ -59,26 +63,28 @@ pub fn run_command<H: Host, I: Read, O: Write, E: Write, C: Clock>(
             kind,
             at,
         } => {
-            let wanted = Wanted {
+            let wanted = ExtractRequest {
                 clock,
                 caller,
                 kind,
                 at,
             };
             let done = extract(host, file, wanted, output);
-            tell(host.alloc(), errors, done)
+            report_extracted(host.alloc(), errors, done)
         }
     }
 }
 
-/// Serves the input over a new register, which is kept in tables in memory, with a clock that reads the same each time.
+/// Serves the input on a new register, in tables in memory. The clock always reads `reading`, in Unix
+/// milliseconds.
 fn talk<I: Read, O: Write>(
     alloc: Global,
     reading: i64,
     input: &mut I,
     output: &mut O,
 ) -> Result<Served, DeskFault>
-    ensures { IfSome (I.remaining input.old) (λ bytes. IsTalk bytes reading (O.contents output.old) (O.contents output.new) result) }
+    ensures { IfSome (I.remaining input.old) (λ bytes. IsTalk bytes reading
+        (O.contents output.old) (O.contents output.new) result) }
 {
     let Ok(tables) = new_tables(alloc) else {
         return Err(DeskFault::NoMemory);
@@ -88,7 +94,7 @@ fn talk<I: Read, O: Write>(
     serve(alloc, input, output, &mut keeper, &mut clock)
 }
 
-/// The tables of a new register in memory; all that can be wanting there is memory.
+/// Creates the tables of a new register in memory. The error is out of memory.
 fn new_tables(alloc: Global) -> Result<Tables<MemStore>, AllocError>
     ensures { IfOk result (IsCreated over_memory) }
 {
@@ -99,8 +105,8 @@ fn new_tables(alloc: Global) -> Result<Tables<MemStore>, AllocError>
     }
 }
 
-/// The status after serving. A fault is told.
-fn conclude<E: Write>(errors: &mut E, served: Result<Served, DeskFault>) -> u8
+/// Returns the exit status after serving, and writes a fault to `errors`.
+fn report_served<E: Write>(errors: &mut E, served: Result<Served, DeskFault>) -> u8
     ensures { IsEnding served (E.contents errors.old) (E.contents errors.new) result }
 {
     match served {
@@ -109,9 +115,9 @@ fn conclude<E: Write>(errors: &mut E, served: Result<Served, DeskFault>) -> u8
     }
 }
 
-/// The status after a command over a file. A fault is told.
-fn settle<E: Write>(errors: &mut E, done: Result<(), ProgramFault>) -> u8
-    ensures { IsSettled done (E.contents errors.old) (E.contents errors.new) result }
+/// Returns the exit status after a command on a file, and writes a fault to `errors`.
+fn report_done<E: Write>(errors: &mut E, done: Result<(), ProgramFault>) -> u8
+    ensures { ReportsDone done (E.contents errors.old) (E.contents errors.new) result }
 {
     match done {
         Ok(()) => 0,
@@ -119,49 +125,49 @@ fn settle<E: Write>(errors: &mut E, done: Result<(), ProgramFault>) -> u8
     }
 }
 
-/// The status after a command of which the policy decides. What refuses it is told.
-fn tell<E: Write>(alloc: Global, errors: &mut E, done: Result<(), Refusal>) -> u8
-    ensures { IsTold done (E.contents errors.old) (E.contents errors.new) result }
+/// Returns the exit status after an extract, and writes a denial or a fault to `errors`.
+fn report_extracted<E: Write>(alloc: Global, errors: &mut E, done: Result<(), CommandError>) -> u8
+    ensures { ReportsExtracted done (E.contents errors.old) (E.contents errors.new) result }
 {
     match done {
         Ok(()) => 0,
-        Err(Refusal::Denied(rule)) => deny(alloc, errors, rule),
-        Err(Refusal::Fault(fault)) => complain(errors, fault),
+        Err(CommandError::Denied(rule)) => report_denial(alloc, errors, rule),
+        Err(CommandError::Fault(fault)) => complain(errors, fault),
     }
 }
 
-/// Tells the rule that denies, and gives the status 1.
-fn deny<E: Write>(alloc: Global, errors: &mut E, rule: u8) -> u8
-    ensures { IsDenied rule (E.contents errors.old) (E.contents errors.new) result }
+/// Writes the rule that denies to `errors`, or 501 if out of memory, and returns the exit status 1.
+fn report_denial<E: Write>(alloc: Global, errors: &mut E, rule: u8) -> u8
+    ensures { ReportsDenial rule (E.contents errors.old) (E.contents errors.new) result }
 {
     match denied_line(alloc, rule) {
         Ok(line) => {
-            say(errors, line.as_str());
+            write_stderr(errors, line.as_str());
             1
         }
         Err(_) => complain(errors, ProgramFault::NoMemory),
     }
 }
 
-/// What is told of a denial.
+/// Formats the line that reports a denial.
 fn denied_line(alloc: Global, rule: u8) -> Result<String, AllocError>
     ensures { IfOk result (λ text. string_bytes text ≡ denied_text rule) }
 {
     format!(in alloc; "land: denied {rule}\n")
 }
 
-/// Tells a fault, and gives its status.
+/// Writes a fault to `errors` and returns its exit status.
 pub fn complain<E: Write>(errors: &mut E, fault: ProgramFault) -> u8
     ensures status { result ≡ status_of fault }
-    ensures said { IsSaid (line_of fault) (E.contents errors.old) (E.contents errors.new) }
+    ensures said { WritesOrFails (line_of fault) (E.contents errors.old) (E.contents errors.new) }
 {
-    say(errors, fault.line());
+    write_stderr(errors, fault.line());
     fault.status()
 }
 
-/// Writes a text, or a front of it where the writer fails.
-pub fn say<E: Write>(errors: &mut E, text: &str)
-    ensures { IsSaid text.now (E.contents errors.old) (E.contents errors.new) }
+/// Writes a text, or a prefix of it if the writer fails.
+pub fn write_stderr<E: Write>(errors: &mut E, text: &str)
+    ensures { WritesOrFails text.now (E.contents errors.old) (E.contents errors.new) }
 {
     match send(errors, text.as_bytes()) {
         Ok(()) | Err(_) => {}

@@ -1,12 +1,12 @@
-//! A clock that is set.
+//! A fixed clock.
 ghost use Rattle.land_commands.specs.Program.{reads_as_set};
 
 use land_keep::clock::Clock;
 
-/// A clock that stands still.
+/// A clock that always reads the same.
 #[derive(Clone, Copy, Debug, PartialEq, Eq)]
 pub struct SetClock {
-    /// What it reads each time, in milliseconds since 1970 UTC.
+    /// The reading, in Unix milliseconds.
     pub reading: i64,
 }
 

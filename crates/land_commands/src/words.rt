@@ -1,12 +1,12 @@
-//! The words of the command line, read by `clap`.
+//! Reads the arguments of the command line with `clap`.
 
 pub mod choices;
+mod clap_matches;
 pub mod command;
 mod commands;
 pub mod laws;
-mod matching;
 mod options;
-mod reading;
+mod parse;
 pub mod words_fault;
 
-pub use reading::read_words;
+pub use parse::read_words;

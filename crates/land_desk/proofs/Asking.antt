@@ -1,4 +1,4 @@
--- How much is asked of the reader of a stream.
+-- How far the reader of a stream is read.
 use Rattle.std.proofs.Common.{◌≡◌, ◌≤◌, ◌<◌, ◌+◌, ◌∙◌, ◌⊎◌, ap, append_assoc, arith, inl, inr, refl, subst, sym, ℕ, Bool, true, false, List, [], ◌∷◌, ◌++◌, drop, length, length-append, length-drop, map, take, take-append-drop, Result, Ok, Err, Option, Some, None, IfErr, IfOk, IfSome}
 use Rattle.std.specs.Prelude.{◌||◌}
 use Rattle.std.specs.Io.KnownBytes.{Keeps, prepend_known}
@@ -7,8 +7,8 @@ use Rattle.std.proofs.lemmas.List.{drop-append-le, length-map, nil_from_length}
 use Rattle.httparse.specs.declared.spans.HeaderSpan.{HeaderSpan}
 use Rattle.httparse.specs.declared.spans.RequestSpans.{RequestSpans}
 use Rattle.land_core.specs.declared.ask.Request.{Request}
-use Rattle.land_desk.specs.Serving.{Exchange, Goes, SoFar, closes}
-use Rattle.land_desk.specs.Serving.Asking.{AsksFor, AsksForOne, Begins, IfBoth, IsAskedFor, TakesAtMost}
+use Rattle.land_desk.specs.Serving.{Exchange, ServesPrefix, SoFar, closes}
+use Rattle.land_desk.specs.Serving.Asking.{AsksFor, AsksForOne, BeginsWith, IfBoth, IsAskedFor, TakesAtMost}
 use Rattle.land_desk.specs.Turns.{IsAsked, IsSpent, IsWritten}
 use Rattle.land_desk.specs.declared.serve.DeskFault.{DeskFault}
 use Rattle.land_desk.specs.declared.serve.DeskFault.TheVariants as desk
@@ -23,21 +23,21 @@ use Rattle.land_wire.specs.declared.framing.frame_fault.FrameFault.{FrameFault}
 use Rattle.land_wire.specs.declared.framing.item.Front.{Front}
 use Rattle.land_wire.specs.declared.framing.item.Front.TheVariants as front
 
--- ---- how many bytes are taken
+-- ---- the number of bytes taken
 
 -- nothing is taken
 pub none_taken : (known : Option (List ℕ)) (most : ℕ) → IfBoth known known (TakesAtMost most)
 none_taken None most = tt
 none_taken (Some bytes) most = ([], refl, omega arith)
 
--- bytes are read ahead, and none is gone
+-- bytes are read ahead, and none is consumed
 pub none_gone : (start left : Option (List ℕ)) (buffer : List ℕ) (could can : ℕ) → Keeps start (prepend_known buffer left) → length buffer + can ≤ could
     → IfBoth start (prepend_known buffer left) (IsSpent could (length buffer + can))
 none_gone None left buffer could can keeps bound = tt
 none_gone (Some bytes) None buffer could can keeps bound = absurd keeps
 none_gone (Some bytes) (Some rest) buffer could can keeps bound = ([], sym keeps, omega (arith, bound))
 
--- the front of what was read ahead is gone
+-- a prefix of the bytes read ahead is consumed
 pub front_gone : (start left : Option (List ℕ)) (buffer new : List ℕ) (n could can : ℕ) → Keeps start (prepend_known buffer left)
     → length buffer + can ≤ could → new ≡ drop n buffer → IfBoth start (prepend_known new left) (IsSpent could (length new + can))
 front_gone None left buffer new n could can keeps bound is = tt
@@ -49,10 +49,10 @@ front_gone (Some bytes) (Some rest) buffer new n could can keeps bound is =
       omega (arith, bound, ap length whole, length-append (take n buffer) new),
     )
 
--- nothing is gone yet
-pub unspent : (known : Option (List ℕ)) (buffer : List ℕ) (can : ℕ) → buffer ≡ [] → IfBoth known (prepend_known buffer known) (IsSpent can (length buffer + can))
-unspent None buffer can none = tt
-unspent (Some bytes) buffer can none = ([], sym (ap (λ (t : List ℕ). t ++ bytes) none), omega (arith, ap length none))
+-- nothing is consumed yet
+pub spends_nothing : (known : Option (List ℕ)) (buffer : List ℕ) (can : ℕ) → buffer ≡ [] → IfBoth known (prepend_known buffer known) (IsSpent can (length buffer + can))
+spends_nothing None buffer can none = tt
+spends_nothing (Some bytes) buffer can none = ([], sym (ap (λ (t : List ℕ). t ++ bytes) none), omega (arith, ap length none))
 
 pub spent_on : (start before after : Option (List ℕ)) (a b c : ℕ) → IfBoth start before (IsSpent a b) → IfBoth before after (IsSpent b c) → IfBoth start after (IsSpent a c)
 spent_on None before after a b c so next = tt
@@ -61,7 +61,7 @@ spent_on (Some bytes) (Some mid) None a b c so next = absurd next
 spent_on (Some bytes) (Some mid) (Some rest) a b c so next =
     (so.0 ++ next.0, so.1 ∙ ap (λ (t : List ℕ). so.0 ++ t) next.1 ∙ sym (append_assoc so.0 next.0 rest), omega (arith, so.2, next.2, length-append so.0 next.0))
 
--- what was read ahead is taken too
+-- the bytes read ahead are taken too
 pub spent_all : (start left : Option (List ℕ)) (buffer : List ℕ) (could can : ℕ) → IfBoth start (prepend_known buffer left) (IsSpent could (length buffer + can))
     → IfBoth start left (IsSpent could can)
 spent_all None left buffer could can so = tt
@@ -74,9 +74,9 @@ taken_at_most None left could can so = tt
 taken_at_most (Some bytes) None could can so = absurd so
 taken_at_most (Some bytes) (Some rest) could can so = (so.0, so.1, omega (arith, so.2))
 
--- ---- what was asked for in a turn
+-- ---- reading for one item
 
--- the item could not be read
+-- reading the item failed
 pub not_read : (start left : Option (List ℕ)) (buffer : List ℕ) (e : DeskFault) → Keeps start (prepend_known buffer left)
     → IfBoth start left (λ bytes rest. IsAsked bytes buffer rest (Err e))
 not_read None left buffer e keeps = tt
@@ -86,38 +86,38 @@ not_read (Some bytes) (Some rest) buffer e keeps = tt
 none_behind : (buffer rest : List ℕ) → buffer ++ rest ≡ [] → rest ≡ []
 none_behind buffer rest e = nil_from_length rest (omega (arith, length-append buffer rest, ap length e))
 
--- no byte was left
-pub end_asked : (start left : Option (List ℕ)) (buffer : List ℕ) (fr : Front) → fr ≡ front.End → Keeps start (prepend_known buffer left)
-    → IfSome (prepend_known buffer left) (λ s. IsFrontOf s fr) → IfBoth start left (λ bytes rest. IsAsked bytes buffer rest (Ok turn.End))
-end_asked None left buffer fr is keeps item = tt
-end_asked (Some bytes) None buffer fr is keeps item = absurd keeps
-end_asked (Some bytes) (Some rest) buffer fr is keeps item =
+-- the input ended
+pub eof_reads : (start left : Option (List ℕ)) (buffer : List ℕ) (fr : Front) → fr ≡ front.End → Keeps start (prepend_known buffer left)
+    → IfSome (prepend_known buffer left) (λ s. IsFrontOf s fr) → IfBoth start left (λ bytes rest. IsAsked bytes buffer rest (Ok turn.Eof))
+eof_reads None left buffer fr is keeps item = tt
+eof_reads (Some bytes) None buffer fr is keeps item = absurd keeps
+eof_reads (Some bytes) (Some rest) buffer fr is keeps item =
     let none = subst (λ (x : Front). IsFrontOf (buffer ++ rest) x) is item in
     (sym keeps ∙ none, none_behind buffer rest none)
 
--- the item was the last to be asked for, or the connection goes on with little that is read ahead
-after_item : (bytes buffer left text : List ℕ) (last : Bool) (u v : Option (List ℕ)) (result : Result Turn DeskFault) → AsksForOne bytes left
-    → (last ≡ false → length buffer < 1024) → IsWritten text last u v result → IsAsked bytes buffer left result
+-- the item was the last one read, or the connection stays open with less than 1024 bytes read ahead
+after_item : (bytes buffer left text : List ℕ) (close_after : Bool) (u v : Option (List ℕ)) (result : Result Turn DeskFault) → AsksForOne bytes left
+    → (close_after ≡ false → length buffer < 1024) → IsWritten text close_after u v result → IsAsked bytes buffer left result
 after_item bytes buffer left text true u v (Ok t) asks short wrote = subst (λ (t : Turn). IsAsked bytes buffer left (Ok t)) (sym wrote.0) asks
 after_item bytes buffer left text false u v (Ok t) asks short wrote = subst (λ (t : Turn). IsAsked bytes buffer left (Ok t)) (sym wrote.0) (short refl)
-after_item bytes buffer left text last u v (Err e) asks short wrote = tt
+after_item bytes buffer left text close_after u v (Err e) asks short wrote = tt
 
-pub fault_asked : (start left u v : Option (List ℕ)) (buffer text : List ℕ) (fr : Front) (f : FrameFault) (last : Bool) (result : Result Turn DeskFault)
+pub fault_reads : (start left u v : Option (List ℕ)) (buffer text : List ℕ) (fr : Front) (f : FrameFault) (close_after : Bool) (result : Result Turn DeskFault)
     → fr ≡ front.Fault f → Keeps start (prepend_known buffer left) → IfSome (prepend_known buffer left) (λ s. IsFrontOf s fr) → IsReadFor buffer fr
-    → last ≡ true → IsWritten text last u v result → IfBoth start left (λ bytes rest. IsAsked bytes buffer rest result)
-fault_asked None left u v buffer text fr f last result is keeps item read ends wrote = tt
-fault_asked (Some bytes) None u v buffer text fr f last result is keeps item read ends wrote = absurd keeps
-fault_asked (Some bytes) (Some rest) u v buffer text fr f last result is keeps item read ends wrote =
+    → close_after ≡ true → IsWritten text close_after u v result → IfBoth start left (λ bytes rest. IsAsked bytes buffer rest result)
+fault_reads None left u v buffer text fr f close_after result is keeps item read ends wrote = tt
+fault_reads (Some bytes) None u v buffer text fr f close_after result is keeps item read ends wrote = absurd keeps
+fault_reads (Some bytes) (Some rest) u v buffer text fr f close_after result is keeps item read ends wrote =
     let here = subst (λ (x : Front). IsFrontOf (buffer ++ rest) x) is item in
     let much = subst (λ (x : Front). IsReadFor buffer x) is read in
     let asks : IsAskedFor (buffer ++ rest) (faulty f) [] rest = elim much as (λ _. IsAskedFor (buffer ++ rest) (faulty f) [] rest) [
       | inl cut ↦ inl cut
       | inr just ↦ inr (buffer, refl, just)
     ] in
-    after_item bytes buffer rest text last u v result (subst (λ (t : List ℕ). AsksForOne t rest) keeps (faulty f, [], here, asks))
+    after_item bytes buffer rest text close_after u v result (subst (λ (t : List ℕ). AsksForOne t rest) keeps (faulty f, [], here, asks))
     (λ more. absurd (false≢true (sym more ∙ ends))) wrote
 
--- behind a request that was read as far as was asked for
+-- after a request that was read no further than required
 request_one : (buffer rest : List ℕ) (spans : RequestSpans) (n : ℕ) → IsFrontOf (buffer ++ rest) (front.Request spans n) → spans.len + n ≤ length buffer
     → length buffer < spans.len + n + 1024 → AsksForOne (buffer ++ rest) rest
 request_one buffer rest spans n item inside short = (
@@ -127,53 +127,53 @@ request_one buffer rest spans n item inside short = (
   (drop (spans.len + n) buffer, drop-append-le (spans.len + n) buffer rest inside, omega (arith, short, length-drop (spans.len + n) buffer)),
 )
 
-pub request_asked : (start left u v : Option (List ℕ)) (buffer new text : List ℕ) (headers : List HeaderSpan) (fr : Front) (spans : RequestSpans) (n : ℕ) (last : Bool)
+pub request_reads : (start left u v : Option (List ℕ)) (buffer new text : List ℕ) (headers : List HeaderSpan) (fr : Front) (spans : RequestSpans) (n : ℕ) (close_after : Bool)
     (result : Result Turn DeskFault) → fr ≡ front.Request spans n → Keeps start (prepend_known buffer left) → IfSome (prepend_known buffer left) (λ s. IsFrontOf s fr)
-    → IsFrontIn buffer headers fr → IsReadFor buffer fr → new ≡ drop (spans.len + n) buffer → IsWritten text last u v result
+    → IsFrontIn buffer headers fr → IsReadFor buffer fr → new ≡ drop (spans.len + n) buffer → IsWritten text close_after u v result
     → IfBoth start left (λ bytes rest. IsAsked bytes new rest result)
-request_asked None left u v buffer new text headers fr spans n last result is keeps item at read gone wrote = tt
-request_asked (Some bytes) None u v buffer new text headers fr spans n last result is keeps item at read gone wrote = absurd keeps
-request_asked (Some bytes) (Some rest) u v buffer new text headers fr spans n last result is keeps item at read gone wrote =
+request_reads None left u v buffer new text headers fr spans n close_after result is keeps item at read gone wrote = tt
+request_reads (Some bytes) None u v buffer new text headers fr spans n close_after result is keeps item at read gone wrote = absurd keeps
+request_reads (Some bytes) (Some rest) u v buffer new text headers fr spans n close_after result is keeps item at read gone wrote =
     let here = subst (λ (x : Front). IsFrontOf (buffer ++ rest) x) is item in
     let inside = subst (λ (x : Front). IsFrontIn buffer headers x) is at in
     let much = subst (λ (x : Front). IsReadFor buffer x) is read in
-    after_item bytes new rest text last u v result (subst (λ (t : List ℕ). AsksForOne t rest) keeps (request_one buffer rest spans n here inside.2 much))
+    after_item bytes new rest text close_after u v result (subst (λ (t : List ℕ). AsksForOne t rest) keeps (request_one buffer rest spans n here inside.2 much))
     (λ more. omega (arith, much, inside.2, ap length gone, length-drop (spans.len + n) buffer)) wrote
 
--- ---- what was asked for in all turns
+-- ---- reading for all items
 
-module _ {C : Type 0} (hears : State C → Request → Reply → State C → Type 0) where
-  begun : (bytes : List ℕ) (from : State C) (xs : List Exchange) (rest : List ℕ) (now : State C) → Goes hears bytes from xs rest now
-      → Begins bytes (map (λ x. x.item) xs) rest
-  begun bytes from [] rest now so = so.0
-  begun bytes from (x ∷ xs) rest now so = (so.0, so.2.0, begun so.0 so.1 xs rest now so.4)
+module _ {C : Type 0} (step : State C → Request → Reply → State C → Type 0) where
+  items_begin : (bytes : List ℕ) (from : State C) (xs : List Exchange) (rest : List ℕ) (now : State C) → ServesPrefix step bytes from xs rest now
+      → BeginsWith bytes (map (λ x. x.item) xs) rest
+  items_begin bytes from [] rest now so = so.0
+  items_begin bytes from (x ∷ xs) rest now so = (so.0, so.2.0, items_begin so.0 so.1 xs rest now so.4)
 
-  -- behind the last request nothing was left
+  -- nothing remains after the last request
   none_after : (item : Item) (closed : Bool) (bytes mid left : List ℕ) → (is_last item || closed) ≡ false → mid ≡ [] → left ≡ []
       → IsAskedFor bytes item mid left
   none_after (request h body) closed bytes mid left stays none all = ([], none ∙ sym all, omega arith)
   none_after (faulty f) closed bytes mid left stays none all = absurd (false≢true (sym stays))
 
   last_asked : (bytes left : List ℕ) (from : State C) (x : Exchange) (xs : List Exchange) (rest : List ℕ) (now : State C)
-      → Goes hears bytes from (x ∷ xs) rest now → rest ≡ [] → left ≡ []
-      → (items : List Item) × (last : List ℕ) × Begins bytes items last × (length items ≡ length xs) × AsksForOne last left
+      → ServesPrefix step bytes from (x ∷ xs) rest now → rest ≡ [] → left ≡ []
+      → (items : List Item) × (at_last : List ℕ) × BeginsWith bytes items at_last × (length items ≡ length xs) × AsksForOne at_last left
   last_asked bytes left from x [] rest now so none all =
       ([], bytes, refl, refl, (x.item, so.0, so.2.0, none_after x.item (closes x.reply) bytes so.0 left so.3 (sym so.4.0 ∙ none) all))
   last_asked bytes left from x (y ∷ ys) rest now so none all =
       let more = last_asked so.0 left so.1 y ys rest now so.4 none all in
       (x.item ∷ more.0, more.1, (so.0, so.2.0, more.2), omega (arith, more.3), more.4)
 
-  ended : (bytes left : List ℕ) (from : State C) (xs : List Exchange) (rest : List ℕ) (now : State C) (n : ℕ)
-      → Goes hears bytes from xs rest now → rest ≡ [] → left ≡ [] → length xs ≡ n → AsksFor n bytes left
-  ended bytes left from [] rest now n so none all count = inl (sym count, all)
-  ended bytes left from (x ∷ xs) rest now n so none all count =
+  reads_to_end : (bytes left : List ℕ) (from : State C) (xs : List Exchange) (rest : List ℕ) (now : State C) (n : ℕ)
+      → ServesPrefix step bytes from xs rest now → rest ≡ [] → left ≡ [] → length xs ≡ n → AsksFor n bytes left
+  reads_to_end bytes left from [] rest now n so none all count = inl (sym count, all)
+  reads_to_end bytes left from (x ∷ xs) rest now n so none all count =
       let it = last_asked bytes left from x xs rest now so none all in
       inr (it.0, it.1, it.2, omega (arith, it.3, count), it.4)
 
   module _ (from : State C) (stood : State C → Type 0) where
     -- the input ended
-    pub asked_to_end : (start before left w u : Option (List ℕ)) (old new : List ℕ) (n : ℕ) (t : Turn) → t ≡ turn.End
-        → IfBoth start before (λ bytes rest. (now : State C) × SoFar hears bytes rest from now w u n × stood now)
+    pub asked_to_end : (start before left w u : Option (List ℕ)) (old new : List ℕ) (n : ℕ) (t : Turn) → t ≡ turn.Eof
+        → IfBoth start before (λ bytes rest. (now : State C) × SoFar step bytes rest from now w u n × stood now)
         → IfBoth start before (λ bytes rest. length old ≤ 1024)
         → (length old ≤ 1024 → IfBoth before left (λ rest after. IsAsked rest new after (Ok t)))
         → IfBoth start left (λ bytes after. AsksFor n bytes after)
@@ -182,11 +182,11 @@ module _ {C : Type 0} (hears : State C → Request → Reply → State C → Typ
     asked_to_end (Some bytes) (Some rest) None w u old new n t is so short asked = absurd (asked short)
     asked_to_end (Some bytes) (Some rest) (Some after) w u old new n t is so short asked =
         let one = subst (λ (r : Turn). IsAsked rest new after (Ok r)) is (asked short) in
-        ended bytes after from so.1.0 rest so.0 n so.1.1 one.0 one.1 so.1.3
+        reads_to_end bytes after from so.1.0 rest so.0 n so.1.1 one.0 one.1 so.1.3
 
-    -- the connection ended
-    pub asked_to_last : (start before left w u : Option (List ℕ)) (old new : List ℕ) (n : ℕ) (t : Turn) → t ≡ turn.Last
-        → IfBoth start before (λ bytes rest. (now : State C) × SoFar hears bytes rest from now w u n × stood now)
+    -- the connection closed
+    pub asked_to_last : (start before left w u : Option (List ℕ)) (old new : List ℕ) (n : ℕ) (t : Turn) → t ≡ turn.Close
+        → IfBoth start before (λ bytes rest. (now : State C) × SoFar step bytes rest from now w u n × stood now)
         → IfBoth start before (λ bytes rest. length old ≤ 1024)
         → (length old ≤ 1024 → IfBoth before left (λ rest after. IsAsked rest new after (Ok t)))
         → IfBoth start left (λ bytes after. AsksFor (n + 1) bytes after)
@@ -196,10 +196,10 @@ module _ {C : Type 0} (hears : State C → Request → Reply → State C → Typ
     asked_to_last (Some bytes) (Some rest) (Some after) w u old new n t is so short asked =
         let one = subst (λ (r : Turn). IsAsked rest new after (Ok r)) is (asked short) in
         let items = map (λ (x : Exchange). x.item) so.1.0 in
-        inr (items, rest, begun bytes from so.1.0 rest so.0 so.1.1, omega (arith, so.1.3, length-map so.1.0 (λ (x : Exchange). x.item)), one)
+        inr (items, rest, items_begin bytes from so.1.0 rest so.0 so.1.1, omega (arith, so.1.3, length-map so.1.0 (λ (x : Exchange). x.item)), one)
 
--- little is read ahead where the connection goes on
-pub kept_short : (start before left : Option (List ℕ)) (old new : List ℕ) (t : Turn) → t ≡ turn.More → IfBoth start before (λ bytes rest. length old ≤ 1024)
+-- less than 1024 bytes are read ahead if the connection stays open
+pub kept_short : (start before left : Option (List ℕ)) (old new : List ℕ) (t : Turn) → t ≡ turn.KeepAlive → IfBoth start before (λ bytes rest. length old ≤ 1024)
     → (length old ≤ 1024 → IfBoth before left (λ rest after. IsAsked rest new after (Ok t)))
     → IfBoth start (prepend_known new left) (λ bytes rest. length new ≤ 1024)
 kept_short None before left old new t is short asked = tt
@@ -213,7 +213,7 @@ pub begins_short : (known : Option (List ℕ)) (buffer : List ℕ) → buffer �
 begins_short None buffer none = tt
 begins_short (Some bytes) buffer none = omega (arith, ap length none)
 
--- ---- where serving broke off, nothing is said of it
+-- ---- if serving failed, nothing is required of reading
 
 abbrev pub Asks : Result Served DeskFault → List ℕ → List ℕ → Type 0
 Asks result bytes left = IfOk result (λ served. AsksFor served.replies bytes left)
@@ -228,38 +228,38 @@ broken_off None left buffer could can e so = tt
 broken_off (Some bytes) None buffer could can e so = absurd so
 broken_off (Some bytes) (Some rest) buffer could can e so = tt
 
--- ---- a turn after which the connection stays open leaves less to read
+-- ---- an item after which the connection stays open leaves less to read
 
--- a request that was answered is gone from the buffer
+-- an answered request is removed from the buffer
 pub request_gone : (buffer new : List ℕ) (headers : List HeaderSpan) (fr : Front) (spans : RequestSpans) (n could can : ℕ) → fr ≡ front.Request spans n
     → IsFrontIn buffer headers fr → new ≡ drop (spans.len + n) buffer → length buffer + can ≤ could → length new + can < could
 request_gone buffer new headers fr spans n could can is shown dropped bound =
     let here = subst (λ (x : Front). IsFrontIn buffer headers x) is shown in
     omega (arith, bound, ap length dropped, length-drop (spans.len + n) buffer, request_takes buffer headers spans n here, here.2)
 
-pub if_more : (P : Type 0) (result : Result Turn DeskFault) → P → IfOk result (λ t. t ≡ turn.More → P)
+pub if_more : (P : Type 0) (result : Result Turn DeskFault) → P → IfOk result (λ t. t ≡ turn.KeepAlive → P)
 if_more P (Ok t) p = λ is. p
 if_more P (Err e) p = tt
 
-last_is_not_more : (P : Type 0) → turn.Last ≡ turn.More → P
+last_is_not_more : (P : Type 0) → turn.Close ≡ turn.KeepAlive → P
 last_is_not_more P e = cc
 
 -- no connection stays open after its last reply
-pub none_more : (P : Type 0) (result : Result Turn DeskFault) (text : List ℕ) (last : Bool) (u v : Option (List ℕ)) → last ≡ true → IsWritten text last u v result
-    → IfOk result (λ t. t ≡ turn.More → P)
+pub none_more : (P : Type 0) (result : Result Turn DeskFault) (text : List ℕ) (close_after : Bool) (u v : Option (List ℕ)) → close_after ≡ true → IsWritten text close_after u v result
+    → IfOk result (λ t. t ≡ turn.KeepAlive → P)
 none_more P (Ok t) text true u v ends wrote = λ is. last_is_not_more P (sym wrote.0 ∙ is)
 none_more P (Ok t) text false u v ends wrote = absurd (false≢true ends)
-none_more P (Err e) text last u v ends wrote = tt
+none_more P (Err e) text close_after u v ends wrote = tt
 
--- a reply that could not be written is not a failed read
-pub none_unread : (P : Type 0) (result : Result Turn DeskFault) (text : List ℕ) (last : Bool) (u v : Option (List ℕ)) → IsWritten text last u v result
+-- a failed write is not a failed read
+pub none_unread : (P : Type 0) (result : Result Turn DeskFault) (text : List ℕ) (close_after : Bool) (u v : Option (List ℕ)) → IsWritten text close_after u v result
     → IfErr result (λ e. e ≡ desk.Read → P)
-none_unread P (Ok t) text last u v wrote = tt
-none_unread P (Err desk.Write) text last u v wrote = λ is. cc
-none_unread P (Err desk.Read) text last u v wrote = absurd wrote
-none_unread P (Err desk.NoMemory) text last u v wrote = absurd wrote
+none_unread P (Ok t) text close_after u v wrote = tt
+none_unread P (Err desk.Write) text close_after u v wrote = λ is. cc
+none_unread P (Err desk.Read) text close_after u v wrote = absurd wrote
+none_unread P (Err desk.NoMemory) text close_after u v wrote = absurd wrote
 
--- the reader was called, or may be called no more
+-- the reader was called, or its budget was spent
 pub called : (P : Type 0) (first before after : ℕ) → before ≤ first → ((after ≡ 0) ⊎ ((after < before) × P)) → (after ≡ 0) ⊎ (after < first)
 called P first before after bound how = elim how as (λ _. (after ≡ 0) ⊎ (after < first)) [
   | inl spent ↦ inl spent

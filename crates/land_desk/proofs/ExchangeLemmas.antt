@@ -1,10 +1,10 @@
--- What was prepared and finished, or failed, brings a keeper from one state of the machine to another.
+-- Preparing and finishing a request, or failing to, is a transition of the model.
 use Rattle.std.proofs.Common.{◌≡◌, Bool, false, refl, sym, ap, ◌∙◌, subst, inl, inr, Option, Some, None, Result, Err}
 use Rattle.std.specs.Prelude.{ℤ, ◌⊎◌, MatchOption}
 use Rattle.std.proofs.lemmas.Bool.{false≢true}
 use Rattle.land_core.specs.declared.ask.Request.{Request}
 use Rattle.land_desk.specs.Responses.{HasMoment}
-use Rattle.land_desk.specs.Serving.{Brings, HearsIf, Told}
+use Rattle.land_desk.specs.Serving.{ForwardSimulation, HearsIf, HandlesOr501}
 use Rattle.land_keep.proofs.Steps.{finished_element}
 use Rattle.land_keep.specs.Keeping.{IsAt, IsPrepared, ShowsAsked, TellsOf, after_writing}
 use Rattle.land_keep.specs.Machine.{Element, State, at_of}
@@ -20,10 +20,10 @@ use Rattle.land_wire_json.specs.declared.bodies.wire_fault.WireFault.{WireFault}
 
 module _ {C : Type 0} (reads : C → ℤ → C → Type 0) (was_honest honest : Type 0) (before closed : Bool) (shown after : Timeline)
     (clock clock_after : C) (reading : ℤ) (q : Request) (rd : reads clock reading clock_after) where
-  -- a reply to which nothing changes
+  -- a reply with which nothing changes
   pub stays : (r : Reply) → ((tl : Timeline) → Element before reading q tl r tl closed) → TellsOf before r closed
       → (honest → was_honest) → (closed ≡ false → before ≡ false) → (honest → closed ≡ false → after ≡ shown)
-      → Brings (IsAt was_honest before shown clock) (IsAt honest closed after clock_after) (λ from to. HearsIf honest reads from q r to)
+      → ForwardSimulation (IsAt was_honest before shown clock) (IsAt honest closed after clock_after) (λ from to. HearsIf honest reads from q r to)
   stays r element tells was was_open same from at =
       let to : State C = record { closed = closed; timeline = from.timeline; clock = clock_after } in (
         to,
@@ -36,14 +36,14 @@ module _ {C : Type 0} (reads : C → ℤ → C → Type 0) (was_honest honest : 
         (refl, refl, λ live. same live.0 live.1 ∙ at.2 (was live.0, was_open live.1)),
       )
 
-  -- a keeper that was open and is tells nothing of its store
+  -- the reply of a keeper that stays open reports no closed store
   tells_open : (r : Reply) → before ≡ false → closed ≡ false → TellsOf before r closed
   tells_open r was is = subst (λ (b : Bool). TellsOf b r closed) (sym was) (λ shut. absurd (false≢true (sym is ∙ shut)))
 
-  -- a step of the machine
+  -- a transition of the model
   pub steps : (p : Prepared) → before ≡ false → closed ≡ false → (honest → was_honest)
       → (honest → IsPrepared p reading q shown) → (honest → after ≡ after_writing p.writing shown)
-      → Brings (IsAt was_honest before shown clock) (IsAt honest closed after clock_after) (λ from to. HearsIf honest reads from q p.reply to)
+      → ForwardSimulation (IsAt was_honest before shown clock) (IsAt honest closed after clock_after) (λ from to. HearsIf honest reads from q p.reply to)
   steps p was_open is_open was prepared written from at =
       let to : State C = record { closed = closed; timeline = after_writing p.writing from.timeline; clock = clock_after } in
       let same : honest → shown ≡ from.timeline = λ trust. at.2 (was trust, was_open) in (
@@ -58,20 +58,20 @@ module _ {C : Type 0} (reads : C → ℤ → C → Type 0) (was_honest honest : 
         (refl, refl, λ live. written live.0 ∙ ap (after_writing p.writing) (same live.0)),
       )
 
--- a request that could not be read is told its fault, or 501, and nothing changes
-pub fault_is_told : {C : Type 0} (hears : State C → Request → Reply → State C → Type 0) (q : Result Request WireFault) (fault : WireFault) (wanted r : Reply) (from : State C)
-    → q ≡ Err fault → wanted ≡ reply.Fault (fault_number fault) → (r ≡ wanted) ⊎ (r ≡ reply.Store 501) → Told hears q from r from
-fault_is_told hears q fault wanted r from is said (inl e) = subst (λ (x : Result Request WireFault). Told hears x from r from) (sym is) (inr (e ∙ said, refl))
-fault_is_told hears q fault wanted r from is said (inr e) = inl (e, refl)
+-- the reply to a request that could not be parsed is its fault, or 501, and nothing changes
+pub fault_reply : {C : Type 0} (step : State C → Request → Reply → State C → Type 0) (q : Result Request WireFault) (fault : WireFault) (wanted r : Reply) (from : State C)
+    → q ≡ Err fault → wanted ≡ reply.Fault (fault_number fault) → (r ≡ wanted) ⊎ (r ≡ reply.Store 501) → HandlesOr501 step q from r from
+fault_reply step q fault wanted r from is sent (inl e) = subst (λ (x : Result Request WireFault). HandlesOr501 step x from r from) (sym is) (inr (e ∙ sent, refl))
+fault_reply step q fault wanted r from is sent (inr e) = inl (e, refl)
 
--- ---- a title sheet shows a moment that there is
+-- ---- a title sheet is of a valid moment
 
--- a moment that is stated is one
+-- an explicit moment is valid
 pub asked_has_moment : (at : Option ℤ) (view : View) → IsStated at → MatchOption at (IsMoment view.at) (λ named. view.at ≡ named) → IsMoment view.at
 asked_has_moment None view stated is = is
 asked_has_moment (Some t) view stated is = subst IsMoment (sym is) stated
 
--- so is what is shown of the asked moment
+-- so is the moment of the reply
 pub shown_has_moment : (request : Request) (r : Reply) → IsStated (at_of request.ask) → ShowsAsked request.ask r → HasMoment r
 shown_has_moment request (reply.Object it) stated shows = tt
 shown_has_moment request (reply.Numbers it) stated shows = tt

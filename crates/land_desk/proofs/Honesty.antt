@@ -1,9 +1,9 @@
--- Serving over a store that stays honest, and what of it goes on holding where the store may have lied since.
+-- Serving on a store that stays honest, and the part of it that holds even if the store was dishonest later.
 use Rattle.std.proofs.Common.{◌≡◌, ℕ, ℤ, ◌+◌, List, [], ◌∷◌, inl, inr, Result, Ok, Err, Option, Some, None, IfSome}
 use Rattle.std.specs.Io.KnownBytes.{prepend_known}
 use Rattle.land_core.specs.declared.ask.Request.{Request}
 use Rattle.land_desk.proofs.ServingLemmas.{begins, goes_on, nothing_done}
-use Rattle.land_desk.specs.Serving.{Answers, Brings, Exchange, Goes, Hears, HearsIf, IsServed, IsServing, One, Serves, ServesTo, SoFar, Told}
+use Rattle.land_desk.specs.Serving.{RepliesTo, ForwardSimulation, Exchange, ServesPrefix, Hears, HearsIf, IsServed, IsServing, ServesItem, Serves, ServesTo, SoFar, HandlesOr501}
 use Rattle.land_desk.specs.Serving.Asking.{IfBoth}
 use Rattle.land_desk.specs.Turns.{IsTurn}
 use Rattle.land_desk.specs.declared.serve.DeskFault.{DeskFault}
@@ -19,55 +19,55 @@ use Rattle.land_wire.specs.Framing.Items.{Item, request, faulty}
 use Rattle.land_wire.specs.Reading.{reading}
 use Rattle.land_wire_json.specs.declared.bodies.wire_fault.WireFault.{WireFault}
 
--- what held while the store was honest holds while it is honest from then on
-pub heard_later : {C : Type 0} (reads : C → ℤ → C → Type 0) (honest later : Type 0) → (later → honest)
+-- a condition that assumes an honest store holds if the store is honest later
+pub step_later : {C : Type 0} (reads : C → ℤ → C → Type 0) (honest later : Type 0) → (later → honest)
     → (from : State C) (asked : Request) (r : Reply) (to : State C) → HearsIf honest reads from asked r to → HearsIf later reads from asked r to
-heard_later reads honest later was from asked r to h = (h.0, h.1, h.2, λ trust. h.3 (was trust))
+step_later reads honest later was from asked r to h = (h.0, h.1, h.2, λ trust. h.3 (was trust))
 
--- what is heard of an honest store is an element of a run
-heard_honestly : {C : Type 0} (reads : C → ℤ → C → Type 0) (honest : Type 0) → honest
+-- a transition on an honest store is an element of a run
+step_honestly : {C : Type 0} (reads : C → ℤ → C → Type 0) (honest : Type 0) → honest
     → (from : State C) (asked : Request) (r : Reply) (to : State C) → HearsIf honest reads from asked r to → Hears reads from asked r to
-heard_honestly reads honest trust from asked r to h = (h.0, h.1, h.3 trust)
+step_honestly reads honest trust from asked r to h = (h.0, h.1, h.3 trust)
 
--- ---- what less is heard of
+-- ---- weaker transitions
 
-module _ {C : Type 0} (hears later : State C → Request → Reply → State C → Type 0)
-    (weaken : (from : State C) (asked : Request) (r : Reply) (to : State C) → hears from asked r to → later from asked r to) where
-  told_later : (q : Result Request WireFault) (from : State C) (r : Reply) (to : State C) → Told hears q from r to → Told later q from r to
+module _ {C : Type 0} (step later : State C → Request → Reply → State C → Type 0)
+    (weaken : (from : State C) (asked : Request) (r : Reply) (to : State C) → step from asked r to → later from asked r to) where
+  told_later : (q : Result Request WireFault) (from : State C) (r : Reply) (to : State C) → HandlesOr501 step q from r to → HandlesOr501 later q from r to
   told_later (Err fault) from r to (inl none) = inl none
   told_later (Err fault) from r to (inr heard) = inr heard
   told_later (Ok asked) from r to (inl none) = inl none
   told_later (Ok asked) from r to (inr heard) = inr (weaken from asked r to heard)
 
-  answers_later : (from : State C) (item : Item) (r : Reply) (to : State C) → Answers hears from item r to → Answers later from item r to
+  answers_later : (from : State C) (item : Item) (r : Reply) (to : State C) → RepliesTo step from item r to → RepliesTo later from item r to
   answers_later from (request h body) r to is = told_later (reading h.method h.target (field_map (fields_of h)) body) from r to is
   answers_later from (faulty f) r to is = is
 
-  one_later : (bytes : List ℕ) (from : State C) (x : Exchange) (rest : List ℕ) (to : State C) → One hears bytes from x rest to → One later bytes from x rest to
+  one_later : (bytes : List ℕ) (from : State C) (x : Exchange) (rest : List ℕ) (to : State C) → ServesItem step bytes from x rest to → ServesItem later bytes from x rest to
   one_later bytes from x rest to one = (one.0, answers_later from x.item x.reply to one.1, one.2)
 
-  goes_later : (bytes : List ℕ) (from : State C) (xs : List Exchange) (rest : List ℕ) (to : State C) → Goes hears bytes from xs rest to → Goes later bytes from xs rest to
+  goes_later : (bytes : List ℕ) (from : State C) (xs : List Exchange) (rest : List ℕ) (to : State C) → ServesPrefix step bytes from xs rest to → ServesPrefix later bytes from xs rest to
   goes_later bytes from [] rest to so = so
   goes_later bytes from (x ∷ xs) rest to so =
       (so.0, so.1, one_later bytes from x so.0 so.1 so.2, so.3, goes_later so.0 so.1 xs rest to so.4)
 
-  so_far_later : (bytes rest : List ℕ) (from to : State C) (old new : Option (List ℕ)) (n : ℕ) → SoFar hears bytes rest from to old new n → SoFar later bytes rest from to old new n
+  so_far_later : (bytes rest : List ℕ) (from to : State C) (old new : Option (List ℕ)) (n : ℕ) → SoFar step bytes rest from to old new n → SoFar later bytes rest from to old new n
   so_far_later bytes rest from to old new n so = (so.0, goes_later bytes from so.0 rest to so.1, so.2, so.3)
 
-  served_later : (bytes : List ℕ) (from : State C) (xs : List Exchange) (to : State C) → IsServed hears bytes from xs to → IsServed later bytes from xs to
+  served_later : (bytes : List ℕ) (from : State C) (xs : List Exchange) (to : State C) → IsServed step bytes from xs to → IsServed later bytes from xs to
   served_later bytes from [] to s = s
   served_later bytes from (x ∷ xs) to s =
       (s.0, s.1, one_later bytes from x s.0 s.1 s.2, s.3, λ e. served_later s.0 s.1 xs to (s.4 e))
 
   serves_later : (bytes : List ℕ) (from to : State C) (old new : Option (List ℕ)) (result : Result Served DeskFault)
-      → Serves hears bytes from to old new result → Serves later bytes from to old new result
+      → Serves step bytes from to old new result → Serves later bytes from to old new result
   serves_later bytes from to old new (Ok served) s = (s.0, served_later bytes from s.0 to s.1, s.2, s.3)
   serves_later bytes from to old new (Err desk.Write) s =
       (s.0, s.1, s.2, s.3, s.4, s.5, goes_later bytes from s.0 s.2 s.4 s.6, one_later s.2 s.4 s.1 s.3 to s.7, s.8)
   serves_later bytes from to old new (Err desk.Read) s = (s.0, s.1, so_far_later bytes s.0 from to old new s.1 s.2)
   serves_later bytes from to old new (Err desk.NoMemory) s = (s.0, s.1, so_far_later bytes s.0 from to old new s.1 s.2)
 
-  -- ---- serving from where a keeper stood to where it stands
+  -- ---- serving from a state represented before to one represented after
 
   module _ (stood stands : State C → Type 0) (from : State C) where
     both_map : (start after : Option (List ℕ)) (P Q : List ℕ → List ℕ → Type 0) → ((bytes rest : List ℕ) → P bytes rest → Q bytes rest) → IfBoth start after P → IfBoth start after Q
@@ -75,10 +75,10 @@ module _ {C : Type 0} (hears later : State C → Request → Reply → State C �
     both_map (Some bytes) None P Q next holds = absurd holds
     both_map (Some bytes) (Some rest) P Q next holds = next bytes rest holds
 
-    -- the connection goes on
-    pub keeps_on : (start before after w u v : Option (List ℕ)) (n : ℕ) (t : Turn) → t ≡ turn.More
-        → IfBoth start before (λ bytes rest. (now : State C) × SoFar hears bytes rest from now w u n × stood now)
-        → IfSome before (λ rest. Brings stood stands (λ now to. IsTurn later rest now to after u v (Ok t)))
+    -- the connection stays open
+    pub keeps_on : (start before after w u v : Option (List ℕ)) (n : ℕ) (t : Turn) → t ≡ turn.KeepAlive
+        → IfBoth start before (λ bytes rest. (now : State C) × SoFar step bytes rest from now w u n × stood now)
+        → IfSome before (λ rest. ForwardSimulation stood stands (λ now to. IsTurn later rest now to after u v (Ok t)))
         → IfBoth start after (λ bytes rest. (to : State C) × SoFar later bytes rest from to w v (n + 1) × stands to)
     keeps_on None before after w u v n t is so brings = tt
     keeps_on (Some bytes) None after w u v n t is so brings = absurd so
@@ -88,12 +88,12 @@ module _ {C : Type 0} (hears later : State C → Request → Reply → State C �
         (λ bytes rest goes. (next.0, goes, next.2))
         (goes_on later (Some bytes) (Some rest) after from so.0 next.0 w u v n t is (so_far_later bytes rest from so.0 w u n so.1) next.1)
 
-    -- a turn after which nothing is served
+    -- an item after which nothing is served
     pub comes_to : (start before w u v : Option (List ℕ)) (n : ℕ) (result : Result Served DeskFault) (way : List ℕ → State C → State C → Type 0)
         → ((now to : State C) → IfBoth start before (λ bytes rest. SoFar later bytes rest from now w u n) → IfSome before (λ rest. way rest now to)
         → IfSome start (λ bytes. Serves later bytes from to w v result))
-        → IfBoth start before (λ bytes rest. (now : State C) × SoFar hears bytes rest from now w u n × stood now)
-        → IfSome before (λ rest. Brings stood stands (way rest))
+        → IfBoth start before (λ bytes rest. (now : State C) × SoFar step bytes rest from now w u n × stood now)
+        → IfSome before (λ rest. ForwardSimulation stood stands (way rest))
         → IfSome start (λ bytes. ServesTo later bytes from stands w v result)
     comes_to None before w u v n result way concludes so brings = tt
     comes_to (Some bytes) None w u v n result way concludes so brings = absurd so
@@ -101,21 +101,21 @@ module _ {C : Type 0} (hears later : State C → Request → Reply → State C �
         let next = brings so.0 so.2 in
         (next.0, concludes so.0 next.0 (so_far_later bytes rest from so.0 w u n so.1) next.1, next.2)
 
--- ---- serving that has not begun, and that goes on no more
+-- ---- serving that has not started, and serving that ended
 
-module _ {C : Type 0} (hears : State C → Request → Reply → State C → Type 0) (stands : State C → Type 0) (from : State C) where
-  pub comes_to_nothing : (known w : Option (List ℕ)) → stands from → IfSome known (λ bytes. ServesTo hears bytes from stands w w (Err desk.NoMemory))
+module _ {C : Type 0} (step : State C → Request → Reply → State C → Type 0) (stands : State C → Type 0) (from : State C) where
+  pub comes_to_nothing : (known w : Option (List ℕ)) → stands from → IfSome known (λ bytes. ServesTo step bytes from stands w w (Err desk.NoMemory))
   comes_to_nothing None w at = tt
-  comes_to_nothing (Some bytes) w at = (from, nothing_done hears (Some bytes) w from, at)
+  comes_to_nothing (Some bytes) w at = (from, nothing_done step (Some bytes) w from, at)
 
   pub starts : (known : Option (List ℕ)) (buffer : List ℕ) (w : Option (List ℕ)) → stands from → buffer ≡ []
-      → IfBoth known (prepend_known buffer known) (λ bytes rest. (now : State C) × SoFar hears bytes rest from now w w 0 × stands now)
+      → IfBoth known (prepend_known buffer known) (λ bytes rest. (now : State C) × SoFar step bytes rest from now w w 0 × stands now)
   starts None buffer w at none = tt
-  starts (Some bytes) buffer w at none = (from, begins hears (Some bytes) buffer from w none, at)
+  starts (Some bytes) buffer w at none = (from, begins step (Some bytes) buffer from w none, at)
 
--- over an honest store what is served is served by a run of the machine
+-- on an honest store, serving is a run of the model
 pub serves_honestly : {C : Type 0} (reads : C → ℤ → C → Type 0) (honest : Type 0) → honest
     → (bytes : List ℕ) (from to : State C) (old new : Option (List ℕ)) (result : Result Served DeskFault)
     → Serves (HearsIf honest reads) bytes from to old new result → IsServing reads bytes from to old new result
 serves_honestly reads honest trust bytes from to old new result s =
-    serves_later (HearsIf honest reads) (Hears reads) (heard_honestly reads honest trust) bytes from to old new result s
+    serves_later (HearsIf honest reads) (Hears reads) (step_honestly reads honest trust) bytes from to old new result s

@@ -1,4 +1,4 @@
--- Lemmas of streams and of serving them.
+-- Lemmas about streams and serving.
 pub mod Asking
 pub mod ExchangeLemmas
 pub mod Honesty

@@ -1,4 +1,4 @@
--- A reply has one response.
+-- A reply has exactly one response.
 use Rattle.std.proofs.Common.{◌≡◌, List, ℕ, Some, None, sym, ◌∙◌, ap, subst, inl, inr}
 use Rattle.land_desk.specs.Responses.{IsBody, OneResponse, medium_of, response, status_of}
 use Rattle.land_keep.specs.declared.reply.Reply.{Reply}

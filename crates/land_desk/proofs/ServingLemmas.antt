@@ -1,11 +1,11 @@
--- Items answered one after another.
+-- Items answered in order.
 use Rattle.std.proofs.Common.{◌≡◌, ℕ, ◌+◌, Bool, true, false, List, [], ◌∷◌, ◌++◌, length, map, take, refl, sym, ap, ◌∙◌, subst, arith, append_assoc, append-nil, length-append, inl, inr, Ok, Err, Option, Some, None, IfSome}
 use Rattle.std.specs.Prelude.{◌⊎◌, ◌||◌}
 use Rattle.std.specs.Io.KnownBytes.{Appends, prepend_known}
 use Rattle.std.proofs.KnownBytes.{Appends-trans, Appends-nil}
 use Rattle.std.proofs.lemmas.Bool.{false≢true}
 use Rattle.land_core.specs.declared.ask.Request.{Request}
-use Rattle.land_desk.specs.Serving.{Exchange, One, Goes, IsServed, Serves, ServedItems, SoFar, closes, closing, said_all}
+use Rattle.land_desk.specs.Serving.{Exchange, ServesItem, ServesPrefix, IsServed, Serves, ServedItems, SoFar, closes, closing, said_all}
 use Rattle.land_desk.specs.Serving.Asking.{IfBoth}
 use Rattle.land_desk.specs.Turns.{IsTurn}
 use Rattle.land_desk.specs.declared.serve.DeskFault.{DeskFault}
@@ -17,108 +17,108 @@ use Rattle.land_keep.specs.declared.reply.Reply.{Reply}
 use Rattle.land_wire.proofs.ItemLemmas.{head_some, item_unique}
 use Rattle.land_wire.specs.Framing.Items.{Item, request, faulty, AreItems, IsItem, is_last}
 
-module _ {C : Type 0} (hears : State C → Request → Reply → State C → Type 0) where
+module _ {C : Type 0} (step : State C → Request → Reply → State C → Type 0) where
   goes_more : (bytes rest mid : List ℕ) (from now to : State C) (xs : List Exchange) (x : Exchange)
-      → Goes hears bytes from xs rest now → One hears rest now x mid to → closing x ≡ false
-      → Goes hears bytes from (xs ++ x ∷ []) mid to
+      → ServesPrefix step bytes from xs rest now → ServesItem step rest now x mid to → closing x ≡ false
+      → ServesPrefix step bytes from (xs ++ x ∷ []) mid to
   goes_more bytes rest mid from now to [] x so one stays =
-      let here = subst (λ (t : List ℕ). One hears t from x mid to) so.0 (subst (λ (s : State C). One hears rest s x mid to) so.1 one) in
+      let here = subst (λ (t : List ℕ). ServesItem step t from x mid to) so.0 (subst (λ (s : State C). ServesItem step rest s x mid to) so.1 one) in
       (mid, to, here, stays, (refl, refl))
   goes_more bytes rest mid from now to (y ∷ xs) x so one stays =
       (so.0, so.1, so.2, so.3, goes_more so.0 rest mid so.1 now to xs x so.4 one stays)
 
   -- the input ends
   goes_to_end : (bytes rest : List ℕ) (from now : State C) (xs : List Exchange)
-      → Goes hears bytes from xs rest now → rest ≡ [] → IsServed hears bytes from xs now
+      → ServesPrefix step bytes from xs rest now → rest ≡ [] → IsServed step bytes from xs now
   goes_to_end bytes rest from now [] so none = (sym so.0 ∙ none, so.1)
   goes_to_end bytes rest from now (x ∷ xs) so none =
       (so.0, so.1, so.2, (λ e. absurd (false≢true (sym so.3 ∙ e))), (λ e. goes_to_end so.0 rest so.1 now xs so.4 none))
 
-  -- the connection ends
+  -- the connection closes
   goes_to_last : (bytes rest mid : List ℕ) (from now to : State C) (xs : List Exchange) (x : Exchange)
-      → Goes hears bytes from xs rest now → One hears rest now x mid to → closing x ≡ true
-      → IsServed hears bytes from (xs ++ x ∷ []) to
-  goes_to_last bytes rest mid from now to [] x so one last =
-      let here = subst (λ (t : List ℕ). One hears t from x mid to) so.0 (subst (λ (s : State C). One hears rest s x mid to) so.1 one) in
-      (mid, to, here, (λ e. (refl, refl)), (λ e. absurd (false≢true (sym e ∙ last))))
-  goes_to_last bytes rest mid from now to (y ∷ xs) x so one last =
-      (so.0, so.1, so.2, (λ e. absurd (false≢true (sym so.3 ∙ e))), (λ e. goes_to_last so.0 rest mid so.1 now to xs x so.4 one last))
+      → ServesPrefix step bytes from xs rest now → ServesItem step rest now x mid to → closing x ≡ true
+      → IsServed step bytes from (xs ++ x ∷ []) to
+  goes_to_last bytes rest mid from now to [] x so one close_after =
+      let here = subst (λ (t : List ℕ). ServesItem step t from x mid to) so.0 (subst (λ (s : State C). ServesItem step rest s x mid to) so.1 one) in
+      (mid, to, here, (λ e. (refl, refl)), (λ e. absurd (false≢true (sym e ∙ close_after))))
+  goes_to_last bytes rest mid from now to (y ∷ xs) x so one close_after =
+      (so.0, so.1, so.2, (λ e. absurd (false≢true (sym so.3 ∙ e))), (λ e. goes_to_last so.0 rest mid so.1 now to xs x so.4 one close_after))
 
-  said_more : (xs : List Exchange) (x : Exchange) → said_all xs ++ x.said ≡ said_all (xs ++ x ∷ [])
-  said_more [] x = sym (append-nil x.said)
-  said_more (y ∷ xs) x = append_assoc y.said (said_all xs) x.said ∙ ap (λ (t : List ℕ). y.said ++ t) (said_more xs x)
+  said_more : (xs : List Exchange) (x : Exchange) → said_all xs ++ x.sent ≡ said_all (xs ++ x ∷ [])
+  said_more [] x = sym (append-nil x.sent)
+  said_more (y ∷ xs) x = append_assoc y.sent (said_all xs) x.sent ∙ ap (λ (t : List ℕ). y.sent ++ t) (said_more xs x)
 
   count_more : (xs : List Exchange) (x : Exchange) (n : ℕ) → length xs ≡ n → length (xs ++ x ∷ []) ≡ n + 1
   count_more xs x n e = omega (arith, length-append xs (x ∷ []), e)
 
   pub begins : (known : Option (List ℕ)) (buffer : List ℕ) (from : State C) (w : Option (List ℕ)) → buffer ≡ []
-      → IfBoth known (prepend_known buffer known) (λ bytes rest. SoFar hears bytes rest from from w w 0)
+      → IfBoth known (prepend_known buffer known) (λ bytes rest. SoFar step bytes rest from from w w 0)
   begins None buffer from w none = tt
   begins (Some bytes) buffer from w none = ([], (ap (λ (t : List ℕ). t ++ bytes) none, refl), Appends-nil w, refl)
 
   pub nothing_done : (known w : Option (List ℕ)) (from : State C)
-      → IfSome known (λ bytes. Serves hears bytes from from w w (Err desk.NoMemory))
+      → IfSome known (λ bytes. Serves step bytes from from w w (Err desk.NoMemory))
   nothing_done None w from = tt
   nothing_done (Some bytes) w from = (bytes, 0, ([], (refl, refl), Appends-nil w, refl))
 
-  pub goes_on : (start before after : Option (List ℕ)) (from now to : State C) (w u v : Option (List ℕ)) (n : ℕ) (t : Turn) → t ≡ turn.More
-      → IfBoth start before (λ bytes rest. SoFar hears bytes rest from now w u n)
-      → IfSome before (λ rest. IsTurn hears rest now to after u v (Ok t))
-      → IfBoth start after (λ bytes rest. SoFar hears bytes rest from to w v (n + 1))
+  pub goes_on : (start before after : Option (List ℕ)) (from now to : State C) (w u v : Option (List ℕ)) (n : ℕ) (t : Turn) → t ≡ turn.KeepAlive
+      → IfBoth start before (λ bytes rest. SoFar step bytes rest from now w u n)
+      → IfSome before (λ rest. IsTurn step rest now to after u v (Ok t))
+      → IfBoth start after (λ bytes rest. SoFar step bytes rest from to w v (n + 1))
   goes_on None before after from now to w u v n t is so given = tt
   goes_on (Some bytes) None after from now to w u v n t is so given = absurd so
   goes_on (Some bytes) (Some rest) after from now to w u v n t is so given =
-      let one = subst (λ (r : Turn). IsTurn hears rest now to after u v (Ok r)) is given in
+      let one = subst (λ (r : Turn). IsTurn step rest now to after u v (Ok r)) is given in
       let xs = so.0 in
       let x = one.0 in
-      subst (λ (o : Option (List ℕ)). IfBoth (Some bytes) o (λ bytes rest. SoFar hears bytes rest from to w v (n + 1))) (sym one.5) (
+      subst (λ (o : Option (List ℕ)). IfBoth (Some bytes) o (λ bytes rest. SoFar step bytes rest from to w v (n + 1))) (sym one.5) (
         xs ++ x ∷ [],
         goes_more bytes rest one.1 from now to xs x so.1 one.2 one.3,
-        subst (λ (t : List ℕ). Appends w v t) (said_more xs x) (Appends-trans w u v (said_all xs) x.said so.2 one.4),
+        subst (λ (t : List ℕ). Appends w v t) (said_more xs x) (Appends-trans w u v (said_all xs) x.sent so.2 one.4),
         count_more xs x n so.3,
       )
 
-  pub serves_end : (start before after : Option (List ℕ)) (from now to : State C) (w u v : Option (List ℕ)) (n : ℕ) (t : Turn) → t ≡ turn.End
-      → IfBoth start before (λ bytes rest. SoFar hears bytes rest from now w u n)
-      → IfSome before (λ rest. IsTurn hears rest now to after u v (Ok t))
-      → IfSome start (λ bytes. Serves hears bytes from to w v (Ok (record { replies = n })))
+  pub serves_end : (start before after : Option (List ℕ)) (from now to : State C) (w u v : Option (List ℕ)) (n : ℕ) (t : Turn) → t ≡ turn.Eof
+      → IfBoth start before (λ bytes rest. SoFar step bytes rest from now w u n)
+      → IfSome before (λ rest. IsTurn step rest now to after u v (Ok t))
+      → IfSome start (λ bytes. Serves step bytes from to w v (Ok (record { replies = n })))
   serves_end None before after from now to w u v n t is so given = tt
   serves_end (Some bytes) None after from now to w u v n t is so given = absurd so
   serves_end (Some bytes) (Some rest) after from now to w u v n t is so given =
-      let one = subst (λ (r : Turn). IsTurn hears rest now to after u v (Ok r)) is given in (
+      let one = subst (λ (r : Turn). IsTurn step rest now to after u v (Ok r)) is given in (
         so.0,
-        subst (λ (s : State C). IsServed hears bytes from so.0 s) (sym one.1) (goes_to_end bytes rest from now so.0 so.1 one.0),
+        subst (λ (s : State C). IsServed step bytes from so.0 s) (sym one.1) (goes_to_end bytes rest from now so.0 so.1 one.0),
         subst (λ (t : List ℕ). Appends w v t) (append-nil (said_all so.0)) (Appends-trans w u v (said_all so.0) [] so.2 one.2),
         sym so.3,
       )
 
-  pub serves_last : (start before after : Option (List ℕ)) (from now to : State C) (w u v : Option (List ℕ)) (n : ℕ) (t : Turn) → t ≡ turn.Last
-      → IfBoth start before (λ bytes rest. SoFar hears bytes rest from now w u n)
-      → IfSome before (λ rest. IsTurn hears rest now to after u v (Ok t))
-      → IfSome start (λ bytes. Serves hears bytes from to w v (Ok (record { replies = n + 1 })))
+  pub serves_last : (start before after : Option (List ℕ)) (from now to : State C) (w u v : Option (List ℕ)) (n : ℕ) (t : Turn) → t ≡ turn.Close
+      → IfBoth start before (λ bytes rest. SoFar step bytes rest from now w u n)
+      → IfSome before (λ rest. IsTurn step rest now to after u v (Ok t))
+      → IfSome start (λ bytes. Serves step bytes from to w v (Ok (record { replies = n + 1 })))
   serves_last None before after from now to w u v n t is so given = tt
   serves_last (Some bytes) None after from now to w u v n t is so given = absurd so
   serves_last (Some bytes) (Some rest) after from now to w u v n t is so given =
-      let one = subst (λ (r : Turn). IsTurn hears rest now to after u v (Ok r)) is given in (
+      let one = subst (λ (r : Turn). IsTurn step rest now to after u v (Ok r)) is given in (
         so.0 ++ one.0 ∷ [],
         goes_to_last bytes rest one.1 from now to so.0 one.0 so.1 one.2 one.3,
-        subst (λ (t : List ℕ). Appends w v t) (said_more so.0 one.0) (Appends-trans w u v (said_all so.0) one.0.said so.2 one.4),
+        subst (λ (t : List ℕ). Appends w v t) (said_more so.0 one.0) (Appends-trans w u v (said_all so.0) one.0.sent so.2 one.4),
         sym (count_more so.0 one.0 n so.3),
       )
 
   same_after : (bytes rest : List ℕ) (from now to : State C) (w u v : Option (List ℕ)) (n : ℕ)
-      → SoFar hears bytes rest from now w u n → to ≡ now → Appends u v [] → SoFar hears bytes rest from to w v n
+      → SoFar step bytes rest from now w u n → to ≡ now → Appends u v [] → SoFar step bytes rest from to w v n
   same_after bytes rest from now to w u v n so same none = (
     so.0,
-    subst (λ (s : State C). Goes hears bytes from so.0 rest s) (sym same) so.1,
+    subst (λ (s : State C). ServesPrefix step bytes from so.0 rest s) (sym same) so.1,
     subst (λ (t : List ℕ). Appends w v t) (append-nil (said_all so.0)) (Appends-trans w u v (said_all so.0) [] so.2 none),
     so.3,
   )
 
   pub serves_fault : (start before after : Option (List ℕ)) (from now to : State C) (w u v : Option (List ℕ)) (n : ℕ) (e : DeskFault)
-      → IfBoth start before (λ bytes rest. SoFar hears bytes rest from now w u n)
-      → IfSome before (λ rest. IsTurn hears rest now to after u v (Err e))
-      → IfSome start (λ bytes. Serves hears bytes from to w v (Err e))
+      → IfBoth start before (λ bytes rest. SoFar step bytes rest from now w u n)
+      → IfSome before (λ rest. IsTurn step rest now to after u v (Err e))
+      → IfSome start (λ bytes. Serves step bytes from to w v (Err e))
   serves_fault None before after from now to w u v n e so one = tt
   serves_fault (Some bytes) None after from now to w u v n e so one = absurd so
   serves_fault (Some bytes) (Some rest) after from now to w u v n desk.Write so one = (
@@ -130,14 +130,14 @@ module _ {C : Type 0} (hears : State C → Request → Reply → State C → Typ
     one.2,
     so.1,
     one.3,
-    Appends-trans w u v (said_all so.0) (take one.2 one.0.said) so.2 one.4,
+    Appends-trans w u v (said_all so.0) (take one.2 one.0.sent) so.2 one.4,
   )
   serves_fault (Some bytes) (Some rest) after from now to w u v n desk.Read so one =
       (rest, n, same_after bytes rest from now to w u v n so one.0 one.1)
   serves_fault (Some bytes) (Some rest) after from now to w u v n desk.NoMemory so one =
       (rest, n, same_after bytes rest from now to w u v n so one.0 one.1)
 
-  -- ---- what is answered is a front of the stream's items
+  -- ---- the answered items are a prefix of the stream's items
 
   either : (b : Bool) → (b ≡ true) ⊎ (b ≡ false)
   either true = inl refl
@@ -151,7 +151,7 @@ module _ {C : Type 0} (hears : State C → Request → Reply → State C → Typ
   no_item (request h body) rest is = omega (arith, head_some [] h _ is.0)
   no_item (faulty f) rest is = omega (arith, is.1)
 
-  pub served_items : ServedItems hears
+  pub served_items : ServedItems step
   served_items bytes from to [] items s a = (items, refl)
   served_items bytes from to (x ∷ xs) [] s a = absurd (no_item x.item s.0 (subst (λ (t : List ℕ). IsItem t x.item s.0) a s.2.0))
   served_items bytes from to (x ∷ xs) (y ∷ ys) s a =

@@ -1,4 +1,4 @@
--- The replies that tell a store fault. To a HEAD its number does not show.
+-- The responses for store faults. For a HEAD request they do not depend on the number.
 use Rattle.std.proofs.Common.{◌≡◌, ℕ, zero, suc, ◌+◌, ◌-◌, ◌≤◌, List, Bool, true, false, refl, inl, codes, arith}
 use Rattle.std.specs.Fmt.{digits}
 use Rattle.land_desk.specs.Responses.{response, IsResponse}

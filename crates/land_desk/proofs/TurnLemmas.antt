@@ -1,4 +1,4 @@
--- One turn: the item at the front of a stream, answered.
+-- Serving the first item of a stream.
 use Rattle.std.proofs.Common.{◌≡◌, ◌≢◌, ℕ, ◌+◌, Bool, true, false, List, [], ◌++◌, take, drop, refl, sym, ◌∙◌, ap, subst, Result, Ok, Err, Option, Some, None, IfSome}
 use Rattle.std.specs.Prelude.{◌⊎◌}
 use Rattle.std.specs.Io.KnownBytes.{Appends, Keeps, prepend_known}
@@ -6,9 +6,9 @@ use Rattle.std.proofs.KnownBytes.{Appends-nil}
 use Rattle.httparse.specs.declared.spans.HeaderSpan.{HeaderSpan}
 use Rattle.httparse.specs.declared.spans.RequestSpans.{RequestSpans}
 use Rattle.land_core.specs.declared.ask.Request.{Request}
-use Rattle.land_desk.specs.Serving.{Brings, Told}
-use Rattle.land_desk.specs.Turns.{IsAnswer, Spoken, IsTurn, IsWritten, answer_bytes, turn_after}
-use Rattle.land_desk.specs.declared.exchange.Answer.{Answer}
+use Rattle.land_desk.specs.Serving.{ForwardSimulation, HandlesOr501}
+use Rattle.land_desk.specs.Turns.{IsResponseTo, Spoken, IsTurn, IsWritten, answer_bytes, turn_after}
+use Rattle.land_desk.specs.declared.exchange.Response.{Response}
 use Rattle.land_desk.specs.declared.serve.DeskFault.{DeskFault}
 use Rattle.land_desk.specs.declared.serve.DeskFault.TheVariants as desk
 use Rattle.land_desk.specs.declared.turn.Turn.{Turn}
@@ -26,17 +26,17 @@ use Rattle.land_wire.specs.declared.framing.frame_fault.FrameFault.{FrameFault}
 use Rattle.land_wire.specs.declared.framing.item.Front.{Front}
 use Rattle.land_wire.specs.declared.framing.item.Front.TheVariants as front
 
-module _ {C : Type 0} (hears : State C → Request → Reply → State C → Type 0) where
-  -- a request at the front of the buffer, with its answer
-  pub spoken : (bytes more : List ℕ) (headers : List HeaderSpan) (spans : RequestSpans) (n : ℕ) (from to : State C) (a : Answer) (r : Reply) (last head : Bool)
-      → (is : IsRequestIn bytes headers spans n) → last ≡ ends is.1.0 → head ≡ is_head is.1.0
-      → Told hears (reading is.1.0.method is.1.0.target (field_map (fields_of is.1.0)) (take n (drop spans.len bytes))) from r to
-      → IsAnswer a r last head
-      → Spoken hears (bytes ++ more) from a (drop (spans.len + n) bytes ++ more) to
-  spoken bytes more headers spans n from to a r last head is ending heading told given =
+module _ {C : Type 0} (step : State C → Request → Reply → State C → Type 0) where
+  -- the request at the start of the buffer, with its response
+  pub spoken : (bytes more : List ℕ) (headers : List HeaderSpan) (spans : RequestSpans) (n : ℕ) (from to : State C) (a : Response) (r : Reply) (close_after head : Bool)
+      → (is : IsRequestIn bytes headers spans n) → close_after ≡ ends is.1.0 → head ≡ is_head is.1.0
+      → HandlesOr501 step (reading is.1.0.method is.1.0.target (field_map (fields_of is.1.0)) (take n (drop spans.len bytes))) from r to
+      → IsResponseTo a r close_after head
+      → Spoken step (bytes ++ more) from a (drop (spans.len + n) bytes ++ more) to
+  spoken bytes more headers spans n from to a r close_after head is ending heading told given =
       let h = is.1.0 in
-      let answer = subst (λ (b : Bool). IsAnswer a r b (is_head h)) ending (subst (λ (b : Bool). IsAnswer a r last b) heading given) in (
-        record { item = request h (take n (drop spans.len bytes)); reply = r; said = answer_bytes a.bytes },
+      let answer = subst (λ (b : Bool). IsResponseTo a r b (is_head h)) ending (subst (λ (b : Bool). IsResponseTo a r close_after b) heading given) in (
+        record { item = request h (take n (drop spans.len bytes)); reply = r; sent = answer_bytes a.bytes },
         (request_of bytes more headers spans n is, told, answer.0),
         refl,
         sym answer.1,
@@ -51,99 +51,99 @@ module _ {C : Type 0} (hears : State C → Request → Reply → State C → Typ
   if_map None P Q next holds = tt
   if_map (Some bytes) P Q next holds = next bytes holds
 
-  -- a front of an answer was written
-  told_cut : (bytes rest : List ℕ) (from to : State C) (a : Answer) (left u v : Option (List ℕ)) (n : ℕ)
-      → Spoken hears bytes from a rest to → Appends u v (take n (answer_bytes a.bytes)) → IsTurn hears bytes from to left u v (Err desk.Write)
-  told_cut bytes rest from to a left u v n it wrote = (it.0, rest, n, it.1, subst (λ (t : List ℕ). Appends u v (take n t)) (sym it.2) wrote)
+  -- a prefix of a response was written
+  sends_part : (bytes rest : List ℕ) (from to : State C) (a : Response) (left u v : Option (List ℕ)) (n : ℕ)
+      → Spoken step bytes from a rest to → Appends u v (take n (answer_bytes a.bytes)) → IsTurn step bytes from to left u v (Err desk.Write)
+  sends_part bytes rest from to a left u v n it wrote = (it.0, rest, n, it.1, subst (λ (t : List ℕ). Appends u v (take n t)) (sym it.2) wrote)
 
-  told_last : (bytes rest : List ℕ) (from to : State C) (a : Answer) (left u v : Option (List ℕ)) → a.last ≡ true
-      → Spoken hears bytes from a rest to → Appends u v (answer_bytes a.bytes) → IsTurn hears bytes from to left u v (Ok turn.Last)
-  told_last bytes rest from to a left u v last it wrote =
-      (it.0, rest, it.1, it.3 ∙ last, subst (λ (t : List ℕ). Appends u v t) (sym it.2) wrote)
+  closes_after : (bytes rest : List ℕ) (from to : State C) (a : Response) (left u v : Option (List ℕ)) → a.close_after ≡ true
+      → Spoken step bytes from a rest to → Appends u v (answer_bytes a.bytes) → IsTurn step bytes from to left u v (Ok turn.Close)
+  closes_after bytes rest from to a left u v close_after it wrote =
+      (it.0, rest, it.1, it.3 ∙ close_after, subst (λ (t : List ℕ). Appends u v t) (sym it.2) wrote)
 
-  told_more : (bytes rest : List ℕ) (from to : State C) (a : Answer) (left u v : Option (List ℕ)) → a.last ≡ false → left ≡ Some rest
-      → Spoken hears bytes from a rest to → Appends u v (answer_bytes a.bytes) → IsTurn hears bytes from to left u v (Ok turn.More)
-  told_more bytes rest from to a left u v last is it wrote =
-      (it.0, rest, it.1, it.3 ∙ last, subst (λ (t : List ℕ). Appends u v t) (sym it.2) wrote, is)
+  stays_open : (bytes rest : List ℕ) (from to : State C) (a : Response) (left u v : Option (List ℕ)) → a.close_after ≡ false → left ≡ Some rest
+      → Spoken step bytes from a rest to → Appends u v (answer_bytes a.bytes) → IsTurn step bytes from to left u v (Ok turn.KeepAlive)
+  stays_open bytes rest from to a left u v close_after is it wrote =
+      (it.0, rest, it.1, it.3 ∙ close_after, subst (λ (t : List ℕ). Appends u v t) (sym it.2) wrote, is)
 
-  -- an answer was written, and the connection goes on as it says
-  told_well : (bytes rest : List ℕ) (from to : State C) (a : Answer) (left u v : Option (List ℕ)) (last : Bool) → a.last ≡ last → left ≡ Some rest
-      → Spoken hears bytes from a rest to → Appends u v (answer_bytes a.bytes) → IsTurn hears bytes from to left u v (Ok (turn_after last))
-  told_well bytes rest from to a left u v true last is it wrote = told_last bytes rest from to a left u v last it wrote
-  told_well bytes rest from to a left u v false last is it wrote = told_more bytes rest from to a left u v last is it wrote
+  -- a response was written, and the connection closes or not, as it says
+  sends_all : (bytes rest : List ℕ) (from to : State C) (a : Response) (left u v : Option (List ℕ)) (close_after : Bool) → a.close_after ≡ close_after → left ≡ Some rest
+      → Spoken step bytes from a rest to → Appends u v (answer_bytes a.bytes) → IsTurn step bytes from to left u v (Ok (turn_after close_after))
+  sends_all bytes rest from to a left u v true close_after is it wrote = closes_after bytes rest from to a left u v close_after it wrote
+  sends_all bytes rest from to a left u v false close_after is it wrote = stays_open bytes rest from to a left u v close_after is it wrote
 
-  told_so : (bytes rest : List ℕ) (from to : State C) (a : Answer) (left u v : Option (List ℕ)) (result : Result Turn DeskFault) → left ≡ Some rest
-      → Spoken hears bytes from a rest to → IsWritten (answer_bytes a.bytes) a.last u v result → IsTurn hears bytes from to left u v result
-  told_so bytes rest from to a left u v (Ok t) is it wrote =
-      subst (λ (t : Turn). IsTurn hears bytes from to left u v (Ok t)) (sym wrote.0) (told_well bytes rest from to a left u v a.last refl is it wrote.1)
-  told_so bytes rest from to a left u v (Err desk.Write) is it wrote = told_cut bytes rest from to a left u v wrote.0 it wrote.1
-  told_so bytes rest from to a left u v (Err desk.Read) is it wrote = absurd wrote
-  told_so bytes rest from to a left u v (Err desk.NoMemory) is it wrote = absurd wrote
+  serves_response : (bytes rest : List ℕ) (from to : State C) (a : Response) (left u v : Option (List ℕ)) (result : Result Turn DeskFault) → left ≡ Some rest
+      → Spoken step bytes from a rest to → IsWritten (answer_bytes a.bytes) a.close_after u v result → IsTurn step bytes from to left u v result
+  serves_response bytes rest from to a left u v (Ok t) is it wrote =
+      subst (λ (t : Turn). IsTurn step bytes from to left u v (Ok t)) (sym wrote.0) (sends_all bytes rest from to a left u v a.close_after refl is it wrote.1)
+  serves_response bytes rest from to a left u v (Err desk.Write) is it wrote = sends_part bytes rest from to a left u v wrote.0 it wrote.1
+  serves_response bytes rest from to a left u v (Err desk.Read) is it wrote = absurd wrote
+  serves_response bytes rest from to a left u v (Err desk.NoMemory) is it wrote = absurd wrote
 
-  -- where it is the last one, nothing is said of what is left
-  told_at_end : (bytes rest : List ℕ) (from to : State C) (a : Answer) (left u v : Option (List ℕ)) (result : Result Turn DeskFault) → a.last ≡ true
-      → Spoken hears bytes from a rest to → IsWritten (answer_bytes a.bytes) a.last u v result → IsTurn hears bytes from to left u v result
-  told_at_end bytes rest from to a left u v (Ok t) last it wrote =
-      subst (λ (t : Turn). IsTurn hears bytes from to left u v (Ok t)) (sym (wrote.0 ∙ ap turn_after last))
-      (told_last bytes rest from to a left u v last it wrote.1)
-  told_at_end bytes rest from to a left u v (Err desk.Write) last it wrote = told_cut bytes rest from to a left u v wrote.0 it wrote.1
-  told_at_end bytes rest from to a left u v (Err desk.Read) last it wrote = absurd wrote
-  told_at_end bytes rest from to a left u v (Err desk.NoMemory) last it wrote = absurd wrote
+  -- if the connection closes, nothing is required of the remaining bytes
+  serves_at_end : (bytes rest : List ℕ) (from to : State C) (a : Response) (left u v : Option (List ℕ)) (result : Result Turn DeskFault) → a.close_after ≡ true
+      → Spoken step bytes from a rest to → IsWritten (answer_bytes a.bytes) a.close_after u v result → IsTurn step bytes from to left u v result
+  serves_at_end bytes rest from to a left u v (Ok t) close_after it wrote =
+      subst (λ (t : Turn). IsTurn step bytes from to left u v (Ok t)) (sym (wrote.0 ∙ ap turn_after close_after))
+      (closes_after bytes rest from to a left u v close_after it wrote.1)
+  serves_at_end bytes rest from to a left u v (Err desk.Write) close_after it wrote = sends_part bytes rest from to a left u v wrote.0 it wrote.1
+  serves_at_end bytes rest from to a left u v (Err desk.Read) close_after it wrote = absurd wrote
+  serves_at_end bytes rest from to a left u v (Err desk.NoMemory) close_after it wrote = absurd wrote
 
-  -- where a turn leaves the state as it was
+  -- serving an item may leave the state unchanged
   pub stays_put : (start : Option (List ℕ)) (stood stands : State C → Type 0) (way : List ℕ → State C → State C → Type 0)
       → ((s : State C) → stood s → stands s) → ((s : State C) → IfSome start (λ bytes. way bytes s s))
-      → IfSome start (λ bytes. Brings stood stands (way bytes))
+      → IfSome start (λ bytes. ForwardSimulation stood stands (way bytes))
   stays_put None stood stands way keeps is = tt
   stays_put (Some bytes) stood stands way keeps is = λ from at. (from, is from, keeps from at)
 
-  -- no byte was left
-  pub end_told : (start now left w : Option (List ℕ)) (fr : Front) (from : State C) → fr ≡ front.End → Keeps start now → IfSome now (λ s. IsFrontOf s fr)
-      → IfSome start (λ bytes. IsTurn hears bytes from from left w w (Ok turn.End))
-  end_told start now left w fr from is keeps item =
-      lift start now (λ bytes. IsTurn hears bytes from from left w w (Ok turn.End)) keeps
-      (if_map now (λ s. IsFrontOf s fr) (λ s. IsTurn hears s from from left w w (Ok turn.End))
+  -- the input ended
+  pub serves_eof : (start now left w : Option (List ℕ)) (fr : Front) (from : State C) → fr ≡ front.End → Keeps start now → IfSome now (λ s. IsFrontOf s fr)
+      → IfSome start (λ bytes. IsTurn step bytes from from left w w (Ok turn.Eof))
+  serves_eof start now left w fr from is keeps item =
+      lift start now (λ bytes. IsTurn step bytes from from left w w (Ok turn.Eof)) keeps
+      (if_map now (λ s. IsFrontOf s fr) (λ s. IsTurn step s from from left w w (Ok turn.Eof))
       (λ s h. (subst (λ (x : Front). IsFrontOf s x) is h, refl, Appends-nil w)) item)
 
-  -- the item could not be read
-  pub unread : (start left w : Option (List ℕ)) (from : State C) (e : DeskFault) → e ≢ desk.Write → IfSome start (λ bytes. IsTurn hears bytes from from left w w (Err e))
-  unread None left w from e other = tt
-  unread (Some bytes) left w from desk.Write other = absurd (other refl)
-  unread (Some bytes) left w from desk.Read other = (refl, Appends-nil w)
-  unread (Some bytes) left w from desk.NoMemory other = (refl, Appends-nil w)
+  -- reading the item failed
+  pub read_failed : (start left w : Option (List ℕ)) (from : State C) (e : DeskFault) → e ≢ desk.Write → IfSome start (λ bytes. IsTurn step bytes from from left w w (Err e))
+  read_failed None left w from e other = tt
+  read_failed (Some bytes) left w from desk.Write other = absurd (other refl)
+  read_failed (Some bytes) left w from desk.Read other = (refl, Appends-nil w)
+  read_failed (Some bytes) left w from desk.NoMemory other = (refl, Appends-nil w)
 
-  -- the answer to a fault of framing
-  abbrev Refused : FrameFault → Answer → Type 0
-  Refused f a = (r : Reply) × ((r ≡ reply.Fault (number_of f)) ⊎ (r ≡ reply.Store 501)) × IsAnswer a r true false
+  -- the response to a fault of framing
+  abbrev IsRejection : FrameFault → Response → Type 0
+  IsRejection f a = (r : Reply) × ((r ≡ reply.Fault (number_of f)) ⊎ (r ≡ reply.Store 501)) × IsResponseTo a r true false
 
-  refused_one : (bytes : List ℕ) (from : State C) (f : FrameFault) (a : Answer) → IsItem bytes (faulty f) [] → Refused f a
-      → Spoken hears bytes from a [] from
-  refused_one bytes from f a item refusal = (
-    record { item = faulty f; reply = refusal.0; said = answer_bytes a.bytes },
+  serves_rejected : (bytes : List ℕ) (from : State C) (f : FrameFault) (a : Response) → IsItem bytes (faulty f) [] → IsRejection f a
+      → Spoken step bytes from a [] from
+  serves_rejected bytes from f a item refusal = (
+    record { item = faulty f; reply = refusal.0; sent = answer_bytes a.bytes },
     (item, (refusal.1, refl), refusal.2.0),
     refl,
     sym refusal.2.1,
   )
 
-  pub fault_told : (start now left u v : Option (List ℕ)) (fr : Front) (f : FrameFault) (a : Answer) (from : State C) (result : Result Turn DeskFault)
-      → fr ≡ front.Fault f → Keeps start now → IfSome now (λ s. IsFrontOf s fr) → Refused f a → IsWritten (answer_bytes a.bytes) a.last u v result
-      → IfSome start (λ bytes. IsTurn hears bytes from from left u v result)
-  fault_told start now left u v fr f a from result is keeps item refusal wrote =
-      lift start now (λ bytes. IsTurn hears bytes from from left u v result) keeps
-      (if_map now (λ s. IsFrontOf s fr) (λ s. IsTurn hears s from from left u v result)
-      (λ s h. told_at_end s [] from from a left u v result refusal.2.1 (refused_one s from f a (subst (λ (x : Front). IsFrontOf s x) is h) refusal) wrote) item)
+  pub serves_framing_fault : (start now left u v : Option (List ℕ)) (fr : Front) (f : FrameFault) (a : Response) (from : State C) (result : Result Turn DeskFault)
+      → fr ≡ front.Fault f → Keeps start now → IfSome now (λ s. IsFrontOf s fr) → IsRejection f a → IsWritten (answer_bytes a.bytes) a.close_after u v result
+      → IfSome start (λ bytes. IsTurn step bytes from from left u v result)
+  serves_framing_fault start now left u v fr f a from result is keeps item refusal wrote =
+      lift start now (λ bytes. IsTurn step bytes from from left u v result) keeps
+      (if_map now (λ s. IsFrontOf s fr) (λ s. IsTurn step s from from left u v result)
+      (λ s h. serves_at_end s [] from from a left u v result refusal.2.1 (serves_rejected s from f a (subst (λ (x : Front). IsFrontOf s x) is h) refusal) wrote) item)
 
-  pub request_told : (start known u v : Option (List ℕ)) (items rest new : List ℕ) (a : Answer) (stood stands : State C → Type 0) (result : Result Turn DeskFault)
+  pub serves_request : (start known u v : Option (List ℕ)) (items rest new : List ℕ) (a : Response) (stood stands : State C → Type 0) (result : Result Turn DeskFault)
       → Keeps start (prepend_known items known)
-      → ((more : List ℕ) → Brings stood stands (λ from to. Spoken hears (items ++ more) from a (rest ++ more) to))
-      → new ≡ rest → IsWritten (answer_bytes a.bytes) a.last u v result
-      → IfSome start (λ bytes. Brings stood stands (λ from to. IsTurn hears bytes from to (prepend_known new known) u v result))
-  request_told None known u v items rest new a stood stands result keeps it is wrote = tt
-  request_told (Some bytes) None u v items rest new a stood stands result keeps it is wrote = absurd keeps
-  request_told (Some bytes) (Some more) u v items rest new a stood stands result keeps it is wrote = λ from at.
+      → ((more : List ℕ) → ForwardSimulation stood stands (λ from to. Spoken step (items ++ more) from a (rest ++ more) to))
+      → new ≡ rest → IsWritten (answer_bytes a.bytes) a.close_after u v result
+      → IfSome start (λ bytes. ForwardSimulation stood stands (λ from to. IsTurn step bytes from to (prepend_known new known) u v result))
+  serves_request None known u v items rest new a stood stands result keeps it is wrote = tt
+  serves_request (Some bytes) None u v items rest new a stood stands result keeps it is wrote = absurd keeps
+  serves_request (Some bytes) (Some more) u v items rest new a stood stands result keeps it is wrote = λ from at.
       let next = it more from at in (
         next.0,
-        subst (λ (t : List ℕ). IsTurn hears t from next.0 (Some (new ++ more)) u v result) keeps
-            (told_so (items ++ more) (rest ++ more) from next.0 a (Some (new ++ more)) u v result (ap (λ (t : List ℕ). Some (t ++ more)) is) next.1 wrote),
+        subst (λ (t : List ℕ). IsTurn step t from next.0 (Some (new ++ more)) u v result) keeps
+            (serves_response (items ++ more) (rest ++ more) from next.0 a (Some (new ++ more)) u v result (ap (λ (t : List ℕ). Some (t ++ more)) is) next.1 wrote),
         next.2,
       )

@@ -1,10 +1,10 @@
--- Connections that are served one after another.
+-- Serving connections one at a time.
 use Rattle.std.proofs.Common.{◌≡◌, ◌∙◌, ◌+◌, ◌<◌, ap, append_assoc, arith, refl, subst, sym, ℕ, ℤ, Bool, false, List, [], ◌∷◌, ◌++◌, length, map, Result, Err, Option, Some, None, IfSome}
 use Rattle.std.proofs.lemmas.List.{length-append, map-append}
 use Rattle.land_core.specs.declared.ask.Request.{Request}
 use Rattle.land_desk.proofs.Honesty.{serves_honestly}
 use Rattle.land_desk.proofs.Moving.{moves_later}
-use Rattle.land_desk.specs.Service.{AreFirst, AreWanted, Connection, InTurn, Serves, ServesOver, one_or_none}
+use Rattle.land_desk.specs.Service.{AreFirst, AreWanted, Connection, InTurn, ServesUpTo, ServesOver, one_or_none}
 use Rattle.land_desk.specs.Service.Coming.{Comes}
 use Rattle.land_desk.specs.Serving.{Hears, HearsIf, MovesTo, ServesTo}
 use Rattle.land_desk.specs.declared.serve.DeskFault.{DeskFault}
@@ -16,17 +16,17 @@ use Rattle.land_keep.specs.Machine.{State}
 use Rattle.land_keep.specs.Timeline.{Timeline}
 use Rattle.land_keep.specs.declared.reply.Reply.{Reply}
 
-heard_honestly : {C : Type 0} (reads : C → ℤ → C → Type 0) (honest : Type 0) → honest
+step_honestly : {C : Type 0} (reads : C → ℤ → C → Type 0) (honest : Type 0) → honest
     → (from : State C) (asked : Request) (r : Reply) (to : State C) → HearsIf honest reads from asked r to → Hears reads from asked r to
-heard_honestly reads honest trust from asked r to h = (h.0, h.1, h.3 trust)
+step_honestly reads honest trust from asked r to h = (h.0, h.1, h.3 trust)
 
 module _ {C : Type 0} (reads : C → ℤ → C → Type 0) where
-  -- what serving a connection says, whether its bytes are known or not
+  -- a connection is served by a run, whether its bytes are known or not
   served_over : (honest : Type 0) → honest → (bytes old new : Option (List ℕ)) (outcome : Result Served DeskFault) (from : State C) (stands : State C → Type 0)
       → IfSome bytes (λ known. ServesTo (HearsIf honest reads) known from stands old new outcome) → MovesTo (HearsIf honest reads) from stands
       → (to : State C) × ServesOver reads bytes old new outcome from to × stands to
   served_over honest trust None old new outcome from stands served moves =
-      (moves.0, moves_later (HearsIf honest reads) (Hears reads) (heard_honestly reads honest trust) from moves.0 moves.1, moves.2)
+      (moves.0, moves_later (HearsIf honest reads) (Hears reads) (step_honestly reads honest trust) from moves.0 moves.1, moves.2)
   served_over honest trust (Some known) old new outcome from stands served moves =
       (served.0, serves_honestly reads honest trust known from served.0 old new outcome served.1, served.2)
 
@@ -41,7 +41,7 @@ module _ {C : Type 0} (reads : C → ℤ → C → Type 0) where
   pub next_served : (honest : Type 0) → honest → (bytes old new : Option (List ℕ)) (outcome : Result Served DeskFault) (from : State C) (stands : State C → Type 0)
       (coming after : Option (List (Option (List ℕ)))) → from.closed ≡ false → Comes coming after (Some bytes)
       → IfSome bytes (λ known. ServesTo (HearsIf honest reads) known from stands old new outcome) → MovesTo (HearsIf honest reads) from stands
-      → Serves reads from stands coming after (λ n. n ≡ 1)
+      → ServesUpTo reads from stands coming after (λ n. n ≡ 1)
   next_served honest trust bytes old new outcome from stands coming after open_store comes served moves =
       let it = served_over honest trust bytes old new outcome from stands served moves in (
         record { bytes = bytes; old = old; new = new; outcome = outcome } ∷ [],
@@ -57,9 +57,9 @@ module _ {C : Type 0} (reads : C → ℤ → C → Type 0) where
   none_first (Some all) None comes = cc
   none_first (Some all) (Some left) comes = cc
 
-  -- no connection could be had
+  -- accepting a connection failed
   pub none_served : (from : State C) (stands : State C → Type 0) (coming after : Option (List (Option (List ℕ)))) → stands from → Comes coming after None
-      → Serves reads from stands coming after (λ n. n ≡ 0)
+      → ServesUpTo reads from stands coming after (λ n. n ≡ 0)
   none_served from stands coming after at comes = ([], from, refl, at, none_first coming after comes, refl)
 
   in_turn : (from : State C) (xs : List Connection) (now : State C) (ys : List Connection) (to : State C) → InTurn reads from xs now → InTurn reads now ys to
@@ -67,15 +67,15 @@ module _ {C : Type 0} (reads : C → ℤ → C → Type 0) where
   in_turn from [] now ys to so more = subst (λ (s : State C). InTurn reads s ys to) so more
   in_turn from (x ∷ xs) now ys to so more = (so.0, so.1, so.2, in_turn so.0 xs now ys to so.3 more)
 
-  firsts : (xs ys : List Connection) (coming mid after : Option (List (Option (List ℕ)))) → AreFirst xs coming mid → AreFirst ys mid after → AreFirst (xs ++ ys) coming after
-  firsts xs ys None mid after a b = tt
-  firsts xs ys (Some all) None after a b = absurd a
-  firsts xs ys (Some all) (Some some) None a b = absurd b
-  firsts xs ys (Some all) (Some some) (Some rest) a b = appended xs ys all some rest a b
+  both_first : (xs ys : List Connection) (coming mid after : Option (List (Option (List ℕ)))) → AreFirst xs coming mid → AreFirst ys mid after → AreFirst (xs ++ ys) coming after
+  both_first xs ys None mid after a b = tt
+  both_first xs ys (Some all) None after a b = absurd a
+  both_first xs ys (Some all) (Some some) None a b = absurd b
+  both_first xs ys (Some all) (Some some) (Some rest) a b = both_appended xs ys all some rest a b
     where
-      appended : (xs ys : List Connection) (all some rest : List (Option (List ℕ))) → all ≡ map (λ x. x.bytes) xs ++ some → some ≡ map (λ x. x.bytes) ys ++ rest
+      both_appended : (xs ys : List Connection) (all some rest : List (Option (List ℕ))) → all ≡ map (λ x. x.bytes) xs ++ some → some ≡ map (λ x. x.bytes) ys ++ rest
           → all ≡ map (λ x. x.bytes) (xs ++ ys) ++ rest
-      appended xs ys all some rest a b =
+      both_appended xs ys all some rest a b =
           a ∙ ap (λ (l : List (Option (List ℕ))). map (λ x. x.bytes) xs ++ l) b ∙ sym (append_assoc (map (λ x. x.bytes) xs) (map (λ x. x.bytes) ys) rest)
           ∙ ap (λ (l : List (Option (List ℕ))). l ++ rest) (sym (map-append (λ x. x.bytes) xs ys))
 
@@ -90,12 +90,12 @@ module _ {C : Type 0} (reads : C → ℤ → C → Type 0) where
       ap (λ (k : C). record { closed = closed; timeline = shown; clock = k }) f in
       a ∙ b ∙ d
 
-  -- connections are served, and then the next one, over a keeper that is open between them
+  -- connections are served, and then the next one, on a keeper that is open between them
   pub served_more : (honest : Type 0) → honest → (closed : Bool) → closed ≡ false → (shown : Timeline) (clock : C) (from : State C) (stands : State C → Type 0)
       (coming mid after : Option (List (Option (List ℕ)))) (k m : ℕ)
-      → Serves reads from (IsAt honest closed shown clock) coming mid (λ n. n ≡ k)
-      → Serves reads (record { closed = closed; timeline = shown; clock = clock }) stands mid after (λ n. n ≡ m)
-      → Serves reads from stands coming after (λ n. n ≡ k + m)
+      → ServesUpTo reads from (IsAt honest closed shown clock) coming mid (λ n. n ≡ k)
+      → ServesUpTo reads (record { closed = closed; timeline = shown; clock = clock }) stands mid after (λ n. n ≡ m)
+      → ServesUpTo reads from stands coming after (λ n. n ≡ k + m)
   served_more honest trust closed is_open shown clock from stands coming mid after k m so next =
       let now = so.1 in
       let same = same_state closed shown clock now so.3.0 so.3.1 (sym (so.3.2 (trust, is_open))) in (
@@ -103,21 +103,21 @@ module _ {C : Type 0} (reads : C → ℤ → C → Type 0) where
         next.1,
         in_turn from so.0 now next.0 next.1 so.2 (subst (λ (s : State C). InTurn reads s next.0 next.1) (sym same) next.2),
         next.3,
-        firsts so.0 next.0 coming mid after so.4 next.4,
+        both_first so.0 next.0 coming mid after so.4 next.4,
         length-append so.0 next.0 ∙ ap (λ n. n + length next.0) so.5 ∙ ap (λ n. k + n) next.5,
       )
 
   -- no connection is served yet
-  pub unserved : (from : State C) (stands : State C → Type 0) (coming : Option (List (Option (List ℕ)))) → stands from → Serves reads from stands coming coming (λ n. n ≡ 0)
-  unserved from stands None at = ([], from, refl, at, tt, refl)
-  unserved from stands (Some all) at = ([], from, refl, at, refl, refl)
+  pub serves_none : (from : State C) (stands : State C → Type 0) (coming : Option (List (Option (List ℕ)))) → stands from → ServesUpTo reads from stands coming coming (λ n. n ≡ 0)
+  serves_none from stands None at = ([], from, refl, at, tt, refl)
+  serves_none from stands (Some all) at = ([], from, refl, at, refl, refl)
 
-  -- what is known of how many were served
-  pub counted : (from : State C) (stands : State C → Type 0) (coming after : Option (List (Option (List ℕ)))) (P Q : ℕ → Type 0) → ((n : ℕ) → P n → Q n)
-      → Serves reads from stands coming after P → Serves reads from stands coming after Q
-  counted from stands coming after P Q next so = (so.0, so.1, so.2, so.3, so.4, next (length so.0) so.5)
+  -- a weaker condition on the number of connections served
+  pub weaken_count : (from : State C) (stands : State C → Type 0) (coming after : Option (List (Option (List ℕ)))) (P Q : ℕ → Type 0) → ((n : ℕ) → P n → Q n)
+      → ServesUpTo reads from stands coming after P → ServesUpTo reads from stands coming after Q
+  weaken_count from stands coming after P Q next so = (so.0, so.1, so.2, so.3, so.4, next (length so.0) so.5)
 
--- fewer connections are served than are wanted where the next one could not be had, or closed the store
+-- fewer connections are served than requested if accepting failed or the store closed
 pub cut_short : (T : Type 0) (fault : ServiceFault) (k wanted n : ℕ) → k < wanted → n ≡ k + one_or_none {T = T} (Err fault) → AreWanted {T = T} n wanted (Err fault)
 cut_short T Accept k wanted n less is = omega (arith, less, is)
 cut_short T Closed k wanted n less is = omega (arith, less, is)

@@ -1,4 +1,5 @@
--- Definitions of streams and of serving them.
+-- Definitions of responses, streams and connections.
+pub mod Keepers
 pub mod Responses
 pub mod Service
 pub mod Serving

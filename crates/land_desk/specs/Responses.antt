@@ -1,9 +1,10 @@
--- The bytes of a reply on the wire (RFC 9112, sections 4 and 5).
+-- HTTP responses, as bytes (RFC 9112, sections 4 and 5).
 use Rattle.std.specs.Prelude.{◌≡◌, ℕ, Bool, List, [], ◌++◌, length, codes, decimal, Some, ◌⊎◌, if◌then◌else◌}
 use Rattle.land_desk.specs.declared.response.Medium.{Medium}
 use Rattle.land_desk.specs.declared.response.Medium.TheVariants.{Json, Sheet}
 use Rattle.land_desk.specs.declared.response.Status.{Status}
-use Rattle.land_desk.specs.declared.response.Status.TheVariants.{Ok, BadRequest, Forbidden, Conflict, Unavailable}
+use Rattle.land_desk.specs.declared.response.Status.TheVariants.{Ok, BadRequest, Forbidden, Conflict}
+use Rattle.land_desk.specs.declared.response.Status.TheVariants.{Unavailable}
 use Rattle.land_keep.specs.Moments.{IsMoment}
 use Rattle.land_keep.specs.declared.reply.Reply.{Reply}
 use Rattle.land_keep.specs.declared.reply.Reply.TheVariants as reply
@@ -11,7 +12,7 @@ use Rattle.land_keep.specs.declared.view.View.{View}
 use Rattle.land_sheet.specs.Sheets.{IsSheet}
 use Rattle.land_wire.specs.Replies.{reply_text}
 
--- code and phrase of a status (RFC 9110, section 15)
+-- Code and phrase of a status (RFC 9110, section 15).
 abbrev pub status_text : Status → List ℕ
 status_text Ok = codes "200 OK"
 status_text BadRequest = codes "400 Bad Request"
@@ -19,7 +20,8 @@ status_text Forbidden = codes "403 Forbidden"
 status_text Conflict = codes "409 Conflict"
 status_text Unavailable = codes "503 Service Unavailable"
 
--- what was asked is done or told; a fault of the request, a denial and a refusal are the caller's matter
+-- The status of a reply: 200 for an answer, 403 for a denial, 400 for a fault, 409 for a refusal, 503 for a
+-- store fault.
 abbrev pub status_of : Reply → Status
 status_of (reply.Object object) = Ok
 status_of (reply.Numbers numbers) = Ok
@@ -30,12 +32,12 @@ status_of (reply.Fault fault) = BadRequest
 status_of (reply.Refused refusal) = Conflict
 status_of (reply.Store fault) = Unavailable
 
--- the type of a body (RFC 9110, section 8.3)
+-- The media type of a body (RFC 9110, section 8.3).
 abbrev pub medium_text : Medium → List ℕ
 medium_text Json = codes "application/json"
 medium_text Sheet = codes "text/plain; charset=utf-8"
 
--- a title sheet is a text of lines, every other reply is JSON
+-- A title sheet is plain text, every other reply is JSON.
 abbrev pub medium_of : Reply → Medium
 medium_of (reply.Object object) = Json
 medium_of (reply.Numbers numbers) = Json
@@ -46,12 +48,12 @@ medium_of (reply.Fault fault) = Json
 medium_of (reply.Refused refusal) = Json
 medium_of (reply.Store fault) = Json
 
--- the body of a reply: its JSON, or the sheet of the view that it shows
+-- The body of a reply: its JSON, or the title sheet of its view.
 abbrev pub IsBody : Reply → List ℕ → Type 0
 IsBody r body = (reply_text r ≡ Some body) ⊎ ((view : View) × (r ≡ reply.Sheet view) × IsSheet view body)
 
--- the status line, the fields, an empty line and the body. `Connection: close` stands where the connection ends after
--- the reply. The answer to a HEAD lacks the body, and its length is told.
+-- Status line, fields, an empty line and the body. `Connection: close` is sent if the connection closes after
+-- the response. The response to a HEAD request has the length of the body, but not the body.
 unfoldable pub response : Status → Medium → (body : List ℕ) → (closing head : Bool) → List ℕ
 response status medium body closing head =
     codes "HTTP/1.1 " ++ (status_text status ++ (codes "\r\n"
@@ -60,13 +62,13 @@ response status medium body closing head =
     ++ ((if closing then codes "Connection: close\r\n" else [])
     ++ (codes "\r\n" ++ (if head then [] else body)))))))))))
 
--- the bytes of a reply
+-- These bytes are the response for a reply.
 pub record IsResponse (r : Reply) (closing head : Bool) (bytes : List ℕ) : Type 0 where
   pub body : List ℕ
   pub body_is : IsBody r body
   pub bytes_are : bytes ≡ response (status_of r) (medium_of r) body closing head
 
--- a sheet shows a moment that there is
+-- A title sheet is of a valid moment.
 abbrev pub HasMoment : Reply → Type 0
 HasMoment (reply.Object object) = Unit {0}
 HasMoment (reply.Numbers numbers) = Unit {0}
@@ -77,6 +79,8 @@ HasMoment (reply.Fault fault) = Unit {0}
 HasMoment (reply.Refused refusal) = Unit {0}
 HasMoment (reply.Store fault) = Unit {0}
 
--- a reply has one response and no other
+-- A reply has exactly one response.
 abbrev pub OneResponse : Type 0
-OneResponse = (r : Reply) (closing head : Bool) (a b : List ℕ) → IsResponse r closing head a → IsResponse r closing head b → a ≡ b
+OneResponse =
+    (r : Reply) (closing head : Bool) (a b : List ℕ) → IsResponse r closing head a
+    → IsResponse r closing head b → a ≡ b

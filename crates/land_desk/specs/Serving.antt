@@ -1,6 +1,8 @@
--- What is served over a stream: the items of the stream, each with its reply.
+-- Serving a stream: the items of the stream, each with its reply, and the transitions of the model that they
+-- cause.
 pub mod Asking
-use Rattle.std.specs.Prelude.{◌≡◌, ℕ, ℤ, Bool, true, false, ◌||◌, nat_eq, List, [], ◌∷◌, ◌++◌, length, map, take, Option, Result, Ok, Err, ◌⊎◌}
+use Rattle.std.specs.Prelude.{◌≡◌, ℕ, ℤ, Bool, true, false, ◌||◌, nat_eq, List, [], ◌∷◌, ◌++◌, length, map}
+use Rattle.std.specs.Prelude.{take, Option, Result, Ok, Err, ◌⊎◌}
 use Rattle.std.specs.List.{flat_map}
 use Rattle.std.specs.Io.KnownBytes.{Appends}
 use Rattle.land_core.specs.declared.ask.Request.{Request}
@@ -20,7 +22,7 @@ use Rattle.land_wire.specs.Reading.{reading}
 use Rattle.land_wire_json.specs.Bodies.WireFaults.{fault_number}
 use Rattle.land_wire_json.specs.declared.bodies.wire_fault.WireFault.{WireFault}
 
--- a store fault that closes the store ends the connection
+-- A reply closes the connection if it reports a fault that closed the store: 502 or 503.
 abbrev pub closes : Reply → Bool
 closes (reply.Object it) = false
 closes (reply.Numbers it) = false
@@ -31,124 +33,153 @@ closes (reply.Fault number) = false
 closes (reply.Refused number) = false
 closes (reply.Store number) = nat_eq number 502 || nat_eq number 503
 
--- no body is sent back to a HEAD that was a whole request
+-- The item is a whole HEAD request. Its response has no body.
 abbrev pub asks_head : Item → Bool
 asks_head (request h body) = is_head h
 asks_head (faulty f) = false
 
--- an item, its reply, and the bytes that are written for it
+-- An item, its reply, and the bytes of the response.
 pub record Exchange : Type 0 where
   pub item : Item
   pub reply : Reply
-  pub said : List ℕ
+  pub sent : List ℕ
 
--- the connection ends after it
+-- The connection is closed after it, because of the item or of the reply.
 abbrev pub closing : Exchange → Bool
 closing x = is_last x.item || closes x.reply
 
+-- All bytes written for these items.
 abbrev pub said_all : List Exchange → List ℕ
-said_all xs = flat_map (λ x. x.said) xs
+said_all xs = flat_map (λ x. x.sent) xs
 
--- ---- what is told of a request
+-- ---- transitions of the model
 
--- a request is answered by an element of a run of the machine, with one reading of the clock
-abbrev pub Hears : {C : Type 0} → (C → ℤ → C → Type 0) → State C → Request → Reply → State C → Type 0
+-- A transition takes a request and gives a reply.
+abbrev pub Transition : Type 0 → Type 1
+Transition C = State C → Request → Reply → State C → Type 0
+
+-- A request is answered by one transition of the model. The clock is read once.
+abbrev pub Hears : {C : Type 0} → (C → ℤ → C → Type 0) → Transition C
 Hears reads from asked r to =
-    (clock : ℤ) × reads from.clock clock to.clock × Element from.closed clock asked from.timeline r to.timeline to.closed
+    (clock : ℤ) × reads from.clock clock to.clock
+    × Element from.closed clock asked from.timeline r to.timeline to.closed
 
--- so it is where the store is honest; what the reply tells of the store holds in any case, and the clock is read once
-abbrev pub HearsIf : {C : Type 0} → (honest : Type 0) → (C → ℤ → C → Type 0) → State C → Request → Reply → State C → Type 0
+-- The same, if the store is honest. In any case the clock is read once, and the reply reports whether the
+-- store is closed.
+abbrev pub HearsIf : {C : Type 0} → (honest : Type 0) → (C → ℤ → C → Type 0) → Transition C
 HearsIf honest reads from asked r to =
     (clock : ℤ) × reads from.clock clock to.clock × TellsOf from.closed r to.closed
     × (honest → Element from.closed clock asked from.timeline r to.timeline to.closed)
 
--- from each state at which a keeper stood, a way leads to one at which it stands
-abbrev pub Brings : {C : Type 0} → (stood stands : State C → Type 0) → (way : State C → State C → Type 0) → Type 0
-Brings {C} stood stands way = (from : State C) → stood from → (to : State C) × way from to × stands to
+-- Forward simulation: from each state that is represented before, a step leads to one that is represented
+-- after.
+abbrev pub ForwardSimulation : {C : Type 0} → (stood stands : State C → Type 0)
+    → (way : State C → State C → Type 0) → Type 0
+ForwardSimulation {C} stood stands way =
+    (from : State C) → stood from → (to : State C) × way from to × stands to
 
--- what is told of a request that was read, or of its first fault, and where it leaves the machine
-abbrev pub Heard : {C : Type 0} → (State C → Request → Reply → State C → Type 0) → Result Request WireFault → State C → Reply → State C → Type 0
-Heard hears (Err fault) from r to = (r ≡ reply.Fault (fault_number fault)) × (to ≡ from)
-Heard hears (Ok asked) from r to = hears from asked r to
+-- The model handles a request that was parsed. For one that was not, the reply is its first fault, and
+-- nothing changes.
+abbrev pub Handles : {C : Type 0} → Transition C → Result Request WireFault → State C → Reply → State C
+    → Type 0
+Handles step (Err fault) from r to = (r ≡ reply.Fault (fault_number fault)) × (to ≡ from)
+Handles step (Ok asked) from r to = step from asked r to
 
--- 501 may be told in place of it, and changes nothing
-abbrev pub Told : {C : Type 0} → (State C → Request → Reply → State C → Type 0) → Result Request WireFault → State C → Reply → State C → Type 0
-Told hears q from r to = ((r ≡ reply.Store 501) × (to ≡ from)) ⊎ Heard hears q from r to
+-- Or the reply is 501 (out of memory), and nothing changes.
+abbrev pub HandlesOr501 : {C : Type 0} → Transition C → Result Request WireFault → State C → Reply → State C
+    → Type 0
+HandlesOr501 step q from r to = ((r ≡ reply.Store 501) × (to ≡ from)) ⊎ Handles step q from r to
 
--- the reply to an item: to a request that can be read, the machine's; to any other, its fault
-abbrev pub Answers : {C : Type 0} → (State C → Request → Reply → State C → Type 0) → State C → Item → Reply → State C → Type 0
-Answers hears from (request h body) r to = Told hears (reading h.method h.target (field_map (fields_of h)) body) from r to
-Answers hears from (faulty f) r to = ((r ≡ reply.Fault (number_of f)) ⊎ (r ≡ reply.Store 501)) × (to ≡ from)
+-- The reply to an item: that of its request, or the fault of framing (or 501), which changes nothing.
+abbrev pub RepliesTo : {C : Type 0} → Transition C → State C → Item → Reply → State C → Type 0
+RepliesTo step from (request h body) r to =
+    HandlesOr501 step (reading h.method h.target (field_map (fields_of h)) body) from r to
+RepliesTo step from (faulty f) r to = ((r ≡ reply.Fault (number_of f)) ⊎ (r ≡ reply.Store 501)) × (to ≡ from)
 
--- ---- what is heard of a stream, whether its bytes are known or not
+-- ---- transitions caused by a stream, whether its bytes are known or not
 
--- one request is heard, or none
-abbrev pub MayHear : {C : Type 0} → (State C → Request → Reply → State C → Type 0) → State C → State C → Type 0
-MayHear hears from to = (to ≡ from) ⊎ ((asked : Request) × (r : Reply) × hears from asked r to)
+-- At most one transition.
+abbrev pub MayHear : {C : Type 0} → Transition C → State C → State C → Type 0
+MayHear step from to = (to ≡ from) ⊎ ((asked : Request) × (r : Reply) × step from asked r to)
 
--- these requests are heard one after another, and get these replies
-abbrev pub HearsAll : {C : Type 0} → (State C → Request → Reply → State C → Type 0) → State C → List Request → List Reply → State C → Type 0
-HearsAll hears from [] [] to = to ≡ from
-HearsAll {C} hears from (asked ∷ requests) (r ∷ replies) to =
-    (mid : State C) × hears from asked r mid × HearsAll hears mid requests replies to
-HearsAll hears from [] (r ∷ replies) to = ⊥
-HearsAll hears from (asked ∷ requests) [] to = ⊥
+-- A trace: these requests, in order, get these replies.
+abbrev pub HearsAll : {C : Type 0} → Transition C → State C → List Request → List Reply → State C → Type 0
+HearsAll step from [] [] to = to ≡ from
+HearsAll {C} step from (asked ∷ requests) (r ∷ replies) to =
+    (mid : State C) × step from asked r mid × HearsAll step mid requests replies to
+HearsAll step from [] (r ∷ replies) to = ⊥
+HearsAll step from (asked ∷ requests) [] to = ⊥
 
--- the machine comes from one state to another by requests that it hears, and by nothing else
-abbrev pub Moves : {C : Type 0} → (State C → Request → Reply → State C → Type 0) → State C → State C → Type 0
-Moves hears from to = (requests : List Request) × (replies : List Reply) × HearsAll hears from requests replies to
+-- `to` is reachable from `from` by requests, and by nothing else.
+abbrev pub Reachable : {C : Type 0} → Transition C → State C → State C → Type 0
+Reachable step from to =
+    (requests : List Request) × (replies : List Reply) × HearsAll step from requests replies to
 
--- it comes to some state at which a keeper stands
-abbrev pub MovesTo : {C : Type 0} → (State C → Request → Reply → State C → Type 0) → State C → (stands : State C → Type 0) → Type 0
-MovesTo {C} hears from stands = (to : State C) × Moves hears from to × stands to
+-- Some state that is represented after the call is reachable.
+abbrev pub MovesTo : {C : Type 0} → Transition C → State C → (stands : State C → Type 0) → Type 0
+MovesTo {C} step from stands = (to : State C) × Reachable step from to × stands to
 
--- ---- what is served of bytes
+-- ---- items of known bytes
 
--- the item at the front of the bytes is answered, its reply is said, and rest is left
-abbrev pub One : {C : Type 0} → (State C → Request → Reply → State C → Type 0) → List ℕ → State C → Exchange → List ℕ → State C → Type 0
-One hears bytes from x rest to =
-    IsItem bytes x.item rest × Answers hears from x.item x.reply to × IsResponse x.reply (closing x) (asks_head x.item) x.said
+-- The first item of the bytes gets this reply, and its response is sent. `rest` follows the item.
+abbrev pub ServesItem : {C : Type 0} → Transition C → List ℕ → State C → Exchange → List ℕ → State C → Type 0
+ServesItem step bytes from x rest to =
+    IsItem bytes x.item rest × RepliesTo step from x.item x.reply to
+    × IsResponse x.reply (closing x) (asks_head x.item) x.sent
 
--- so many items are answered one after another, and none of them ends the connection; rest is left
-abbrev pub Goes : {C : Type 0} → (State C → Request → Reply → State C → Type 0) → List ℕ → State C → List Exchange → List ℕ → State C → Type 0
-Goes hears bytes from [] rest to = (rest ≡ bytes) × (to ≡ from)
-Goes {C} hears bytes from (x ∷ xs) rest to =
-    (mid : List ℕ) × (next : State C) × One hears bytes from x mid next × (closing x ≡ false) × Goes hears mid next xs rest to
+-- These items are answered in order, and none of them closes the connection. `rest` follows them.
+abbrev pub ServesPrefix : {C : Type 0} → Transition C → List ℕ → State C → List Exchange → List ℕ → State C
+    → Type 0
+ServesPrefix step bytes from [] rest to = (rest ≡ bytes) × (to ≡ from)
+ServesPrefix {C} step bytes from (x ∷ xs) rest to =
+    (mid : List ℕ) × (next : State C) × ServesItem step bytes from x mid next × (closing x ≡ false)
+    × ServesPrefix step mid next xs rest to
 
--- the items of the bytes are answered, until nothing is left or one ends the connection
-abbrev pub IsServed : {C : Type 0} → (State C → Request → Reply → State C → Type 0) → List ℕ → State C → List Exchange → State C → Type 0
-IsServed hears bytes from [] to = (bytes ≡ []) × (to ≡ from)
-IsServed {C} hears bytes from (x ∷ xs) to =
-    (mid : List ℕ) × (next : State C) × One hears bytes from x mid next
-    × (closing x ≡ true → (xs ≡ []) × (to ≡ next)) × (closing x ≡ false → IsServed hears mid next xs to)
+-- The items of the bytes are answered, until no byte is left or one of them closes the connection.
+abbrev pub IsServed : {C : Type 0} → Transition C → List ℕ → State C → List Exchange → State C → Type 0
+IsServed step bytes from [] to = (bytes ≡ []) × (to ≡ from)
+IsServed {C} step bytes from (x ∷ xs) to =
+    (mid : List ℕ) × (next : State C) × ServesItem step bytes from x mid next
+    × (closing x ≡ true → (xs ≡ []) × (to ≡ next)) × (closing x ≡ false → IsServed step mid next xs to)
 
--- the replies to some items have been written, and no others; rest is left
-abbrev pub SoFar : {C : Type 0} → (State C → Request → Reply → State C → Type 0) → (bytes rest : List ℕ) → (from to : State C) → (old new : Option (List ℕ)) → (replies : ℕ) → Type 0
-SoFar hears bytes rest from to old new replies =
-    (xs : List Exchange) × Goes hears bytes from xs rest to × Appends old new (said_all xs) × (length xs ≡ replies)
+-- This number of items was answered, exactly their responses were written, and `rest` follows them.
+abbrev pub SoFar : {C : Type 0} → Transition C → (bytes rest : List ℕ) → (from to : State C)
+    → (old new : Option (List ℕ)) → (replies : ℕ) → Type 0
+SoFar step bytes rest from to old new replies =
+    (xs : List Exchange) × ServesPrefix step bytes from xs rest to × Appends old new (said_all xs)
+    × (length xs ≡ replies)
 
--- serving bytes: all replies are written, and counted
-abbrev pub Serves : {C : Type 0} → (State C → Request → Reply → State C → Type 0) → List ℕ → State C → State C → (old new : Option (List ℕ)) → Result Served DeskFault → Type 0
-Serves hears bytes from to old new (Ok served) =
-    (xs : List Exchange) × IsServed hears bytes from xs to × Appends old new (said_all xs) × (served.replies ≡ length xs)
--- after a failed write a front of the response has gone out behind those before it, and the change stands
-Serves {C} hears bytes from to old new (Err desk.Write) =
+-- Serving known bytes. Without a fault, all responses are written, and counted.
+abbrev pub Serves : {C : Type 0} → Transition C → List ℕ → State C → State C → (old new : Option (List ℕ))
+    → Result Served DeskFault → Type 0
+Serves step bytes from to old new (Ok served) =
+    (xs : List Exchange) × IsServed step bytes from xs to × Appends old new (said_all xs)
+    × (served.replies ≡ length xs)
+-- After a failed write a prefix of the last response is written, and its change is committed.
+Serves {C} step bytes from to old new (Err desk.Write) =
     (xs : List Exchange) × (x : Exchange) × (rest after : List ℕ) × (now : State C) × (n : ℕ)
-    × Goes hears bytes from xs rest now × One hears rest now x after to × Appends old new (said_all xs ++ take n x.said)
--- after a failed read, or where there was no memory for the input, the replies to the items before it have gone out
-Serves hears bytes from to old new (Err desk.Read) = (rest : List ℕ) × (n : ℕ) × SoFar hears bytes rest from to old new n
-Serves hears bytes from to old new (Err desk.NoMemory) = (rest : List ℕ) × (n : ℕ) × SoFar hears bytes rest from to old new n
+    × ServesPrefix step bytes from xs rest now × ServesItem step rest now x after to
+    × Appends old new (said_all xs ++ take n x.sent)
+-- After a failed read, or out of memory for the input, the responses to all items before it are written.
+Serves step bytes from to old new (Err desk.Read) =
+    (rest : List ℕ) × (n : ℕ) × SoFar step bytes rest from to old new n
+Serves step bytes from to old new (Err desk.NoMemory) =
+    (rest : List ℕ) × (n : ℕ) × SoFar step bytes rest from to old new n
 
--- serving bytes to some state at which a keeper stands
-abbrev pub ServesTo : {C : Type 0} → (State C → Request → Reply → State C → Type 0) → List ℕ → State C → (stands : State C → Type 0) → (old new : Option (List ℕ)) → Result Served DeskFault → Type 0
-ServesTo {C} hears bytes from stands old new result = (to : State C) × Serves hears bytes from to old new result × stands to
+-- Serving known bytes up to a state that is represented after the call.
+abbrev pub ServesTo : {C : Type 0} → Transition C → List ℕ → State C → (stands : State C → Type 0)
+    → (old new : Option (List ℕ)) → Result Served DeskFault → Type 0
+ServesTo {C} step bytes from stands old new result =
+    (to : State C) × Serves step bytes from to old new result × stands to
 
--- serving bytes by a run of the machine
-abbrev pub IsServing : {C : Type 0} → (C → ℤ → C → Type 0) → List ℕ → State C → State C → (old new : Option (List ℕ)) → Result Served DeskFault → Type 0
+-- Serving known bytes by a run of the model, over a store that is honest.
+abbrev pub IsServing : {C : Type 0} → (C → ℤ → C → Type 0) → List ℕ → State C → State C
+    → (old new : Option (List ℕ)) → Result Served DeskFault → Type 0
 IsServing reads bytes from to old new result = Serves (Hears reads) bytes from to old new result
 
--- what is answered are the items of the stream in their order, from the first one on
-abbrev pub ServedItems : {C : Type 0} → (State C → Request → Reply → State C → Type 0) → Type 0
-ServedItems {C} hears =
+-- The items that are answered are the first items of the stream, in their order.
+abbrev pub ServedItems : {C : Type 0} → Transition C → Type 0
+ServedItems {C} step =
     (bytes : List ℕ) (from to : State C) (xs : List Exchange) (items : List Item)
-    → IsServed hears bytes from xs to → AreItems bytes items → (more : List Item) × (items ≡ map (λ x. x.item) xs ++ more)
+    → IsServed step bytes from xs to → AreItems bytes items → (more : List Item)
+    × (items ≡ map (λ x. x.item) xs ++ more)

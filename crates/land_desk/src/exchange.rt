@@ -1,17 +1,17 @@
-//! One request and its answer: the answer's bytes are made before a change is written.
-ghost use Rattle.std.specs.Prelude.{◌≡◌, ◌||◌, ◌⊎◌, true, false, MatchOption, IfOk, Result};
+//! Handles one request. The response is built before the change is committed, so that running out of memory
+//! for it changes nothing.
+ghost use Rattle.std.specs.Prelude.{◌≡◌, ◌||◌, ◌⊎◌, true, false, MatchOption, IfOk};
 ghost use Rattle.land_core.specs.Acts.{is_well_formed_request};
-ghost use Rattle.land_core.specs.declared.ask.Request.{Request as AskedRequest};
+ghost use Rattle.land_desk.specs.Keepers.{RespondsTo, RespondsToRequest};
 ghost use Rattle.land_desk.specs.Responses.{HasMoment};
-ghost use Rattle.land_desk.specs.Serving.{Brings, closes, Heard, HearsIf, Told};
-ghost use Rattle.land_desk.specs.Turns.{IsAnswer, answer_bytes};
+ghost use Rattle.land_desk.specs.Serving.{closes};
+ghost use Rattle.land_desk.specs.Turns.{IsResponseTo, answer_bytes};
 ghost use Rattle.land_keep.specs.Faults.{number_of as keep_number};
-ghost use Rattle.land_keep.specs.Keeping.{IsAt};
+ghost use Rattle.land_keep.specs.Keepers.{WasHonest};
 ghost use Rattle.land_keep.specs.Machine.{at_of};
 ghost use Rattle.land_keep.specs.declared.reply.Reply.TheVariants as reply;
 ghost use Rattle.land_wire.specs.Framing.FrameFaults.{number_of};
 ghost use Rattle.land_wire.specs.Laws.{IsStated};
-ghost use Rattle.land_wire_json.specs.Bodies.WireFaults.{Gives};
 
 use crate::response::{Medium, Status, body_text, response_bytes, store_response};
 use land_core::ask::Request;
@@ -24,62 +24,62 @@ use land_wire::framing::frame_fault::FrameFault;
 use land_wire_json::bodies::wire_fault::WireFault;
 use std::alloc::Global;
 
-/// The bytes of an answer.
+/// The bytes of a response.
 #[derive(Debug, Drop)]
 pub enum AnswerBytes {
-    /// Made for this reply.
-    Made(Vec<u8>),
-    /// Those of a store fault, which are always at hand.
-    Kept(&'static [u8]),
+    /// Built for this reply.
+    Owned(Vec<u8>),
+    /// A constant, for a store fault. Not allocated.
+    Static(&'static [u8]),
 }
 
 impl AnswerBytes {
-    /// The bytes.
+    /// Returns the bytes.
     pub fn as_slice(&self) -> &[u8]
         ensures { result.now ≡ answer_bytes self.now }
     {
         match self {
-            AnswerBytes::Made(bytes) => bytes.as_slice(),
-            AnswerBytes::Kept(bytes) => bytes,
+            AnswerBytes::Owned(bytes) => bytes.as_slice(),
+            AnswerBytes::Static(bytes) => bytes,
         }
     }
 }
 
-/// The bytes of an answer, and whether the connection ends after it.
+/// A response, and whether to close the connection after it.
 #[derive(Debug, Drop)]
-pub struct Answer {
-    /// What is written.
+pub struct Response {
+    /// The bytes to send.
     pub bytes: AnswerBytes,
-    /// Whether the connection ends.
-    pub last: bool,
+    /// Whether to close the connection after sending them.
+    pub close_after: bool,
 }
 
-/// Answers a request that was read, or the fault in it. Where there is no room for the answer's bytes it is 501, and
-/// nothing is changed.
-pub fn exchange<K: Keeper, C: Clock>(
+/// Handles a parsed request, or replies with the fault that parsing found.
+///
+/// If out of memory for the response, replies 501 and changes nothing. `ends`: the client or the item
+/// closes the connection. `head`: the method is HEAD, so the response has no body.
+pub fn handle<K: Keeper, C: Clock>(
     alloc: Global,
     keeper: &mut K,
     clock: &mut C,
     request: Result<Request, WireFault>,
     ends: bool,
     head: bool,
-) -> Answer
+) -> Response
     requires well_formed { IfOk request (λ asked. is_well_formed_request asked ≡ true) }
     requires moment { IfOk request (λ asked. IsStated (at_of asked.ask)) }
-    ensures told { (q : Result AskedRequest WireFault) → Gives (λ asked. asked) request q → Brings
-        (IsAt (K.honest keeper.old) (K.closed keeper.old) (K.timeline keeper.old) clock.old)
-        (IsAt (K.honest keeper.new) (K.closed keeper.new) (K.timeline keeper.new) clock.new)
-        (λ from to. (r : Reply) × Told (HearsIf (K.honest keeper.new) C.reads) q from r to × IsAnswer result r ends head) }
-    ensures was { K.honest keeper.new → K.honest keeper.old }
+    ensures reply { RespondsTo K.Keeper C.reads keeper.old clock.old keeper.new clock.new
+        request result ends head }
+    ensures was { WasHonest K.Keeper keeper.old keeper.new }
 {
     match request {
-        Err(WireFault::NoMemory) => failed(StoreFault::NoMemory, ends, head),
+        Err(WireFault::NoMemory) => store_failure(StoreFault::NoMemory, ends, head),
         Err(fault) => answered_or_failed(alloc, &Reply::Fault(fault.number()), ends, head),
         Ok(request) => exchange_request(alloc, keeper, clock, &request, ends, head),
     }
 }
 
-/// Answers a request that was read.
+/// Handles a parsed request: plans it, builds the response, commits.
 fn exchange_request<K: Keeper, C: Clock>(
     alloc: Global,
     keeper: &mut K,
@@ -87,80 +87,81 @@ fn exchange_request<K: Keeper, C: Clock>(
     request: &Request,
     ends: bool,
     head: bool,
-) -> Answer
+) -> Response
     requires well_formed { is_well_formed_request request.now ≡ true }
     requires moment { IsStated (at_of request.now.ask) }
-    ensures heard { Brings
-        (IsAt (K.honest keeper.old) (K.closed keeper.old) (K.timeline keeper.old) clock.old)
-        (IsAt (K.honest keeper.new) (K.closed keeper.new) (K.timeline keeper.new) clock.new)
-        (λ from to. (r : Reply) × Heard (HearsIf (K.honest keeper.new) C.reads) (Ok request.now) from r to × IsAnswer result r ends head) }
-    ensures was { K.honest keeper.new → K.honest keeper.old }
+    ensures reply { RespondsToRequest K.Keeper C.reads keeper.old clock.old keeper.new clock.new
+        request.now result ends head }
+    ensures was { WasHonest K.Keeper keeper.old keeper.new }
 {
     let reading = clock.read();
     let prepared = match prepare(alloc, keeper, reading, request) {
-        Err(fault) => return failed(fault, ends, head),
+        Err(fault) => return store_failure(fault, ends, head),
         Ok(prepared) => prepared,
     };
-    let Some(answer) = answered(alloc, prepared.reply(), ends, head) else {
-        return failed(StoreFault::NoMemory, ends, head);
+    let Some(answer) = try_respond(alloc, prepared.reply(), ends, head) else {
+        return store_failure(StoreFault::NoMemory, ends, head);
     };
     match finish(alloc, keeper, prepared) {
-        Err(fault) => failed(fault, ends, head),
+        Err(fault) => store_failure(fault, ends, head),
         Ok(_) => answer,
     }
 }
 
-/// Answers an item that is a fault of framing: the connection ends after it.
-pub fn refuse(alloc: Global, fault: FrameFault) -> Answer
-    ensures { (r : Reply) × ((r ≡ reply.Fault (number_of fault)) ⊎ (r ≡ reply.Store 501)) × IsAnswer result r true false }
+/// Builds the response to bytes that are not a well-framed request. It closes the connection.
+pub fn reject(alloc: Global, fault: FrameFault) -> Response
+    ensures { (r : Reply) × ((r ≡ reply.Fault (number_of fault)) ⊎ (r ≡ reply.Store 501))
+        × IsResponseTo result r true false }
 {
     answered_or_failed(alloc, &Reply::Fault(fault.number()), true, false)
 }
 
-fn answered_or_failed(alloc: Global, wanted: &Reply, ends: bool, head: bool) -> Answer
+/// Builds the response for a reply, or the one for 501 if out of memory.
+fn answered_or_failed(alloc: Global, wanted: &Reply, ends: bool, head: bool) -> Response
     requires { HasMoment wanted.now }
-    ensures { (r : Reply) × ((r ≡ wanted.now) ⊎ (r ≡ reply.Store 501)) × IsAnswer result r ends head }
+    ensures { (r : Reply) × ((r ≡ wanted.now) ⊎ (r ≡ reply.Store 501))
+        × IsResponseTo result r ends head }
 {
-    match answered(alloc, wanted, ends, head) {
+    match try_respond(alloc, wanted, ends, head) {
         Some(answer) => answer,
-        None => failed(StoreFault::NoMemory, ends, head),
+        None => store_failure(StoreFault::NoMemory, ends, head),
     }
 }
 
-/// The answer of a reply, or none where there is no room for its bytes.
-fn answered(alloc: Global, reply: &Reply, ends: bool, head: bool) -> Option<Answer>
+/// Builds the response for a reply, or returns `None` if out of memory.
+fn try_respond(alloc: Global, reply: &Reply, ends: bool, head: bool) -> Option<Response>
     requires { HasMoment reply.now }
-    ensures { MatchOption result (Unit {0}) (λ a. IsAnswer a reply.now ends head) }
+    ensures { MatchOption result (Unit {0}) (λ a. IsResponseTo a reply.now ends head) }
 {
-    let last = ends || closes(reply);
+    let close_after = ends || closes(reply);
     let text = body_text(alloc, reply).ok()?;
     let bytes = response_bytes(
         alloc,
         Status::of(reply),
         Medium::of(reply),
         text.as_str(),
-        last,
+        close_after,
         head,
     )
     .ok()?;
-    Some(Answer {
-        bytes: AnswerBytes::Made(bytes),
-        last,
+    Some(Response {
+        bytes: AnswerBytes::Owned(bytes),
+        close_after,
     })
 }
 
-/// The answer of a store fault, which wants no memory.
-fn failed(fault: StoreFault, ends: bool, head: bool) -> Answer
-    ensures { IsAnswer result (reply.Store (keep_number fault)) ends head }
+/// Returns the response to a store fault. Allocates nothing.
+fn store_failure(fault: StoreFault, ends: bool, head: bool) -> Response
+    ensures { IsResponseTo result (reply.Store (keep_number fault)) ends head }
 {
-    let last = ends || fault != StoreFault::NoMemory;
-    Answer {
-        bytes: AnswerBytes::Kept(store_response(fault.number(), last, head)),
-        last,
+    let close_after = ends || fault != StoreFault::NoMemory;
+    Response {
+        bytes: AnswerBytes::Static(store_response(fault.number(), close_after, head)),
+        close_after,
     }
 }
 
-/// Whether a reply ends the connection by itself.
+/// Checks whether a reply closes the connection: 502 and 503 do.
 fn closes(reply: &Reply) -> bool
     ensures { result ≡ closes reply.now }
 {

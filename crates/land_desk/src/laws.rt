@@ -1,17 +1,17 @@
-//! Laws, each stated over the definitions alone.
+//! Theorems about the definitions, without reference to code.
 ghost use Rattle.land_desk.specs.Responses.{OneResponse};
 ghost use Rattle.land_desk.specs.Serving.{Hears, ServedItems};
 
 use land_keep::clock::Clock;
 
-/// A reply has one response and no other.
+/// A reply has exactly one response.
 pub fn responses_are_unique()
     ensures { OneResponse }
 {
     land_sheet::laws::sheets_are_unique();
 }
 
-/// What is served are the stream's items in their order, from the first one on.
+/// The items that are served are the first items of the stream, in their order.
 pub fn served_items_are_those_of_the_stream<C: Clock>()
     ensures { ServedItems (Hears C.reads) }
 {}

@@ -1,4 +1,4 @@
-//! Requests of a stream answered one after another, and the bytes of the responses.
+//! The HTTP server: parses requests from byte streams, and answers them in order.
 #![tactic(auto)]
 
 pub mod exchange;

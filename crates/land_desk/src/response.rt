@@ -1,6 +1,7 @@
-//! The bytes of replies on the wire.
+//! Builds HTTP responses.
 ghost use Rattle.std.specs.Prelude.{◌≡◌, ℕ, IfOk, true, false, string_bytes};
-ghost use Rattle.land_desk.specs.Responses.{HasMoment, IsBody, IsResponse, medium_of, medium_text, response, status_of, status_text};
+ghost use Rattle.land_desk.specs.Responses.{HasMoment, IsBody, IsResponse, medium_of, medium_text, response};
+ghost use Rattle.land_desk.specs.Responses.{status_of, status_text};
 ghost use Rattle.land_keep.specs.declared.reply.Reply.TheVariants as reply;
 ghost use Rattle.land_wire.specs.Replies.{IsStoreFault};
 
@@ -9,23 +10,23 @@ use land_sheet::sheet::title_sheet;
 use land_wire::text::reply_text;
 use std::alloc::{AllocError, Global};
 
-/// The status of a reply (RFC 9110, section 15).
+/// The status of a response (RFC 9110, section 15).
 #[derive(Clone, Copy, Debug, PartialEq, Eq)]
 pub enum Status {
-    /// 200: an object, numbers, a title sheet, or an act that was done.
+    /// 200: an object, numbers, a title sheet, or the receipt of an act.
     Ok,
-    /// 400: a fault of the request.
+    /// 400: the request is malformed.
     BadRequest,
-    /// 403: a denial.
+    /// 403: a rule of the policy denies the request.
     Forbidden,
-    /// 409: a refusal.
+    /// 409: a business rule refuses the act.
     Conflict,
-    /// 503: a fault of the store.
+    /// 503: the store failed, or out of memory.
     Unavailable,
 }
 
 impl Status {
-    /// The status of a reply.
+    /// Returns the status for a reply.
     pub fn of(reply: &Reply) -> Status
         ensures { result ≡ status_of reply.now }
     {
@@ -38,7 +39,7 @@ impl Status {
         }
     }
 
-    /// Its code and phrase.
+    /// Returns its code and phrase.
     pub fn text(self) -> &'static str
         ensures { result.now ≡ status_text self }
     {
@@ -52,17 +53,17 @@ impl Status {
     }
 }
 
-/// What a body is written in (RFC 9110, section 8.3).
+/// The media type of a body (RFC 9110, section 8.3).
 #[derive(Clone, Copy, Debug, PartialEq, Eq)]
 pub enum Medium {
     /// JSON.
     Json,
-    /// A title sheet: plain text in UTF-8.
+    /// Plain text in UTF-8: a title sheet.
     Sheet,
 }
 
 impl Medium {
-    /// The medium of a reply.
+    /// Returns the media type for a reply.
     pub fn of(reply: &Reply) -> Medium
         ensures { result ≡ medium_of reply.now }
     {
@@ -72,7 +73,7 @@ impl Medium {
         }
     }
 
-    /// Its name.
+    /// Returns its name.
     pub fn text(self) -> &'static str
         ensures { result.now ≡ medium_text self }
     {
@@ -83,7 +84,7 @@ impl Medium {
     }
 }
 
-/// The body of a reply: JSON, or a title sheet. An error is a want of memory.
+/// Builds the body of a reply: JSON, or a title sheet. The error is out of memory.
 pub fn body_text(alloc: Global, reply: &Reply) -> Result<String, AllocError>
     requires { HasMoment reply.now }
     ensures { IfOk result (λ text. IsBody reply.now (string_bytes text)) }
@@ -94,8 +95,10 @@ pub fn body_text(alloc: Global, reply: &Reply) -> Result<String, AllocError>
     }
 }
 
-/// The bytes of a reply on the wire, with `body` as the reply's text: `closing` where the connection ends after it,
-/// `head` where the request was a HEAD, whose answer has no body.
+/// Builds the response with this body (RFC 9112, sections 4 and 5). The error is out of memory.
+///
+/// `closing`: the connection closes after it. `head`: the request is a HEAD, so only the length of the body
+/// is sent.
 #[tactic(auto, unfolding(crate::specs::Responses::response))]
 pub fn response_bytes(
     alloc: Global,
@@ -118,8 +121,10 @@ pub fn response_bytes(
     Ok(text.into_bytes())
 }
 
-/// The bytes on the wire of the reply that tells the store fault 501, 502 or 503, without memory, since it is sent
-/// where memory is wanting. `closing` and `head` are those of `response_bytes`.
+/// Returns the response for the store fault 501, 502 or 503. Allocates nothing, because it is sent if out of
+/// memory.
+///
+/// `closing` and `head` are those of `response_bytes`.
 pub fn store_response(number: u16, closing: bool, head: bool) -> &'static [u8]
     requires { IsStoreFault number }
     ensures { IsResponse (reply.Store number) closing head result.now }
@@ -133,41 +138,51 @@ pub fn store_response(number: u16, closing: bool, head: bool) -> &'static [u8]
     }
 }
 
-// The answer to a HEAD is the same for the three faults.
+/// Returns the response to a HEAD request, which is the same for the three faults.
 fn store_head(closing: bool) -> &'static str
-    ensures { (fault : ℕ) → IsStoreFault fault → IsResponse (reply.Store fault) closing true result.now }
+    ensures { (fault : ℕ) → IsStoreFault fault
+        → IsResponse (reply.Store fault) closing true result.now }
 {
     if closing {
-        "HTTP/1.1 503 Service Unavailable\r\nContent-Type: application/json\r\nContent-Length: 13\r\nConnection: close\r\n\r\n"
+        "HTTP/1.1 503 Service Unavailable\r\nContent-Type: application/json\r\nContent-Length: 13\r\n\
+        Connection: close\r\n\r\n"
     } else {
         "HTTP/1.1 503 Service Unavailable\r\nContent-Type: application/json\r\nContent-Length: 13\r\n\r\n"
     }
 }
 
+/// Returns the response for a store fault that closes the connection.
 fn last_store_response(number: u16) -> &'static str
     requires { IsStoreFault number }
     ensures { IsResponse (reply.Store number) true false result.now }
 {
     match number {
         501 =>
-            "HTTP/1.1 503 Service Unavailable\r\nContent-Type: application/json\r\nContent-Length: 13\r\nConnection: close\r\n\r\n{\"store\":501}",
+            "HTTP/1.1 503 Service Unavailable\r\nContent-Type: application/json\r\nContent-Length: 13\r\n\
+            Connection: close\r\n\r\n{\"store\":501}",
         502 =>
-            "HTTP/1.1 503 Service Unavailable\r\nContent-Type: application/json\r\nContent-Length: 13\r\nConnection: close\r\n\r\n{\"store\":502}",
+            "HTTP/1.1 503 Service Unavailable\r\nContent-Type: application/json\r\nContent-Length: 13\r\n\
+            Connection: close\r\n\r\n{\"store\":502}",
         _ =>
-            "HTTP/1.1 503 Service Unavailable\r\nContent-Type: application/json\r\nContent-Length: 13\r\nConnection: close\r\n\r\n{\"store\":503}",
+            "HTTP/1.1 503 Service Unavailable\r\nContent-Type: application/json\r\nContent-Length: 13\r\n\
+            Connection: close\r\n\r\n{\"store\":503}",
     }
 }
 
+/// Returns the response for a store fault that keeps the connection open.
 fn store_response_before_others(number: u16) -> &'static str
     requires { IsStoreFault number }
     ensures { IsResponse (reply.Store number) false false result.now }
 {
     match number {
         501 =>
-            "HTTP/1.1 503 Service Unavailable\r\nContent-Type: application/json\r\nContent-Length: 13\r\n\r\n{\"store\":501}",
+            "HTTP/1.1 503 Service Unavailable\r\nContent-Type: application/json\r\nContent-Length: 13\r\n\
+            \r\n{\"store\":501}",
         502 =>
-            "HTTP/1.1 503 Service Unavailable\r\nContent-Type: application/json\r\nContent-Length: 13\r\n\r\n{\"store\":502}",
+            "HTTP/1.1 503 Service Unavailable\r\nContent-Type: application/json\r\nContent-Length: 13\r\n\
+            \r\n{\"store\":502}",
         _ =>
-            "HTTP/1.1 503 Service Unavailable\r\nContent-Type: application/json\r\nContent-Length: 13\r\n\r\n{\"store\":503}",
+            "HTTP/1.1 503 Service Unavailable\r\nContent-Type: application/json\r\nContent-Length: 13\r\n\
+            \r\n{\"store\":503}",
     }
 }

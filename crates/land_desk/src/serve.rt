@@ -1,9 +1,10 @@
-//! Serving a stream: its items one after another, from their bytes to the bytes of their replies.
-ghost use Rattle.std.specs.Prelude.{◌≡◌, ◌≤◌, ◌<◌, ◌*◌, ◌⊎◌, length, IfErr, IfOk, IfSome};
-ghost use Rattle.land_desk.specs.Serving.{HearsIf, MovesTo, ServesTo};
-ghost use Rattle.land_desk.specs.Serving.Asking.{AsksFor, IfBoth, TakesAtMost};
-ghost use Rattle.land_desk.specs.Turns.{IsSpent};
-ghost use Rattle.land_keep.specs.Keeping.{IsAt};
+//! Serves a byte stream of HTTP requests.
+ghost use Rattle.std.specs.Prelude.{◌≡◌, ◌≤◌, ◌*◌, length};
+ghost use Rattle.land_desk.specs.Keepers.{Reaches, ServesStream};
+ghost use Rattle.land_desk.specs.Serving.Asking.{IfBoth, ReadsAtMost, ReadsOnlyItems};
+ghost use Rattle.land_desk.specs.Turns.{CountsFailedRead, IsSpent};
+ghost use Rattle.land_keep.specs.Keepers.{WasHonest};
+ghost use Rattle.land_wire.specs.Framing.Stream.{field_room};
 ghost use Rattle.land_wire.specs.Routes.Table.{FindsRoutes};
 
 use crate::turn::{Turn, take_turn};
@@ -17,26 +18,27 @@ use matchit::Router;
 use std::alloc::Global;
 use std::io::{Read, Write};
 
-/// What was served.
+/// The outcome of serving a stream.
 #[derive(Clone, Copy, Debug, PartialEq, Eq)]
 pub struct Served {
-    /// How many items were answered.
+    /// The number of replies sent.
     pub replies: u64,
 }
 
-/// Why serving broke off.
+/// Why serving a stream ended early.
 #[derive(Clone, Copy, Debug, PartialEq, Eq)]
 pub enum DeskFault {
     /// A read failed, or the reader was called 10,000,000 times.
     Read,
-    /// A write failed, or took no byte. A change whose reply could not be written stands.
+    /// A write failed, or accepted no bytes. The change of the reply that was being written is committed.
     Write,
-    /// There was no memory to keep the input.
+    /// Out of memory for the input.
     NoMemory,
 }
 
-/// Serves the items of a stream in order, until the stream ends or a reply closes the connection. Of a reader whose bytes are known at most
-/// 10,240,000,000 bytes are taken, 1024 at a time, and none after the last item.
+/// Answers the requests of a stream in order, until the input ends or a reply closes the connection.
+///
+/// Reads chunks of 1024 bytes, at most 10,000,000 of them, and never reads past the last item.
 pub fn serve<R: Read, W: Write, K: Keeper, C: Clock>(
     alloc: Global,
     reader: &mut R,
@@ -44,17 +46,12 @@ pub fn serve<R: Read, W: Write, K: Keeper, C: Clock>(
     keeper: &mut K,
     clock: &mut C,
 ) -> Result<Served, DeskFault>
-    ensures served { IfSome (R.remaining reader.old) (λ bytes. ServesTo (HearsIf (K.honest keeper.new) C.reads) bytes
-        (record { closed = K.closed keeper.old; timeline = K.timeline keeper.old; clock = clock.old })
-        (IsAt (K.honest keeper.new) (K.closed keeper.new) (K.timeline keeper.new) clock.new)
-        (W.contents writer.old) (W.contents writer.new) result) }
-    ensures moves { MovesTo (HearsIf (K.honest keeper.new) C.reads)
-        (record { closed = K.closed keeper.old; timeline = K.timeline keeper.old; clock = clock.old })
-        (IsAt (K.honest keeper.new) (K.closed keeper.new) (K.timeline keeper.new) clock.new) }
-    ensures was { K.honest keeper.new → K.honest keeper.old }
-    ensures asked { IfBoth (R.remaining reader.old) (R.remaining reader.new)
-        (λ bytes left. IfOk result (λ served. AsksFor served.replies bytes left)) }
-    ensures bound { IfBoth (R.remaining reader.old) (R.remaining reader.new) (TakesAtMost (1024 * 10000000)) }
+    ensures served { ServesStream K.Keeper C.reads keeper.old clock.old keeper.new clock.new
+        (R.remaining reader.old) (W.contents writer.old) (W.contents writer.new) result }
+    ensures reached { Reaches K.Keeper C.reads keeper.old clock.old keeper.new clock.new }
+    ensures was { WasHonest K.Keeper keeper.old keeper.new }
+    ensures reads { ReadsOnlyItems (R.remaining reader.old) (R.remaining reader.new) result }
+    ensures budget { ReadsAtMost (1024 * 10000000) (R.remaining reader.old) (R.remaining reader.new) }
 {
     let Ok(router) = routes(alloc) else {
         return Err(DeskFault::NoMemory);
@@ -74,7 +71,8 @@ pub fn serve<R: Read, W: Write, K: Keeper, C: Clock>(
     )
 }
 
-/// Serves a stream whose reader may be called `left` times more, at most 10,000,000 times.
+/// Serves a stream with a router and header spans that are allocated once. `reader.left`: the calls of the
+/// reader that are left.
 fn serve_items<R: Read, W: Write, K: Keeper, C: Clock>(
     alloc: Global,
     router: &Router<Goal>,
@@ -85,22 +83,18 @@ fn serve_items<R: Read, W: Write, K: Keeper, C: Clock>(
     headers: &mut [HeaderSpan],
 ) -> Result<Served, DeskFault>
     requires routed { FindsRoutes router.now }
-    requires room { 2731 ≤ length headers.old }
+    requires room { field_room ≤ length headers.old }
     requires budget { reader.old.left ≤ 10000000 }
-    ensures served { IfSome (R.remaining reader.old.reader.now) (λ bytes. ServesTo (HearsIf (K.honest keeper.new) C.reads) bytes
-        (record { closed = K.closed keeper.old; timeline = K.timeline keeper.old; clock = clock.old })
-        (IsAt (K.honest keeper.new) (K.closed keeper.new) (K.timeline keeper.new) clock.new)
-        (W.contents writer.old) (W.contents writer.new) result) }
-    ensures moves { MovesTo (HearsIf (K.honest keeper.new) C.reads)
-        (record { closed = K.closed keeper.old; timeline = K.timeline keeper.old; clock = clock.old })
-        (IsAt (K.honest keeper.new) (K.closed keeper.new) (K.timeline keeper.new) clock.new) }
-    ensures was { K.honest keeper.new → K.honest keeper.old }
-    ensures asked { IfBoth (R.remaining reader.old.reader.now) (R.remaining reader.new.reader.now)
-        (λ bytes left. IfOk result (λ served. AsksFor served.replies bytes left)) }
-    ensures bound { IfBoth (R.remaining reader.old.reader.now) (R.remaining reader.new.reader.now)
+    ensures served { ServesStream K.Keeper C.reads keeper.old clock.old keeper.new clock.new
+        (R.remaining reader.old.reader.now) (W.contents writer.old) (W.contents writer.new) result }
+    ensures reached { Reaches K.Keeper C.reads keeper.old clock.old keeper.new clock.new }
+    ensures was { WasHonest K.Keeper keeper.old keeper.new }
+    ensures reads { ReadsOnlyItems (R.remaining reader.old.reader.now)
+        (R.remaining reader.new.reader.now) result }
+    ensures budget { IfBoth (R.remaining reader.old.reader.now) (R.remaining reader.new.reader.now)
         (IsSpent (1024 * reader.old.left) (1024 * reader.new.left)) }
     ensures same_reference { reader.new.reader.ghost_name ≡ reader.old.reader.ghost_name }
-    ensures failed { IfErr result (λ fault. fault ≡ DeskFault.Read → (reader.new.left ≡ 0) ⊎ (reader.new.left < reader.old.left)) }
+    ensures read_fault { CountsFailedRead reader.old.left reader.new.left result }
 {
     let mut buffer = Vec::new(alloc);
     let mut replies = 0;
@@ -116,13 +110,13 @@ fn serve_items<R: Read, W: Write, K: Keeper, C: Clock>(
             headers,
         ) {
             Err(fault) => return Err(fault),
-            Ok(Turn::End) => return Ok(Served { replies }),
-            Ok(Turn::Last) => {
+            Ok(Turn::Eof) => return Ok(Served { replies }),
+            Ok(Turn::Close) => {
                 return Ok(Served {
                     replies: replies + 1,
                 });
             }
-            Ok(Turn::More) => replies += 1,
+            Ok(Turn::KeepAlive) => replies += 1,
         }
     }
 }

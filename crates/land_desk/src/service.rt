@@ -1,4 +1,4 @@
-//! Serving connections one after another over one keeper, with the machine's clock.
+//! Serves TCP connections one at a time, with the system clock.
 
 pub mod callers;
 pub mod connections;

@@ -1,23 +1,24 @@
-//! One turn of serving a stream: the item at its front, from its bytes to the bytes of its reply.
-ghost use Rattle.std.specs.Prelude.{◌≡◌, ◌≤◌, ◌<◌, ◌+◌, ◌*◌, ◌++◌, ◌⊎◌, ℕ, List, length, take, drop, IfErr, IfSome, IfOk, true};
+//! Serves the first item of a stream, from its bytes to the bytes of its response.
+ghost use Rattle.std.specs.Prelude.{◌≡◌, ◌≤◌, ◌+◌, length, take, drop, IfOk, true};
 ghost use Rattle.std.specs.Io.KnownBytes.{prepend_known};
 ghost use Rattle.httparse.specs.Grammar.{RequestHead};
 ghost use Rattle.httparse.specs.Spans.{IsRequestAt, span_bytes};
 ghost use Rattle.land_core.specs.Acts.{is_well_formed_request};
-ghost use Rattle.land_desk.specs.Serving.{Brings, HearsIf, MayHear};
-ghost use Rattle.land_desk.specs.Serving.Asking.{IfBoth};
-ghost use Rattle.land_desk.specs.Turns.{IsAsked, IsSpent, IsTurn, IsWritten, Spoken, answer_bytes};
-ghost use Rattle.land_keep.specs.Keeping.{IsAt};
+ghost use Rattle.land_desk.specs.Keepers.{AnswersRequest, ServesFirst, StepsAtMostOnce};
+ghost use Rattle.land_desk.specs.Turns.{CountsFailedRead, IsWritten, MakesProgress, ReadsOnlyItem};
+ghost use Rattle.land_desk.specs.Turns.{StaysWithinBudget, answer_bytes};
+ghost use Rattle.land_keep.specs.Keepers.{WasHonest};
 ghost use Rattle.land_keep.specs.Machine.{at_of};
 ghost use Rattle.land_wire.specs.Fields.{field_map};
 ghost use Rattle.land_wire.specs.Framing.Frame.{fields_of};
 ghost use Rattle.land_wire.specs.Framing.Items.{IsRequestIn};
+ghost use Rattle.land_wire.specs.Framing.Stream.{field_room};
 ghost use Rattle.land_wire.specs.Laws.{IsStated};
 ghost use Rattle.land_wire.specs.Reading.{reading};
 ghost use Rattle.land_wire.specs.Routes.Table.{FindsRoutes};
 ghost use Rattle.land_wire_json.specs.Bodies.WireFaults.{Gives};
 
-use crate::exchange::{Answer, exchange, refuse};
+use crate::exchange::{Response, handle, reject};
 use crate::serve::DeskFault;
 use httparse::spans::{HeaderSpan, RequestSpans};
 use land_core::ask::Request;
@@ -37,19 +38,20 @@ use matchit::Router;
 use std::alloc::Global;
 use std::io::{Read, Write};
 
-/// How a turn ended.
+/// What to do after an item was served.
 #[derive(Clone, Copy, Debug, PartialEq, Eq)]
 pub enum Turn {
-    /// No byte was left.
-    End,
-    /// A reply was given after which the connection ends.
-    Last,
-    /// A reply was given, and the connection goes on.
-    More,
+    /// Nothing: the input ended.
+    Eof,
+    /// Close the connection: its last response was sent.
+    Close,
+    /// Keep the connection open: a response was sent.
+    KeepAlive,
 }
 
-/// Serves the item at the front of what the buffer holds and the reader has left, which is not asked once the item is
-/// there. The bytes of a request that was answered are dropped from the buffer.
+/// Serves the first item of `buffer` followed by the bytes of `reader`, and removes its bytes from `buffer`.
+///
+/// Does not read once the item is complete. Errors: those of `DeskFault`.
 pub(crate) fn take_turn<R: Read, W: Write, K: Keeper, C: Clock>(
     alloc: Global,
     router: &Router<Goal>,
@@ -61,58 +63,54 @@ pub(crate) fn take_turn<R: Read, W: Write, K: Keeper, C: Clock>(
     headers: &mut [HeaderSpan],
 ) -> Result<Turn, DeskFault>
     requires routed { FindsRoutes router.now }
-    requires room { 2731 ≤ length headers.old }
+    requires room { field_room ≤ length headers.old }
     ensures room { length headers.new ≡ length headers.old }
-    ensures turn { IfSome (prepend_known buffer.old.items (R.remaining reader.old.reader.now)) (λ bytes. Brings
-        (IsAt (K.honest keeper.old) (K.closed keeper.old) (K.timeline keeper.old) clock.old)
-        (IsAt (K.honest keeper.new) (K.closed keeper.new) (K.timeline keeper.new) clock.new)
-        (λ from to. IsTurn (HearsIf (K.honest keeper.new) C.reads) bytes from to
+    ensures turn { ServesFirst K.Keeper C.reads keeper.old clock.old keeper.new clock.new
+        (prepend_known buffer.old.items (R.remaining reader.old.reader.now))
         (prepend_known buffer.new.items (R.remaining reader.new.reader.now))
-        (W.contents writer.old) (W.contents writer.new) result)) }
-    ensures hears { Brings
-        (IsAt (K.honest keeper.old) (K.closed keeper.old) (K.timeline keeper.old) clock.old)
-        (IsAt (K.honest keeper.new) (K.closed keeper.new) (K.timeline keeper.new) clock.new)
-        (MayHear (HearsIf (K.honest keeper.new) C.reads)) }
-    ensures was { K.honest keeper.new → K.honest keeper.old }
-    ensures asked { length buffer.old.items ≤ 1024 → IfBoth (prepend_known buffer.old.items (R.remaining reader.old.reader.now))
-        (R.remaining reader.new.reader.now) (λ bytes left. IsAsked bytes buffer.new.items left result) }
-    ensures bound { IfBoth (prepend_known buffer.old.items (R.remaining reader.old.reader.now))
-        (prepend_known buffer.new.items (R.remaining reader.new.reader.now))
-        (IsSpent (length buffer.old.items + 1024 * reader.old.left) (length buffer.new.items + 1024 * reader.new.left)) }
+        (W.contents writer.old) (W.contents writer.new) result }
+    ensures step { StepsAtMostOnce K.Keeper C.reads keeper.old clock.old keeper.new clock.new }
+    ensures was { WasHonest K.Keeper keeper.old keeper.new }
+    ensures reads { ReadsOnlyItem buffer.old.items buffer.new.items
+        (R.remaining reader.old.reader.now) (R.remaining reader.new.reader.now) result }
+    ensures budget { StaysWithinBudget buffer.old.items buffer.new.items
+        (R.remaining reader.old.reader.now) (R.remaining reader.new.reader.now)
+        reader.old.left reader.new.left }
     ensures same_reference { reader.new.reader.ghost_name ≡ reader.old.reader.ghost_name }
     ensures fewer { reader.new.left ≤ reader.old.left }
-    ensures progress { IfOk result (λ turn. turn ≡ Turn.More
-        → length buffer.new.items + 1024 * reader.new.left < length buffer.old.items + 1024 * reader.old.left) }
-    ensures failed { IfErr result (λ fault. fault ≡ DeskFault.Read → (reader.new.left ≡ 0) ⊎ (reader.new.left < reader.old.left)) }
+    ensures progress { MakesProgress buffer.old.items buffer.new.items
+        reader.old.left reader.new.left result }
+    ensures read_fault { CountsFailedRead reader.old.left reader.new.left result }
 {
     match read_item(reader, buffer, headers) {
         Err(StreamFault::Read) => Err(DeskFault::Read),
         Err(StreamFault::NoMemory) => Err(DeskFault::NoMemory),
-        Ok(Front::End) => Ok(Turn::End),
-        Ok(Front::Fault(fault)) => say(writer, &refuse(alloc, fault)),
+        Ok(Front::End) => Ok(Turn::Eof),
+        Ok(Front::Fault(fault)) => write_response(writer, &reject(alloc, fault)),
         Ok(Front::Request(spans, length)) => {
             let answer = answer_request(
                 alloc, router, keeper, clock, buffer, headers, spans, length,
             );
-            let turn = say(writer, &answer);
+            let turn = write_response(writer, &answer);
             drop_front(buffer, spans.len + length);
             turn
         }
     }
 }
 
-/// Writes an answer.
-fn say<W: Write>(writer: &mut W, answer: &Answer) -> Result<Turn, DeskFault>
-    ensures { IsWritten (answer_bytes answer.now.bytes) answer.now.last (W.contents writer.old) (W.contents writer.new) result }
+/// Writes a response.
+fn write_response<W: Write>(writer: &mut W, answer: &Response) -> Result<Turn, DeskFault>
+    ensures { IsWritten (answer_bytes answer.now.bytes) answer.now.close_after
+        (W.contents writer.old) (W.contents writer.new) result }
 {
     match send(writer, answer.bytes.as_slice()) {
         Err(_) => Err(DeskFault::Write),
-        Ok(()) if answer.last => Ok(Turn::Last),
-        Ok(()) => Ok(Turn::More),
+        Ok(()) if answer.close_after => Ok(Turn::Close),
+        Ok(()) => Ok(Turn::KeepAlive),
     }
 }
 
-/// Answers the request that stands at the front of the buffer.
+/// Answers the request at the start of the buffer.
 fn answer_request<K: Keeper, C: Clock>(
     alloc: Global,
     router: &Router<Goal>,
@@ -122,22 +120,20 @@ fn answer_request<K: Keeper, C: Clock>(
     headers: &[HeaderSpan],
     spans: RequestSpans,
     length: usize,
-) -> Answer
+) -> Response
     requires routed { FindsRoutes router.now }
     requires at_front { IsRequestIn buffer.now headers.now spans length }
-    ensures spoken { (more : List ℕ) → Brings
-        (IsAt (K.honest keeper.old) (K.closed keeper.old) (K.timeline keeper.old) clock.old)
-        (IsAt (K.honest keeper.new) (K.closed keeper.new) (K.timeline keeper.new) clock.new)
-        (λ from to. Spoken (HearsIf (K.honest keeper.new) C.reads) (buffer.now ++ more) from result (drop (spans.len + length) buffer.now ++ more) to) }
-    ensures was { K.honest keeper.new → K.honest keeper.old }
+    ensures spoken { AnswersRequest K.Keeper C.reads keeper.old clock.old keeper.new clock.new
+        buffer.now (spans.len + length) result }
+    ensures was { WasHonest K.Keeper keeper.old keeper.new }
 {
     let request = request_at(alloc, router, buffer, headers, &spans, length);
-    let last = ends(&spans, buffer, headers);
+    let close_after = ends(&spans, buffer, headers);
     let head = is_head(&spans, buffer, headers);
-    exchange(alloc, keeper, clock, request, last, head)
+    handle(alloc, keeper, clock, request, close_after, head)
 }
 
-/// The request that stands at the front of the buffer, or its first fault.
+/// Parses the request at the start of the buffer, or returns its first fault.
 fn request_at(
     alloc: Global,
     router: &Router<Goal>,
@@ -149,7 +145,8 @@ fn request_at(
     requires routed { FindsRoutes router.now }
     requires at_front { IsRequestIn buffer.now headers.now spans.now length }
     ensures reads { (h : RequestHead) → IsRequestAt buffer.now headers.now spans.now h
-        → Gives (λ asked. asked) result (reading h.method h.target (field_map (fields_of h)) (take length (drop spans.now.len buffer.now))) }
+        → Gives (λ asked. asked) result (reading h.method h.target (field_map (fields_of h))
+        (take length (drop spans.now.len buffer.now))) }
     ensures well_formed { IfOk result (λ asked. is_well_formed_request asked ≡ true) }
     ensures moment { IfOk result (λ asked. IsStated (at_of asked.ask)) }
 {
@@ -160,7 +157,7 @@ fn request_at(
     read_routed(alloc, router, method, target, caller, body)
 }
 
-/// The target of the request that stands at the front of the buffer, which is UTF-8 as every head's is.
+/// Returns the request target. It is valid UTF-8, because reading the head rejected any other.
 fn target_at<'b>(
     buffer: &'b [u8],
     headers: &[HeaderSpan],

@@ -1,4 +1,4 @@
-//! Connections that a test makes, and what is to be told on each.
+//! Test connections, each with its expected output.
 ghost use Rattle.std.specs.Prelude.{◌≡◌, List, Some, length, map, take};
 ghost use Rattle.land_desk.specs.Service.{AreWanted, Connection};
 
@@ -13,23 +13,24 @@ use std::alloc::{AllocError, Global};
 use std::io;
 use std::slice::IterMut;
 
-/// Anna is enrolled, and the connection ends.
+/// A request that enrols Anna and closes the connection.
 pub const ENROL: &[u8] =
     b"POST /acts/enrol HTTP/1.1\r\nRegister-Party: 1\r\nRegister-Role: stateAdministrator\r\nContent-Length: 38\r\nConnection: close\r\n\r\n{\"kind\":\"naturalPerson\",\"name\":\"Anna\"}";
 
+/// The response to `ENROL` in a new register.
 pub const ENROLLED: &[u8] =
     b"HTTP/1.1 200 OK\r\nContent-Type: application/json\r\nContent-Length: 36\r\nConnection: close\r\n\r\n{\"made\":[2],\"number\":2,\"stamp\":1000}";
 
-/// The same, of the next party.
+/// The response to a second `ENROL`.
 const ENROLLED_NEXT: &[u8] =
     b"HTTP/1.1 200 OK\r\nContent-Type: application/json\r\nContent-Length: 36\r\nConnection: close\r\n\r\n{\"made\":[3],\"number\":3,\"stamp\":1001}";
 
-/// What is told of a request that is cut.
+/// The response to a truncated request: 144.
 pub const CUT: &[u8] =
     b"HTTP/1.1 400 Bad Request\r\nContent-Type: application/json\r\nContent-Length: 13\r\nConnection: close\r\n\r\n{\"fault\":144}";
 
-/// A connection: what it brings, how often it can be read, how often it can be written to, what is told on it, and whether it is ended
-/// then, or has broken off.
+/// A connection: its input, the number of reads and of writes after which it fails, its expected output, and
+/// whether it is closed by the server or dropped.
 pub struct Call {
     pub brings: &'static [u8],
     pub reads: u64,
@@ -38,7 +39,8 @@ pub struct Call {
     pub is_ended: bool,
 }
 
-/// A whole request, one that is cut in its head, one that breaks off in its body, one whose reply breaks off, and a whole one.
+/// A whole request, one truncated in its head, one dropped in its body, one dropped in its reply, and a whole
+/// one.
 pub const CALLS: &[Call] = &[
     Call {
         brings: ENROL,
@@ -77,7 +79,7 @@ pub const CALLS: &[Call] = &[
     },
 ];
 
-/// Connections that a test makes, each with its own writer.
+/// A source of test connections, each with its own writer.
 #[derive(Drop)]
 pub struct Calls<'a> {
     pub calls: &'static [Call],
@@ -107,13 +109,13 @@ impl<'a> Connections for Calls<'a> {
         Ok((reader, sink))
     }
 
-    fn end(_reader: &mut Pieces<'static>, writer: &mut &'a mut Sink) {
+    fn close_connection(_reader: &mut Pieces<'static>, writer: &mut &'a mut Sink) {
         writer.is_ended = true;
     }
 }
 
-/// Serves `connections` connections whose bytes are known over a new register. As many are served as requested, unless the service ends
-/// early; their bytes are those of the first ones, in order.
+/// Serves this number of connections with known inputs on a new register. As many are served as requested,
+/// unless the service ends early. Their inputs are those of the first connections, in order.
 pub fn serve_calls(
     alloc: Global,
     calls: &mut Calls<'_>,
@@ -127,7 +129,7 @@ pub fn serve_calls(
     serve_connections(alloc, calls, connections, keeper, clock)
 }
 
-/// Writers for these connections.
+/// Creates a writer for each of these connections.
 pub fn sinks(alloc: Global, calls: &[Call]) -> Result<Vec<Sink>, AllocError> {
     let mut sinks = Vec::new(alloc);
     for call in calls {
@@ -138,7 +140,7 @@ pub fn sinks(alloc: Global, calls: &[Call]) -> Result<Vec<Sink>, AllocError> {
     Ok(sinks)
 }
 
-/// This was told on a connection. A reply of 501, or one that is missing, stops the test for want of memory.
+/// Checks the output of a connection. If a reply is 501 or is missing, the test stops with out of memory.
 pub fn expect_told(place: usize, taken: &[u8], wanted: &[u8]) -> Result<(), Stop> {
     let same = common(taken, wanted);
     if same == taken.len() && same < wanted.len() {
@@ -150,7 +152,7 @@ pub fn expect_told(place: usize, taken: &[u8], wanted: &[u8]) -> Result<(), Stop
     expect(taken == wanted, "connections", place)
 }
 
-/// On each connection was told what it is to be, and those that were served are ended.
+/// Checks the output of each connection, and that those which were served are closed.
 pub fn expect_all_told(calls: &[Call], sinks: &[Sink]) -> Result<(), Stop> {
     for (place, (call, sink)) in calls.iter().zip(sinks.iter()).enumerate() {
         expect_told(place, &sink.taken, call.told)?;

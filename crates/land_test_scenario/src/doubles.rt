@@ -1,11 +1,12 @@
-//! A reader, a writer and a clock that a test sets.
+//! Test doubles of a reader, a writer and a clock.
 ghost use Rattle.std.specs.Prelude.{Some};
 
 use land_keep::clock::Clock;
 use std::io;
 use std::io::{Read, Write};
 
-/// A reader of known bytes. It returns at most `piece` bytes at a time, one at least, and fails after `reads` calls.
+/// A reader of known bytes. Returns at most `piece` bytes at a time, at least one, and fails after `reads`
+/// calls.
 #[derive(Drop)]
 pub struct Pieces<'a> {
     pub left: &'a [u8],
@@ -29,8 +30,8 @@ impl Read for Pieces<'_> {
     }
 }
 
-/// A writer that takes at most `piece` bytes at a time, `writes` times, and then fails or takes none. It knows whether its connection was
-/// ended.
+/// A writer that accepts at most `piece` bytes at a time, `writes` times, and then fails or accepts none.
+/// Records whether its connection was closed.
 #[derive(Drop)]
 pub struct Sink {
     pub taken: Vec<u8>,
@@ -59,7 +60,7 @@ impl Write for Sink {
     }
 }
 
-/// A clock that reads these moments in turn, and then 1000 each time.
+/// A clock that reads these moments in order, and then always 1000.
 #[derive(Clone, Copy)]
 pub struct Readings {
     pub left: &'static [i64],

@@ -1,4 +1,4 @@
-//! The first step of the scenario, as it is asked, and its bytes.
+//! The first step of the scenario, as a request and as bytes.
 use land_core::act::{Act, Enrol};
 use land_core::ask::{Ask, Request};
 use land_core::caller::Caller;
@@ -11,20 +11,21 @@ use land_keep::machine::answer;
 use land_keep::reply::Reply;
 use std::alloc::{AllocError, Global};
 
+/// The land office, as a caller.
 const OFFICE: Caller = Caller {
     party: 1,
     role: Role::StateAdministrator,
 };
 
-/// The bytes that ask for it.
+/// The bytes of the request.
 pub const ENROL_ANNA: &[u8] =
     b"POST /acts/enrol HTTP/1.1\r\nRegister-Party: 1\r\nRegister-Role: stateAdministrator\r\nContent-Length: 38\r\n\r\n{\"kind\":\"naturalPerson\",\"name\":\"Anna\"}";
 
-/// The bytes that tell of it.
+/// The bytes of the response.
 pub const ANNA_IS_ENROLLED: &[u8] =
     b"HTTP/1.1 200 OK\r\nContent-Type: application/json\r\nContent-Length: 36\r\n\r\n{\"made\":[2],\"number\":2,\"stamp\":1000}";
 
-/// The office enrols Anna.
+/// Builds the request: the office enrols Anna.
 pub fn first_request(alloc: Global) -> Result<Request, AllocError> {
     let name = Text::new(String::from_str(alloc, "Anna")?);
     let kind = PartyKind::NaturalPerson;
@@ -34,12 +35,13 @@ pub fn first_request(alloc: Global) -> Result<Request, AllocError> {
     })
 }
 
-/// Whether she is party 2 from 1000 on.
+/// Checks that the receipt is of party 2 at 1000.
 fn is_first(done: &Done) -> bool {
     done.number == 2 && done.stamp == 1000 && done.made.as_slice() == [2u64].as_slice()
 }
 
-/// The store fault that the caller of the first step is told, 0 where Anna is enrolled as the scenario has it, 1 where anything else is told.
+/// Runs the first step and returns the number of the store fault, 0 if Anna is enrolled as expected, or 1
+/// otherwise.
 pub fn first_fault<K: Keeper>(alloc: Global, keeper: &mut K, request: &Request) -> u16 {
     if !request.is_well_formed() {
         return 1;

@@ -1,6 +1,6 @@
-//! The scenario: steps from a new register to a garden of which a part has become an orchard, with what is told of each, and what the
-//! tables have after it. Tests of several crates play it over a keeper, as a stream of requests, and compare every byte of the replies.
-//! Nothing here has a contract: it says what an office is asked and told, and is for tests alone.
+//! The scenario: steps from a new register to a garden of which a part has become an orchard, with the
+//! expected reply to each, and the expected rows of the tables after it. Tests of several crates run it on a
+//! keeper, as a stream of requests, and compare every byte of the replies. For tests only, without contracts.
 #![tactic(auto)]
 
 pub mod calls;

@@ -4,7 +4,7 @@ use sqlite::types::ValueRef;
 use sqlite::{Alter, Connection, Row};
 use std::alloc::Global;
 
-/// A cell as text.
+/// Writes a cell as text.
 fn write_cell(text: &mut String, cell: ValueRef<'_>) -> Result<(), Stop> {
     match cell {
         ValueRef::Null => text.push_str("-")?,
@@ -18,7 +18,7 @@ fn write_cell(text: &mut String, cell: ValueRef<'_>) -> Result<(), Stop> {
     Ok(())
 }
 
-/// A row as a line: its cells, each with a bar after it.
+/// Writes a row as a line: its cells, each with a bar after it.
 fn write_row(text: &mut String, row: &Row) -> Result<(), Stop> {
     for place in 0..row.column_count() {
         write_cell(text, row.get_ref(place)?)?;
@@ -28,7 +28,7 @@ fn write_row(text: &mut String, row: &Row) -> Result<(), Stop> {
     Ok(())
 }
 
-/// The rows that a query gives, as lines; NULL is a dash.
+/// Runs a query and returns its rows as lines. NULL is a dash.
 pub fn lines<S: Alter>(
     alloc: Global,
     conn: &mut Connection<S>,

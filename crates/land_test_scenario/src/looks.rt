@@ -1,12 +1,13 @@
-//! What the tables have after the scenario, as the program `sqlite3` would show it.
+//! The expected rows of the tables after the scenario, as `sqlite3` prints them.
 use crate::lines::lines;
 use crate::stop::{Stop, expect};
 use sqlite::{Alter, Connection};
 use std::alloc::Global;
 
-/// A query, and the rows that it gives, as lines.
+/// A query, and its expected rows as lines.
 pub struct Look(pub &'static str, pub &'static str);
 
+/// The queries after `STEPS`.
 const LOOKS: &[Look] = &[
     Look("SELECT id, version FROM edition", "1|2|\n"),
     Look(
@@ -114,7 +115,7 @@ const LOOKS: &[Look] = &[
         20|9|1014|4102444800000|\n\
         23|9|1016|4102444800000|\n",
     ),
-    // who held what in the garden before the quarter was sold, and what its approval did
+    // the holders in the garden before the quarter was sold, and the effect of its approval
     Look(
         "SELECT rrr.number, rrr.class, rrr.num, rrr.den, party.name
            FROM rrr JOIN party ON party.number = rrr.party
@@ -134,7 +135,7 @@ const LOOKS: &[Look] = &[
     ),
 ];
 
-/// What changes after that.
+/// The queries after `MORE`: the rows that changed.
 const MORE_LOOKS: &[Look] = &[
     Look(
         "SELECT stamp, next FROM moments WHERE stamp > 1016 ORDER BY stamp",
@@ -202,12 +203,13 @@ const MORE_LOOKS: &[Look] = &[
     ),
 ];
 
+/// Checks that a query returns its expected rows.
 fn gives<S: Alter>(alloc: Global, conn: &mut Connection<S>, look: &Look) -> Result<bool, Stop> {
     let found = lines(alloc, conn, look.0)?;
     Ok(found.as_str() == look.1)
 }
 
-/// Looks at the rows of a store: each query gives its rows.
+/// Checks that each query returns its expected rows.
 pub fn look_at<S: Alter>(
     alloc: Global,
     conn: &mut Connection<S>,
@@ -219,12 +221,12 @@ pub fn look_at<S: Alter>(
     Ok(())
 }
 
-/// Looks at the rows after the scenario.
+/// Checks the rows after `STEPS`.
 pub fn look_at_steps<S: Alter>(alloc: Global, conn: &mut Connection<S>) -> Result<(), Stop> {
     look_at(alloc, conn, LOOKS)
 }
 
-/// Looks at what has changed after what comes after the scenario.
+/// Checks the rows that `MORE` changed.
 pub fn look_at_more<S: Alter>(alloc: Global, conn: &mut Connection<S>) -> Result<(), Stop> {
     look_at(alloc, conn, MORE_LOOKS)
 }

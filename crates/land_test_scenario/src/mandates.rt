@@ -1,14 +1,14 @@
-//! Mandates: what is told where the first twelve steps of the scenario were made.
+//! Mandates after the first twelve steps of the scenario, with the expected replies.
 use crate::talk::Told::{Denied, Refused, Shown};
 use crate::talk::{ANNA, BEN, NORA, NOTARY, Row};
 
-/// The bank, looking after its own holdings.
+/// The bank as a citizen, for its own holdings.
 const BANK_ITSELF: &str = "Register-Party: 4\r\nRegister-Role: citizen\r\n";
 
 /// The end of Anna's mandate to Nora.
 const WITHDRAWAL: &[u8] = br#"{"principal":2,"agent":5}"#;
 
-/// Mandates are given and withdrawn after twelve steps, and a citizen sees by them.
+/// Steps that give and withdraw mandates after twelve steps, and reads by an agent.
 pub const MANDATES: &[Row] = &[
     Row(
         "POST /acts/mandate",

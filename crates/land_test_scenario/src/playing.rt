@@ -1,4 +1,4 @@
-//! Requests that are played over a keeper.
+//! Runs the scenario on a keeper.
 use crate::doubles::{Pieces, Readings, Sink};
 use crate::scenario::{MORE, STEPS};
 use crate::stop::Stop;
@@ -8,15 +8,15 @@ use land_keep::keeper::Keeper;
 use land_keep::plain_keeper::PlainKeeper;
 use std::alloc::{AllocError, Global};
 
-/// The head of the reply that tells of want of memory, after its first 9 bytes.
+/// The head of the response for 501, after its first 9 bytes.
 const NO_ROOM: &[u8] =
     b"503 Service Unavailable\r\nContent-Type: application/json\r\nContent-Length: 13\r\n\r\n";
 
-/// The same, where the connection ends after it.
+/// The same, if the connection closes after it.
 const LAST_NO_ROOM: &[u8] =
     b"503 Service Unavailable\r\nContent-Type: application/json\r\nContent-Length: 13\r\nConnection: close\r\n\r\n";
 
-/// Whether this begins with such a head and its text, or, as a HEAD is told, the head alone.
+/// Checks for such a head with its body, or without it as for a HEAD request.
 fn begins_with_no_room(rest: &[u8], head: &[u8]) -> bool {
     match rest.strip_prefix(head) {
         Some(text) => {
@@ -28,7 +28,7 @@ fn begins_with_no_room(rest: &[u8], head: &[u8]) -> bool {
     }
 }
 
-/// Whether serving came to an end for want of memory, or the first reply that is not as it was to be tells of it.
+/// Checks whether serving ran out of memory, or the first unexpected reply is 501.
 pub fn is_want_of_memory(served: &Result<Served, DeskFault>, taken: &[u8], wanted: &[u8]) -> bool {
     if *served == Err(DeskFault::NoMemory) {
         return true;
@@ -41,7 +41,8 @@ pub fn is_want_of_memory(served: &Result<Served, DeskFault>, taken: &[u8], wante
     begins_with_no_room(rest, NO_ROOM) || begins_with_no_room(rest, LAST_NO_ROOM)
 }
 
-/// A writer that takes all it is given, three bytes at a time, and has room for a reply more than is wanted.
+/// Creates a writer that accepts everything, three bytes at a time, with capacity for one more reply than
+/// expected.
 pub fn open_sink(alloc: Global, wanted: usize) -> Result<Sink, AllocError> {
     Ok(Sink {
         taken: Vec::with_capacity(alloc, wanted.saturating_add(2048))?,
@@ -52,7 +53,7 @@ pub fn open_sink(alloc: Global, wanted: usize) -> Result<Sink, AllocError> {
     })
 }
 
-/// Serves a stream over a keeper.
+/// Serves a stream on a keeper.
 fn served<K: Keeper>(
     alloc: Global,
     keeper: &mut K,
@@ -68,7 +69,8 @@ fn served<K: Keeper>(
     serve(alloc, &mut reader, sink, keeper, clock)
 }
 
-/// Plays a talk over a keeper: each reply is as it says. The clock reads these moments in turn, and then 1000 each time.
+/// Runs requests on a keeper and checks each reply. The clock reads these moments in order, and then always
+/// 1000.
 pub fn play<K: Keeper>(
     alloc: Global,
     keeper: &mut K,
@@ -87,7 +89,7 @@ pub fn play<K: Keeper>(
     }
 }
 
-/// Plays rows over a keeper, where the clock reads 1000 each time.
+/// Runs rows on a keeper. The clock always reads 1000.
 fn play_rows<K: Keeper>(
     alloc: Global,
     keeper: &mut K,
@@ -99,17 +101,17 @@ fn play_rows<K: Keeper>(
     play(alloc, keeper, &[], &talk)
 }
 
-/// Plays the scenario over a keeper.
+/// Runs `STEPS` on a keeper.
 pub fn play_steps<K: Keeper>(alloc: Global, keeper: &mut K) -> Result<(), Stop> {
     play_rows(alloc, keeper, "the scenario", STEPS)
 }
 
-/// Plays what comes after the scenario.
+/// Runs `MORE` on a keeper, after `STEPS`.
 pub fn play_more<K: Keeper>(alloc: Global, keeper: &mut K) -> Result<(), Stop> {
     play_rows(alloc, keeper, "after the scenario", MORE)
 }
 
-/// Plays the first step of the scenario.
+/// Runs the first step of the scenario.
 pub fn play_first<K: Keeper>(alloc: Global, keeper: &mut K) -> Result<(), Stop> {
     let mut talk = Talk::new(alloc)?;
     if let Some(step) = STEPS.first() {
@@ -118,14 +120,14 @@ pub fn play_first<K: Keeper>(alloc: Global, keeper: &mut K) -> Result<(), Stop> 
     play(alloc, keeper, &[], &talk)
 }
 
-/// The plain keeper after the scenario.
+/// Returns a plain keeper after `STEPS`.
 pub fn plain(alloc: Global) -> Result<PlainKeeper, Stop> {
     let mut keeper = PlainKeeper::new(alloc)?;
     play_steps(alloc, &mut keeper)?;
     Ok(keeper)
 }
 
-/// The plain keeper after what comes after the scenario, too.
+/// Returns a plain keeper after `STEPS` and `MORE`.
 pub fn plain_more(alloc: Global) -> Result<PlainKeeper, Stop> {
     let mut keeper = plain(alloc)?;
     play_more(alloc, &mut keeper)?;

@@ -6,12 +6,13 @@ use crate::talk::{BANK, NOTARY, OFFICE, Row, SURVEYOR};
 pub const MORTGAGE: &[u8] =
     br#"{"reference":"M1","document":"Loan 1","unit":9,"creditor":4,"amount":2500000,"currency":"EUR"}"#;
 
-/// Anna's quarter goes to the group.
+/// The transfer of Anna's quarter to the group.
 pub const QUARTER: &[u8] =
     br#"{"reference":"T1","document":"Deed 2","unit":9,"right":11,"receiver":7,"share":"1/4"}"#;
 
-/// The steps. Party 2 is Anna, 3 Ben, 4 the bank, 5 Nora, a notary, 6 Sam, a surveyor, and 7 Anna and Ben as a group.
-/// Unit 9 is the garden, parcel 10 its ground. Anna has a quarter by right 11, the group three by right 12, Sam the lease 13.
+/// The steps. Party 2 is Anna, 3 Ben, 4 the bank, 5 Nora, a notary, 6 Sam, a surveyor, and 7 Anna and Ben as
+/// a group. Unit 9 is the garden, parcel 10 its ground. Anna has a quarter by right 11, the group three by
+/// right 12, Sam the lease 13.
 pub const STEPS: &[Row] = &[
     Row(
         "POST /acts/enrol",
@@ -123,8 +124,9 @@ pub const STEPS: &[Row] = &[
     ),
 ];
 
-/// What comes after them: the orchard becomes a part of the garden again, which is burdened for a while. The group has another member, and
-/// Nora is no notary. The bank asks for the mortgage to be discharged, in vain, and again.
+/// More steps after these: the orchard is merged into the garden, which is burdened for a while. The group
+/// gets another member, and Nora loses the role of a notary. The bank lodges a discharge of its mortgage,
+/// which is refused, and another.
 pub const MORE: &[Row] = &[
     Row(
         "POST /acts/merger",

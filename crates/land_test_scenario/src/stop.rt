@@ -7,11 +7,11 @@ use std::io;
 /// Why a test stops.
 #[derive(Clone, Copy)]
 pub enum Stop {
-    /// There was no memory.
+    /// Out of memory.
     Memory,
-    /// A call failed that has to succeed.
+    /// A call failed that must succeed.
     Call,
-    /// Something is not as the test has it: what it is called, and its place.
+    /// A check failed: its name, and its place.
     Unlike(&'static str, usize),
 }
 
@@ -48,7 +48,7 @@ impl From<io::Error> for Stop {
     }
 }
 
-/// Goes on where something is as it should be.
+/// Returns an error if a check failed.
 pub fn expect(is_well: bool, name: &'static str, place: usize) -> Result<(), Stop> {
     if is_well {
         Ok(())

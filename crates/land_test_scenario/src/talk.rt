@@ -1,12 +1,12 @@
-//! Requests as one stream, and what is to be told of them as another.
+//! Requests as one stream, and the expected replies as another.
 use land_desk::serve::{DeskFault, Served};
 use std::alloc::{AllocError, Global};
 use std::fmt::Write;
 
-/// The fields that name the office as the caller.
+/// The fields of the office as the caller.
 pub const OFFICE: &str = "Register-Party: 1\r\nRegister-Role: stateAdministrator\r\n";
 
-/// The fields that name Anna, Ben, Nora and Sam as callers.
+/// The fields of Anna, Ben, Nora and Sam as callers.
 pub const ANNA: &str = "Register-Party: 2\r\nRegister-Role: citizen\r\n";
 
 pub const BEN: &str = "Register-Party: 3\r\nRegister-Role: citizen\r\n";
@@ -29,24 +29,24 @@ const JSON: &str = "application/json";
 
 const PLAIN: &str = "text/plain; charset=utf-8";
 
-/// What a caller is told.
+/// An expected reply.
 #[derive(Clone, Copy)]
 pub enum Told {
-    /// What was asked for, or what was done.
+    /// 200: an object, numbers or a receipt.
     Shown(&'static str),
-    /// A title sheet.
+    /// 200: a title sheet.
     Sheet(&'static str),
-    /// The rule that denies.
+    /// 403: the number of the rule that denies.
     Denied(u16),
-    /// The refusal of an act.
+    /// 409: the number of the refusal.
     Refused(u16),
-    /// What is wrong with the request.
+    /// 400: the number of the fault.
     Fault(u16),
-    /// A fault of a HEAD: the same without its text, which has this length.
+    /// 400 for a HEAD request: without a body, but with this length.
     Unsaid(usize),
 }
 
-/// A request, and what is told of it: its line without the version, the fields of its caller, its body.
+/// A request and its expected reply: its line without the version, the fields of its caller, its body.
 pub struct Row(
     pub &'static str,
     pub &'static str,
@@ -54,7 +54,7 @@ pub struct Row(
     pub Told,
 );
 
-/// A row of a talk: what it belongs to and its place there, and where it ends in the input and in the output.
+/// The position of a row: its name and place, and its ends in the input and in the output.
 #[derive(Clone, Copy)]
 pub struct Mark {
     name: &'static str,
@@ -63,17 +63,17 @@ pub struct Mark {
     pub told: usize,
 }
 
-/// Requests as one stream, and what is to be told of them as another.
+/// Requests as one stream, and the expected replies as another.
 #[derive(Drop)]
 pub struct Talk {
     pub input: Vec<u8>,
     pub output: String,
     pub marks: Vec<Mark>,
-    /// Room for a line or a text.
+    /// A buffer for a line or a body.
     line: String,
 }
 
-/// How many bytes two texts have in common at their front.
+/// Returns the length of the common prefix.
 pub fn common(first: &[u8], second: &[u8]) -> usize {
     let most = first.len().min(second.len());
     for place in 0..most {
@@ -85,7 +85,7 @@ pub fn common(first: &[u8], second: &[u8]) -> usize {
 }
 
 impl Talk {
-    /// No request yet.
+    /// Creates an empty list of requests.
     pub fn new(alloc: Global) -> Result<Talk, AllocError> {
         Ok(Talk {
             input: Vec::with_capacity(alloc, 65536)?,
@@ -95,7 +95,7 @@ impl Talk {
         })
     }
 
-    /// The requests of these rows come next.
+    /// Appends the requests of these rows.
     pub fn ask_all(&mut self, name: &'static str, rows: &[Row]) -> Result<(), AllocError> {
         for (place, row) in rows.iter().enumerate() {
             self.ask(name, place, row)?;
@@ -103,14 +103,14 @@ impl Talk {
         Ok(())
     }
 
-    /// The request of a row comes next.
+    /// Appends the request of a row.
     pub fn ask(&mut self, name: &'static str, place: usize, row: &Row) -> Result<(), AllocError> {
         self.push_request(row.0, row.1, row.2)?;
         self.tell(row.3, false)?;
         self.mark(name, place)
     }
 
-    /// What was asked and told since the row before is a row.
+    /// Marks the end of a row.
     pub fn mark(&mut self, name: &'static str, place: usize) -> Result<(), AllocError> {
         self.marks.push(Mark {
             name,
@@ -121,7 +121,7 @@ impl Talk {
         Ok(())
     }
 
-    /// A request comes next: its line without the version, the fields of its caller, its body.
+    /// Appends a request: its line without the version, the fields of its caller, its body.
     pub fn push_request(
         &mut self,
         line: &str,
@@ -138,7 +138,7 @@ impl Talk {
         self.input.extend_from_slice(body)
     }
 
-    /// This is to be told next, and the connection ends after it or not.
+    /// Appends an expected reply. `ends`: the connection closes after it.
     pub fn tell(&mut self, told: Told, ends: bool) -> Result<(), AllocError> {
         match told {
             Told::Shown(text) => write_reply(&mut self.output, "200 OK", JSON, ends, text),
@@ -152,11 +152,12 @@ impl Talk {
         }
     }
 
-    /// What was asked for is shown next, and the connection goes on.
+    /// Appends an expected 200 with a JSON body. The connection stays open.
     pub fn tell_text(&mut self, text: &str) -> Result<(), AllocError> {
         write_reply(&mut self.output, "200 OK", JSON, false, text)
     }
 
+    /// Appends an expected reply that is a number.
     fn tell_number(
         &mut self,
         status: &str,
@@ -169,7 +170,7 @@ impl Talk {
         write_reply(&mut self.output, status, JSON, ends, self.line.as_str())
     }
 
-    /// The name and the place of the first row that is not answered as it says, if any.
+    /// Returns the name and the place of the first row with an unexpected reply, if any.
     pub fn first_wrong(
         &self,
         served: &Result<Served, DeskFault>,
@@ -189,6 +190,7 @@ impl Talk {
     }
 }
 
+/// Writes a response.
 fn write_reply(
     output: &mut String,
     status: &str,
@@ -200,6 +202,7 @@ fn write_reply(
     output.push_str(text)
 }
 
+/// Writes the head of a response.
 fn write_head(
     output: &mut String,
     status: &str,

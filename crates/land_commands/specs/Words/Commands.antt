@@ -5,10 +5,11 @@ use Rattle.clap.specs.Words.{App, app_of, new_app, with_rule, with_subcommand}
 use Rattle.clap.specs.declared.builder.command.Command.{Command}
 use Rattle.clap.specs.declared.builder.command.Command.TheViews.{out-Command}
 use Rattle.land_commands.specs.Words.Choices.{Places}
-use Rattle.land_commands.specs.Words.Options.{at_rule, clock_rule, connections_rule, file_rule, kind_rule, party_rule, port_rule, role_rule}
+use Rattle.land_commands.specs.Words.Options.{at_rule, clock_rule, connections_rule, file_rule, kind_rule}
+use Rattle.land_commands.specs.Words.Options.{party_rule, port_rule, role_rule}
 use Rattle.land_commands.specs.declared.words.choices.Choices.{Choices}
 
--- a program that does nothing by itself: one of its commands is wanted, and none of them is for help
+-- One of the subcommands is required, and `help` is not one of them.
 abbrev pub of_commands : App → App
 of_commands = on_top (λ top. record top { subcommand_required = true; disable_help_subcommand = true })
 
@@ -32,33 +33,37 @@ check_app = with_rule (new_app (codes "check")) file_rule
 abbrev pub migrate_app : App
 migrate_app = with_rule (new_app (codes "migrate")) file_rule
 
--- a command over a file, at what a clock reads
+-- The options `--file` and `--clock`.
 abbrev pub with_clock : App → App
 with_clock app = with_rule (with_rule app file_rule) clock_rule
 
--- a command that is told who asks
+-- The options `--party` and `--role`.
 abbrev pub with_caller : (roles : Places) → App → App
 with_caller roles app = with_rule (with_rule app party_rule) (role_rule roles)
 
 -- `extract --file FILE --clock MS --party NUMBER --role ROLE --kind KIND [--at MS]`
 abbrev pub extract_app : Choices → App
 extract_app choices =
-    with_rule (with_rule (with_caller choices.roles (with_clock (new_app (codes "extract")))) (kind_rule choices.kinds)) at_rule
+    with_rule
+    (with_rule (with_caller choices.roles (with_clock (new_app (codes "extract")))) (kind_rule choices.kinds))
+    at_rule
 
--- the program with the commands that have no choices
+-- The program with all commands except `extract`.
 abbrev pub plain_app : App
 plain_app =
     with_subcommand
     (with_subcommand
-    (with_subcommand (with_subcommand (with_subcommand (of_commands (new_app (codes "land"))) talk_app.top) make_app.top) serve_app.top)
+    (with_subcommand
+    (with_subcommand (with_subcommand (of_commands (new_app (codes "land"))) talk_app.top) make_app.top)
+    serve_app.top)
     check_app.top)
     migrate_app.top
 
--- the program with all its commands, where roles and kinds are chosen from these words
+-- The program with all its commands. `choices`: the words for roles and kinds.
 abbrev pub land_app : Choices → App
 land_app choices = with_subcommand plain_app (extract_app choices).top
 
--- a command reads words as this one does, and has no option that commands below it share
+-- A command parses arguments like this one, and has no option that its subcommands share.
 pub record IsCommand (app : App) (command : Command) : Type 0 where
   pub app_is : app_of command ≡ app
   pub local : (out-Command command).has_globals ≡ false

@@ -1,4 +1,4 @@
--- Which command the words name.
+-- The command that the arguments name.
 use Rattle.std.specs.Prelude.{◌≡◌, ◌≢◌, ℕ, ℤ, pos, List, [], codes, Option, Some, None, Result, Ok, Err}
 use Rattle.std.specs.Str.Parse.{signed_digits_value}
 use Rattle.clap.specs.Words.{IsSignedIn, Row, Text, fault_of, first_of, kind_of, subcommand_of}
@@ -6,54 +6,57 @@ use Rattle.clap.specs.declared.error.Error.{Error}
 use Rattle.clap.specs.declared.error.kind.ErrorKind.TheVariants as kind
 use Rattle.land_commands.specs.Words.Choices.{AreSpelled, kind_word, role_word}
 use Rattle.land_commands.specs.Words.Commands.{land_app}
-use Rattle.land_commands.specs.Words.Orders.{Order, to_talk, to_make, to_serve, to_check, to_migrate, to_extract, order_of}
+use Rattle.land_commands.specs.Words.PlainCommands.{PlainCommand, to_talk, to_make, to_serve, to_check}
+use Rattle.land_commands.specs.Words.PlainCommands.{to_migrate, to_extract, order_of}
 use Rattle.land_commands.specs.declared.words.choices.Choices.{Choices}
 use Rattle.land_commands.specs.declared.words.command.Command.{Command}
 use Rattle.land_commands.specs.declared.words.words_fault.WordsFault.{WordsFault}
 use Rattle.land_commands.specs.declared.words.words_fault.WordsFault.TheVariants.{Refused, NoMemory}
 use Rattle.land_core.specs.declared.caller.Caller.{Caller}
 use Rattle.land_core.specs.declared.role.Role.{Role}
+use Rattle.land_keep.specs.Moments.{last_moment}
 
--- among what `clap` found, an option has a text that writes this number, which is in its range
+-- An option found by `clap` has a value that is this number, in the range of the option.
 pub record HasNumber (rows : List Row) (option : Text) (least most number : ℤ) : Type 0 where
   pub text : Text
   pub found : first_of option rows ≡ Some text
   pub in_range : IsSignedIn least most text
   pub value : signed_digits_value 10 text ≡ number
 
--- the option's number, or there is none
+-- The number of an option, or it has none.
 abbrev pub IsNumberOf : List Row → Text → (least most : ℤ) → Option ℤ → Type 0
 IsNumberOf rows option least most (Some number) = HasNumber rows option least most number
 IsNumberOf rows option least most None = (number : ℤ) → HasNumber rows option least most number → ⊥
 
--- the option's number, or the option was left out
+-- The number of an option, or the option is absent.
 abbrev pub HasMaybe : List Row → Text → (least most : ℤ) → Option ℤ → Type 0
 HasMaybe rows option least most (Some number) = HasNumber rows option least most number
 HasMaybe rows option least most None = first_of option rows ≡ None
 
--- the option has that number or was left out, or neither is so
+-- The number of an optional option, or its value is not valid.
 abbrev pub IsMaybeOf : List Row → Text → (least most : ℤ) → Option (Option ℤ) → Type 0
 IsMaybeOf rows option least most (Some maybe) = HasMaybe rows option least most maybe
 IsMaybeOf rows option least most None = (maybe : Option ℤ) → HasMaybe rows option least most maybe → ⊥
 
--- what the option's text spells, or it spells nothing
+-- The value whose word is given for an option, or the word is of no value.
 module _ {A : Type 0} (spell : A → Text) where
   abbrev pub IsChosenOf : List Row → Text → Option A → Type 0
   IsChosenOf rows option (Some a) = first_of option rows ≡ Some (spell a)
   IsChosenOf rows option None = (a : A) → first_of option rows ≡ Some (spell a) → ⊥
 
--- the party that asks, and its role
+-- The options give this party and role as the caller.
 abbrev pub HasCaller : List Row → (party : ℕ) → Role → Type 0
 HasCaller rows party role =
-    HasNumber rows (codes "party") (pos 1) (pos 1000000000) (pos party) × (first_of (codes "role") rows ≡ Some (role_word role))
+    HasNumber rows (codes "party") (pos 1) (pos 1000000000) (pos party)
+    × (first_of (codes "role") rows ≡ Some (role_word role))
 
--- who asks, or nobody does
+-- The caller, or the options give none.
 abbrev pub IsCallerOf : List Row → Option Caller → Type 0
 IsCallerOf rows (Some caller) = HasCaller rows caller.party caller.role
 IsCallerOf rows None = (party : ℕ) (role : Role) → HasCaller rows party role → ⊥
 
--- the word of a command
-abbrev pub word_of : Order → Text
+-- The name of a command.
+abbrev pub word_of : PlainCommand → Text
 word_of (to_talk clock) = codes "talk"
 word_of (to_make file) = codes "new"
 word_of (to_serve file port connections) = codes "serve"
@@ -61,10 +64,10 @@ word_of (to_check file) = codes "check"
 word_of (to_migrate file) = codes "migrate"
 word_of (to_extract file clock party role kind at) = codes "extract"
 
--- a command's options are what `clap` found, each number in its range: moments go from 0 to the end of the year 2099,
--- ports from 1 to 65535, parties from 1 to 1,000,000,000, and a million connections are served at most
-abbrev pub HasOptions : List Row → Order → Type 0
-HasOptions rows (to_talk clock) = HasNumber rows (codes "clock") (pos 0) (pos 4102444799999) clock
+-- The options of a command are those that `clap` found, each number in its range: moments from 0 to the end
+-- of the year 2099, ports from 1 to 65535, parties from 1 to 1,000,000,000, connections from 1 to 1,000,000.
+abbrev pub HasOptions : List Row → PlainCommand → Type 0
+HasOptions rows (to_talk clock) = HasNumber rows (codes "clock") (pos 0) last_moment clock
 HasOptions rows (to_make file) = first_of (codes "file") rows ≡ Some file
 HasOptions rows (to_serve file port connections) =
     (first_of (codes "file") rows ≡ Some file) × HasNumber rows (codes "port") (pos 1) (pos 65535) (pos port)
@@ -72,43 +75,46 @@ HasOptions rows (to_serve file port connections) =
 HasOptions rows (to_check file) = first_of (codes "file") rows ≡ Some file
 HasOptions rows (to_migrate file) = first_of (codes "file") rows ≡ Some file
 HasOptions rows (to_extract file clock party role kind at) =
-    (first_of (codes "file") rows ≡ Some file) × HasNumber rows (codes "clock") (pos 0) (pos 4102444799999) clock × HasCaller rows party role
-    × (first_of (codes "kind") rows ≡ Some (kind_word kind)) × HasMaybe rows (codes "at") (pos 0) (pos 4102444799999) at
+    (first_of (codes "file") rows ≡ Some file)
+    × HasNumber rows (codes "clock") (pos 0) last_moment clock × HasCaller rows party role
+    × (first_of (codes "kind") rows ≡ Some (kind_word kind))
+    × HasMaybe rows (codes "at") (pos 0) last_moment at
 
--- a command and its options are what `clap` found
-abbrev pub IsFoundAs : Option (Text × List Row) → Order → Type 0
+-- `clap` found this command with its options.
+abbrev pub IsFoundAs : Option (Text × List Row) → PlainCommand → Type 0
 IsFoundAs found order = (rows : List Row) × (found ≡ Some (word_of order, rows)) × HasOptions rows order
 
--- where roles and kinds are chosen from these words, the words of the command line name a command: `clap` finds no fault in them,
--- and what it finds is that command with its options
-pub record NamesBy (choices : Choices) (words : List Text) (order : Order) : Type 0 where
+-- The arguments name a command, with these words for roles and kinds: `clap` finds no fault, and finds the
+-- command with its options.
+pub record NamesBy (choices : Choices) (words : List Text) (order : PlainCommand) : Type 0 where
   pub faultless : fault_of (land_app choices) words ≡ []
   pub found : IsFoundAs (subcommand_of (land_app choices) words) order
 
--- the words name a command, wherever the program keeps the words of the roles and of the kinds
-abbrev pub Names : List Text → Order → Type 0
+-- The arguments name a command, for choices at some place in memory.
+abbrev pub Names : List Text → PlainCommand → Type 0
 Names words order = (choices : Choices) × AreSpelled choices × NamesBy choices words order
 
--- `clap` finds a fault in the words
+-- `clap` finds a fault in the arguments.
 abbrev pub AreFaulty : List Text → Type 0
 AreFaulty words = (choices : Choices) × AreSpelled choices × (fault_of (land_app choices) words ≢ [])
 
--- the command that was found, or none was
-abbrev pub IsNamedIn : Option (Text × List Row) → Option Order → Type 0
+-- The command that was found, or none was.
+abbrev pub IsNamedIn : Option (Text × List Row) → Option PlainCommand → Type 0
 IsNamedIn found (Some order) = IsFoundAs found order
-IsNamedIn found None = (order : Order) → IsFoundAs found order → ⊥
+IsNamedIn found None = (order : PlainCommand) → IsFoundAs found order → ⊥
 
--- the options of the command of this word are what was found, or they are not
-abbrev pub IsOrderOf : (word : Text) → List Row → Option Order → Type 0
+-- The command with this name and the options that were found, or they are not valid for it.
+abbrev pub IsOrderOf : (word : Text) → List Row → Option PlainCommand → Type 0
 IsOrderOf word rows (Some order) = (word_of order ≡ word) × HasOptions rows order
-IsOrderOf word rows None = (order : Order) → word_of order ≡ word → HasOptions rows order → ⊥
+IsOrderOf word rows None = (order : PlainCommand) → word_of order ≡ word → HasOptions rows order → ⊥
 
--- an error of `clap` other than want of memory refuses the words
+-- An error of `clap` other than out of memory rejects the arguments.
 abbrev pub IsRefusalOf : Error → WordsFault → Type 0
 IsRefusalOf error (Refused text) = kind_of error ≢ kind.OutOfMemory
 IsRefusalOf error NoMemory = Unit {0}
 
--- what the words are read as: the command that they name; where they are refused, `clap` finds a fault in them
+-- The result of reading the arguments: the command that they name. If they are rejected, `clap` finds a fault
+-- in them.
 abbrev pub IsReading : List Text → Result Command WordsFault → Type 0
 IsReading words (Ok command) = Names words (order_of command)
 IsReading words (Err (Refused text)) = AreFaulty words

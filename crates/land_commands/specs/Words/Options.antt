@@ -1,12 +1,13 @@
--- Options of commands, as `clap` reads them.
+-- The options of the commands, as `clap` reads them.
 use Rattle.std.specs.Prelude.{◌≡◌, Bool, true, false, Some, pos, codes}
 use Rattle.clap.specs.Words.{Rule, Text, new_rule, rule_of}
 use Rattle.clap.specs.declared.builder.arg.Arg.{Arg}
 use Rattle.clap.specs.declared.builder.value_parser.ValueParser.{ValueParser}
 use Rattle.clap.specs.declared.builder.value_parser.ValueParser.TheVariants as parser
 use Rattle.land_commands.specs.Words.Choices.{Places}
+use Rattle.land_keep.specs.Moments.{last_moment}
 
--- `--NAME VALUE`: an option that stands under its own name, and has one value, which the parser takes
+-- `--NAME VALUE`: an option with one value, which the parser accepts.
 abbrev pub option_rule : (name : Text) → (is_required : Bool) → ValueParser → Rule
 option_rule name is_required values = record (new_rule name) {
   long = Some name;
@@ -15,23 +16,23 @@ option_rule name is_required values = record (new_rule name) {
   parser = Some values;
 }
 
--- numbers from 0 to 4102444799999
+-- Numbers from 0 to the last moment.
 abbrev pub moments : ValueParser
-moments = parser.Signed (pos 0) (pos 4102444799999)
+moments = parser.Signed (pos 0) last_moment
 
--- numbers from 1 to 65535
+-- Numbers from 1 to 65535.
 abbrev pub ports : ValueParser
 ports = parser.Signed (pos 1) (pos 65535)
 
--- numbers from 1 to 1000000
+-- Numbers from 1 to 1000000.
 abbrev pub counts : ValueParser
 counts = parser.Signed (pos 1) (pos 1000000)
 
--- numbers from 1 to 1000000000
+-- Numbers from 1 to 1000000000.
 abbrev pub parties : ValueParser
 parties = parser.Signed (pos 1) (pos 1000000000)
 
--- `--NAME MS`, a moment
+-- `--NAME MS`: a moment.
 abbrev pub moment_rule : (name : Text) → (is_required : Bool) → Rule
 moment_rule name is_required = option_rule name is_required moments
 
@@ -39,11 +40,11 @@ moment_rule name is_required = option_rule name is_required moments
 abbrev pub clock_rule : Rule
 clock_rule = moment_rule (codes "clock") true
 
--- `--at MS`, which may be left out
+-- `--at MS`, which is optional.
 abbrev pub at_rule : Rule
 at_rule = moment_rule (codes "at") false
 
--- `--file FILE`, any text
+-- `--file FILE`: any text.
 abbrev pub file_rule : Rule
 file_rule = option_rule (codes "file") true parser.String
 
@@ -59,15 +60,15 @@ connections_rule = option_rule (codes "connections") true counts
 abbrev pub party_rule : Rule
 party_rule = option_rule (codes "party") true parties
 
--- `--role ROLE`, one of these words
+-- `--role ROLE`: one of these words.
 abbrev pub role_rule : Places → Rule
 role_rule roles = option_rule (codes "role") true (parser.Names roles)
 
--- `--kind KIND`, one of these words
+-- `--kind KIND`: one of these words.
 abbrev pub kind_rule : Places → Rule
 kind_rule kinds = option_rule (codes "kind") true (parser.Names kinds)
 
--- an option reads words by this rule, and belongs to its command alone
+-- An option parses arguments by this rule, and belongs to its command only.
 pub record IsOption (rule : Rule) (option : Arg) : Type 0 where
   pub rule_is : rule_of option ≡ rule
   pub local : option.global ≡ false

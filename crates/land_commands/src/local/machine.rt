@@ -1,19 +1,19 @@
-//! Work on the machine that the program runs on.
+//! Runs work on the local host.
 use crate::host::Host;
 use crate::local_host::LocalHost;
 use land_desk::service::stopwatch::Stopwatch;
 use std::rt::HostRuntime;
 
-/// Work that any machine can do.
+/// Work for any host.
 pub trait Work {
-    /// What comes of it.
+    /// The result of the work.
     type Outcome;
 
-    /// Does the work on a machine.
+    /// Does the work on a host.
     fn done_on<H: Host>(self, host: &mut H) -> Self::Outcome;
 }
 
-/// Does work on the machine that the program runs on.
+/// Does the work on the local host and returns its result.
 pub fn on_local_host<W: Work>(rt: &HostRuntime, work: W) -> W::Outcome {
     let watch = Stopwatch::new(*rt);
     let mut host = LocalHost::new(rt, &watch);

@@ -1,9 +1,9 @@
-//! The words that an option is chosen from.
+//! The values of options that have a fixed set of words.
 ghost use Rattle.std.specs.Prelude.{◌≡◌};
 ghost use Rattle.clap.specs.Walk.{texts};
 ghost use Rattle.land_commands.specs.Words.Choices.{AreSpelled, kind_words, role_words};
 
-/// The words that `clap` is told of: those of the roles and those of the kinds.
+/// The words for roles and kinds, passed to `clap`.
 #[derive(Clone, Copy, Debug)]
 pub struct Choices<'a> {
     /// The words of the roles.
@@ -12,7 +12,7 @@ pub struct Choices<'a> {
     pub kinds: &'a [&'a str],
 }
 
-/// The words of the roles and of the kinds.
+/// Returns the words for roles and kinds.
 pub fn all_choices<'a>() -> Choices<'a>
     ensures { AreSpelled result }
 {
@@ -22,7 +22,7 @@ pub fn all_choices<'a>() -> Choices<'a>
     }
 }
 
-/// The words of the roles, as they are written over HTTP.
+/// Returns the words for roles, the same as in HTTP requests.
 fn role_words() -> &'static [&'static str]
     ensures { texts result.now ≡ role_words }
 {
@@ -36,7 +36,7 @@ fn role_words() -> &'static [&'static str]
     ]
 }
 
-/// The words of the kinds of objects.
+/// Returns the words for kinds of objects.
 fn kind_words() -> &'static [&'static str]
     ensures { texts result.now ≡ kind_words }
 {

@@ -1,51 +1,51 @@
-//! What the words of the command line ask for.
+//! The commands of the program, with their options.
 
 use land_core::caller::Caller;
 use land_core::kind::Kind;
 
-/// What the words of the command line ask for. A file's name is kept where the words are.
+/// A command with its options. File names are borrowed from the arguments.
 #[derive(Clone, Copy, Debug, PartialEq, Eq)]
 pub enum Command<'a> {
-    /// `talk`: to answer standard input over a new register in memory.
+    /// `talk`: answers standard input on a new register in memory.
     Talk {
-        /// What the clock always reads: a moment, in milliseconds since 1970 UTC.
+        /// The reading of the clock, in Unix milliseconds.
         clock: i64,
     },
-    /// `new`: to make a register in a file.
+    /// `new`: creates a register in a file.
     New {
         /// The file's name.
         file: &'a str,
     },
-    /// `serve`: to answer connections over the register in a file.
+    /// `serve`: answers connections on the register in a file.
     Serve {
         /// The file's name.
         file: &'a str,
-        /// The port of 127.0.0.1 on which they are answered, 1 to 65535.
+        /// The port of 127.0.0.1 to listen on, 1 to 65535.
         port: u16,
-        /// After how many connections it ends, 1 to 1000000.
+        /// The number of connections to serve, 1 to 1000000.
         connections: u32,
     },
-    /// `check`: to say whether a file holds a sound register.
+    /// `check`: checks that a file holds a sound register.
     Check {
         /// The file's name.
         file: &'a str,
     },
-    /// `migrate`: to make of a register of the first version in a file one of the second.
+    /// `migrate`: upgrades the register in a file from schema version 1 to 2.
     Migrate {
         /// The file's name.
         file: &'a str,
     },
-    /// `extract`: to print, as a table, what a caller sees of a kind in the register in a file.
+    /// `extract`: prints, as CSV, the objects of one kind that a caller sees in the register in a file.
     Extract {
         /// The file's name.
         file: &'a str,
-        /// What the clock reads: a moment, in milliseconds since 1970 UTC.
+        /// The reading of the clock, in Unix milliseconds.
         clock: i64,
-        /// Who asks.
+        /// The caller and its role.
         caller: Caller,
-        /// Of which kind the objects are.
+        /// The kind of the objects.
         kind: Kind,
-        /// The moment that is looked at, in milliseconds since 1970 UTC; if there is none, that of the clock.
+        /// The requested time, in Unix milliseconds; `None`: the time of the clock.
         at: Option<i64>,
     },
 }

@@ -1,9 +1,11 @@
-//! The commands of the program, as `clap` is told of them. Each option and each command is told by a small call, so that
-//! no proof has more than one of them in sight.
+//! Declares the commands of the program to `clap`. Each option and each command is added by a small function,
+//! so that each proof is about one of them.
 ghost use Rattle.std.specs.Prelude.{IfOk};
 ghost use Rattle.clap.specs.Words.{App, Rule, new_app, with_rule, with_subcommand};
-ghost use Rattle.land_commands.specs.Words.Commands.{IsCommand, check_app, extract_app, land_app, make_app, migrate_app};
-ghost use Rattle.land_commands.specs.Words.Commands.{of_commands, serve_app, talk_app, with_caller, with_clock};
+ghost use Rattle.land_commands.specs.Words.Commands.{IsCommand, check_app, extract_app, land_app, make_app};
+ghost use Rattle.land_commands.specs.Words.Commands.{migrate_app};
+ghost use Rattle.land_commands.specs.Words.Commands.{of_commands, serve_app, talk_app, with_caller};
+ghost use Rattle.land_commands.specs.Words.Commands.{with_clock};
 ghost use Rattle.land_commands.specs.Words.Options.{IsOption};
 
 use crate::words::choices::Choices;
@@ -14,7 +16,7 @@ use crate::words::options::{
 use clap::{Arg, Command};
 use std::alloc::{AllocError, Global};
 
-/// What the help of the program says at its end: the options of each command, what their values are, and examples.
+/// The end of the help text: the options of each command, the values of the options, and examples.
 const MORE: &str = "Options of the commands, of which --at alone may be left out:
   talk     --clock <MS>
   new      --file <FILE>
@@ -33,13 +35,19 @@ Examples:
 
 More on a command, with an example: land COMMAND --help";
 
-/// A command with what help says of it: what it does, and at the end an example.
-fn named<'a>(alloc: Global, name: &'a str, about: &'a str, example: &'a str) -> Command<'a>
+/// Creates a command with its help text: a description, and an example at the end.
+fn described_command<'a>(
+    alloc: Global,
+    name: &'a str,
+    about: &'a str,
+    example: &'a str,
+) -> Command<'a>
     ensures { IsCommand (new_app name.entry.now) result }
 {
     Command::new(alloc, name).about(about).after_help(example)
 }
 
+/// Adds an option to a command.
 fn with_option<'a>(command: Command<'a>, option: Arg<'a>) -> Result<Command<'a>, AllocError>
     ensures { (app : App) (rule : Rule) → IsCommand app command.entry → IsOption rule option.entry
         → IfOk result (IsCommand (with_rule app rule)) }
@@ -47,7 +55,7 @@ fn with_option<'a>(command: Command<'a>, option: Arg<'a>) -> Result<Command<'a>,
     command.arg(option)
 }
 
-/// A command that asks for one of the commands below it, and has no command for help.
+/// Requires one of the subcommands, and removes the subcommand `help`.
 fn of_commands<'a>(command: Command<'a>) -> Command<'a>
     ensures { (app : App) → IsCommand app command.entry → IsCommand (of_commands app) result }
 {
@@ -56,6 +64,7 @@ fn of_commands<'a>(command: Command<'a>) -> Command<'a>
         .disable_help_subcommand(true)
 }
 
+/// Adds a subcommand.
 fn with_command<'a>(above: Command<'a>, command: Command<'a>) -> Result<Command<'a>, AllocError>
     ensures { (app : App) (below : App) → IsCommand app above.entry → IsCommand below command.entry
         → IfOk result (IsCommand (with_subcommand app below.top)) }
@@ -63,22 +72,24 @@ fn with_command<'a>(above: Command<'a>, command: Command<'a>) -> Result<Command<
     above.subcommand(command)
 }
 
+/// Declares `talk`.
 fn talk<'a>(alloc: Global) -> Result<Command<'a>, AllocError>
     ensures { IfOk result (IsCommand talk_app) }
 {
     let about =
         "Answers the HTTP requests on standard input over a new register, which is kept in memory alone";
     let example = "Example: land talk --clock 1000 < requests.http";
-    let talk = named(alloc, "talk", about, example);
+    let talk = described_command(alloc, "talk", about, example);
     with_option(talk, clock_option(alloc))
 }
 
+/// Declares `new`.
 fn make<'a>(alloc: Global) -> Result<Command<'a>, AllocError>
     ensures { IfOk result (IsCommand make_app) }
 {
     let about = "Makes a new register in a file, and prints nothing";
     let example = "Example: land new --file town.land";
-    let make = named(alloc, "new", about, example);
+    let make = described_command(alloc, "new", about, example);
     let file = file_option(
         alloc,
         "The file to make; one that has tables is left as it is",
@@ -86,6 +97,7 @@ fn make<'a>(alloc: Global) -> Result<Command<'a>, AllocError>
     with_option(make, file)
 }
 
+/// Declares `serve`.
 fn serve<'a>(alloc: Global) -> Result<Command<'a>, AllocError>
     ensures { IfOk result (IsCommand serve_app) }
 {
@@ -93,7 +105,7 @@ fn serve<'a>(alloc: Global) -> Result<Command<'a>, AllocError>
         "Answers HTTP connections on 127.0.0.1, one after another, over the register in a file";
     let example = "Example: land serve --file town.land --port 8080 --connections 1000
 While it runs: curl -H 'Register-Party: 1' -H 'Register-Role: stateAdministrator' http://127.0.0.1:8080/parties";
-    let serve = named(alloc, "serve", about, example);
+    let serve = described_command(alloc, "serve", about, example);
     let with_file = with_option(
         serve,
         file_option(alloc, "The file of the register, as 'land new' makes it"),
@@ -102,29 +114,31 @@ While it runs: curl -H 'Register-Party: 1' -H 'Register-Role: stateAdministrator
     with_option(with_port, connections_option(alloc))
 }
 
+/// Declares `check`.
 fn check<'a>(alloc: Global) -> Result<Command<'a>, AllocError>
     ensures { IfOk result (IsCommand check_app) }
 {
     let about =
         "Says whether a file holds a sound register, with its last moment and its next number";
     let example = "Example: land check --file town.land";
-    let check = named(alloc, "check", about, example);
+    let check = described_command(alloc, "check", about, example);
     let file = file_option(alloc, "The file of the register");
     with_option(check, file)
 }
 
+/// Declares `migrate`.
 fn migrate<'a>(alloc: Global) -> Result<Command<'a>, AllocError>
     ensures { IfOk result (IsCommand migrate_app) }
 {
     let about =
         "Makes of a register of version 1 in a file, which has no mandates, one of version 2";
     let example = "Example: land migrate --file town.land";
-    let migrate = named(alloc, "migrate", about, example);
+    let migrate = described_command(alloc, "migrate", about, example);
     let file = file_option(alloc, "The file of the register");
     with_option(migrate, file)
 }
 
-/// A command over a file, at what a clock reads.
+/// Adds the options `--file` and `--clock`.
 fn with_clock<'a>(alloc: Global, command: Command<'a>) -> Result<Command<'a>, AllocError>
     ensures { (app : App) → IsCommand app command.entry → IfOk result (IsCommand (with_clock app)) }
 {
@@ -132,18 +146,20 @@ fn with_clock<'a>(alloc: Global, command: Command<'a>) -> Result<Command<'a>, Al
     with_option(with_file, clock_option(alloc))
 }
 
-/// A command that is told who asks: a party, and in which role.
+/// Adds the options `--party` and `--role`: the caller.
 fn with_caller<'a>(
     alloc: Global,
     command: Command<'a>,
     roles: &'a [&'a str],
 ) -> Result<Command<'a>, AllocError>
-    ensures { (app : App) → IsCommand app command.entry → IfOk result (IsCommand (with_caller roles.entry app)) }
+    ensures { (app : App) → IsCommand app command.entry
+        → IfOk result (IsCommand (with_caller roles.entry app)) }
 {
     let with_party = with_option(command, party_option(alloc))?;
     with_option(with_party, role_option(alloc, roles))
 }
 
+/// Declares `extract`.
 fn extract<'a>(alloc: Global, choices: Choices<'a>) -> Result<Command<'a>, AllocError>
     ensures { IfOk result (IsCommand (extract_app choices.entry)) }
 {
@@ -151,24 +167,24 @@ fn extract<'a>(alloc: Global, choices: Choices<'a>) -> Result<Command<'a>, Alloc
         "Prints what a party sees of one kind in the register in a file, as CSV, and changes nothing";
     let example =
         "Example: land extract --file town.land --clock 1000 --party 3 --role citizen --kind rrr";
-    let extract = named(alloc, "extract", about, example);
+    let extract = described_command(alloc, "extract", about, example);
     let timed = with_clock(alloc, extract)?;
     let asked = with_caller(alloc, timed, choices.roles)?;
     let with_kind = with_option(asked, kind_option(alloc, choices.kinds))?;
     with_option(with_kind, at_option(alloc))
 }
 
-/// The program with all its commands, which takes these words for roles and kinds.
+/// Declares the program with all its commands. `choices`: the words for roles and kinds.
 pub fn land<'a>(alloc: Global, choices: Choices<'a>) -> Result<Command<'a>, AllocError>
     ensures { IfOk result (IsCommand (land_app choices.entry)) }
 {
     let about =
         "A land register: parties, their rights, restrictions and responsibilities, and the land that these are of";
-    let land = of_commands(named(alloc, "land", about, MORE));
-    let talking = with_command(land, talk(alloc)?)?;
-    let making = with_command(talking, make(alloc)?)?;
-    let serving = with_command(making, serve(alloc)?)?;
-    let checking = with_command(serving, check(alloc)?)?;
-    let migrating = with_command(checking, migrate(alloc)?)?;
-    with_command(migrating, extract(alloc, choices)?)
+    let land = of_commands(described_command(alloc, "land", about, MORE));
+    let with_talk = with_command(land, talk(alloc)?)?;
+    let with_new = with_command(with_talk, make(alloc)?)?;
+    let with_serve = with_command(with_new, serve(alloc)?)?;
+    let with_check = with_command(with_serve, check(alloc)?)?;
+    let with_migrate = with_command(with_check, migrate(alloc)?)?;
+    with_command(with_migrate, extract(alloc, choices)?)
 }

@@ -1,18 +1,19 @@
-//! Laws, each stated over the definitions alone.
-ghost use Rattle.land_commands.specs.Words.Laws.{FaultlessWordsLaw, OneCommandLaw, PlainExtractLaw, PlainFileLaw};
+//! Theorems about the definitions, without reference to code.
+ghost use Rattle.land_commands.specs.Words.Laws.{FaultlessWordsLaw, OneCommandLaw, PlainExtractLaw};
+ghost use Rattle.land_commands.specs.Words.Laws.{PlainFileLaw};
 ghost use Rattle.land_commands.specs.Words.Laws.{PlainServiceLaw, PlainTalkLaw};
 
-/// The same words name one command at most.
+/// Arguments name at most one command.
 pub fn words_name_one_command()
     ensures { OneCommandLaw }
 {}
 
-/// Words in which `clap` finds no fault name a command.
+/// Arguments in which `clap` finds no fault name a command.
 pub fn faultless_words_name_a_command()
     ensures { FaultlessWordsLaw }
 {}
 
-/// `talk --clock MS` names that talk, where MS is the decimal digits of a moment.
+/// `talk --clock MS` names `talk`, if MS is a moment in decimal digits.
 pub fn plain_words_are_read()
     ensures { PlainTalkLaw }
 {}
@@ -22,13 +23,13 @@ pub fn plain_files_are_read()
     ensures { PlainFileLaw }
 {}
 
-/// `serve --file FILE --port PORT --connections COUNT` names that service, where PORT and COUNT are decimal digits.
+/// `serve --file FILE --port PORT --connections COUNT` names `serve`, if PORT and COUNT are decimal digits.
 pub fn plain_services_are_read()
     ensures { PlainServiceLaw }
 {}
 
-/// `extract --file FILE --clock MS --party NUMBER --role ROLE --kind KIND` names that extract, where the numbers are decimal
-/// digits, and `--at MS` behind them says at which moment.
+/// `extract --file FILE --clock MS --party NUMBER --role ROLE --kind KIND`, optionally with `--at MS`, names
+/// `extract`, if the numbers are decimal digits.
 pub fn plain_extracts_are_read()
     ensures { PlainExtractLaw }
 {}

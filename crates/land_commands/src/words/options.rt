@@ -1,23 +1,26 @@
-//! The options of the commands.
+//! Declares the options of the commands to `clap`.
 ghost use Rattle.std.specs.Prelude.{pos, true};
-ghost use Rattle.land_commands.specs.Words.Options.{IsOption, at_rule, clock_rule, connections_rule, file_rule, kind_rule};
-ghost use Rattle.land_commands.specs.Words.Options.{moment_rule, option_rule, party_rule, port_rule, role_rule};
+ghost use Rattle.land_commands.specs.Words.Options.{IsOption, at_rule, clock_rule, connections_rule};
+ghost use Rattle.land_commands.specs.Words.Options.{file_rule};
+ghost use Rattle.land_commands.specs.Words.Options.{kind_rule, moment_rule, option_rule, party_rule};
+ghost use Rattle.land_commands.specs.Words.Options.{port_rule};
+ghost use Rattle.land_commands.specs.Words.Options.{role_rule};
 
 use clap::Arg;
 use clap::builder::ValueParser;
 use land_core::limits::LAST_MOMENT;
 use std::alloc::Global;
 
-/// The last port that there is.
+/// The largest port.
 pub const LAST_PORT: i64 = 65_535;
 
-/// How many connections may be served at most.
+/// The largest number of connections to serve.
 pub const MOST_CONNECTIONS: i64 = 1_000_000;
 
-/// The last number of a party that may ask.
+/// The largest number of a party that may be the caller.
 pub const LAST_PARTY: i64 = 1_000_000_000;
 
-/// An option `--NAME VALUE`.
+/// Declares an option `--NAME VALUE`.
 fn option<'a>(
     alloc: Global,
     name: &'a str,
@@ -36,7 +39,7 @@ fn option<'a>(
         .value_parser(values)
 }
 
-/// An option `--NAME MS`: a moment in milliseconds since 1970 UTC, up to the last one.
+/// Declares an option `--NAME MS`: a moment in Unix milliseconds, from 0 to the last moment.
 fn moment_option<'a>(alloc: Global, name: &'a str, help: &'a str, is_required: bool) -> Arg<'a>
     ensures { IsOption (moment_rule name.entry.now is_required) result }
 {
@@ -44,7 +47,7 @@ fn moment_option<'a>(alloc: Global, name: &'a str, help: &'a str, is_required: b
     option(alloc, name, "MS", help, is_required, moments)
 }
 
-/// The option `--clock MS`.
+/// Declares `--clock MS`.
 pub fn clock_option<'a>(alloc: Global) -> Arg<'a>
     ensures { IsOption clock_rule result }
 {
@@ -52,7 +55,7 @@ pub fn clock_option<'a>(alloc: Global) -> Arg<'a>
     moment_option(alloc, "clock", help, true)
 }
 
-/// The option `--at MS`, which may be left out.
+/// Declares `--at MS`, which is optional.
 pub fn at_option<'a>(alloc: Global) -> Arg<'a>
     ensures { IsOption at_rule result }
 {
@@ -61,7 +64,7 @@ pub fn at_option<'a>(alloc: Global) -> Arg<'a>
     moment_option(alloc, "at", help, false)
 }
 
-/// The option `--file FILE`: any text.
+/// Declares `--file FILE`: any text.
 pub fn file_option<'a>(alloc: Global, help: &'a str) -> Arg<'a>
     ensures { IsOption file_rule result }
 {
@@ -69,7 +72,7 @@ pub fn file_option<'a>(alloc: Global, help: &'a str) -> Arg<'a>
     option(alloc, "file", "FILE", help, true, texts)
 }
 
-/// The option `--port PORT`, from 1 on.
+/// Declares `--port PORT`: 1 to 65535.
 pub fn port_option<'a>(alloc: Global) -> Arg<'a>
     ensures { IsOption port_rule result }
 {
@@ -78,7 +81,7 @@ pub fn port_option<'a>(alloc: Global) -> Arg<'a>
     option(alloc, "port", "PORT", help, true, ports)
 }
 
-/// The option `--connections COUNT`, from 1 on.
+/// Declares `--connections COUNT`: 1 to 1000000.
 pub fn connections_option<'a>(alloc: Global) -> Arg<'a>
     ensures { IsOption connections_rule result }
 {
@@ -87,7 +90,7 @@ pub fn connections_option<'a>(alloc: Global) -> Arg<'a>
     option(alloc, "connections", "COUNT", help, true, counts)
 }
 
-/// The option `--party NUMBER`, from 1 on.
+/// Declares `--party NUMBER`: 1 to 1000000000.
 pub fn party_option<'a>(alloc: Global) -> Arg<'a>
     ensures { IsOption party_rule result }
 {
@@ -96,7 +99,7 @@ pub fn party_option<'a>(alloc: Global) -> Arg<'a>
     option(alloc, "party", "NUMBER", help, true, parties)
 }
 
-/// The option `--role ROLE`: one of these words.
+/// Declares `--role ROLE`: one of these words.
 pub fn role_option<'a>(alloc: Global, roles: &'a [&'a str]) -> Arg<'a>
     ensures { IsOption (role_rule roles.entry) result }
 {
@@ -104,7 +107,7 @@ pub fn role_option<'a>(alloc: Global, roles: &'a [&'a str]) -> Arg<'a>
     option(alloc, "role", "ROLE", help, true, ValueParser::Names(roles))
 }
 
-/// The option `--kind KIND`: one of these words.
+/// Declares `--kind KIND`: one of these words.
 pub fn kind_option<'a>(alloc: Global, kinds: &'a [&'a str]) -> Arg<'a>
     ensures { IsOption (kind_rule kinds.entry) result }
 {

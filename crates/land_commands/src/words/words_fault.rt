@@ -1,14 +1,14 @@
-//! Why the words of the command line name no command.
+//! Faults of the arguments.
 ghost use Rattle.std.specs.Prelude.{◌≡◌};
 
 use std::alloc::AllocError;
 
-/// Why the words of the command line name no command.
+/// Why the arguments name no command.
 #[derive(Debug, Drop)]
 pub enum WordsFault {
-    /// `clap` refuses the words, or they ask for help: this is its text.
+    /// `clap` rejects the arguments, or they request help: its text.
     Refused(String),
-    /// 501: there was no memory.
+    /// 501: out of memory.
     NoMemory,
 }
 

@@ -1,14 +1,15 @@
--- How long a connection is waited for, in nanoseconds.
+-- Timeouts of a connection, in nanoseconds.
 use Rattle.std.specs.Prelude.{ℕ, ◌-◌, min}
 
--- for its next bytes at most: half a minute
-abbrev pub patience : ℕ
-patience = 30_000_000_000
+-- The longest wait for the next bytes: 30 s.
+abbrev pub idle_timeout : ℕ
+idle_timeout = 30_000_000_000
 
--- for the next bytes of a request that has taken so long already: half a minute, or less where less is left of a minute
-abbrev pub waited : (taken : ℕ) → ℕ
-waited taken = min patience (60_000_000_000 - taken)
+-- The longest wait for the next bytes of a request that has taken this long: 30 s, and at most the rest of 60
+-- s.
+abbrev pub read_timeout_after : (taken : ℕ) → ℕ
+read_timeout_after taken = min idle_timeout (60_000_000_000 - taken)
 
--- after its last reply at most: a second
-abbrev pub after : ℕ
-after = 1_000_000_000
+-- The longest time to read on after the last reply: 1 s.
+abbrev pub linger : ℕ
+linger = 1_000_000_000

@@ -1,37 +1,54 @@
--- How much is asked of the reader of a stream, by what it has left: nothing, once the last item is there.
+-- How far the reader of a stream is read: no further than the last item requires.
 use Rattle.std.specs.Prelude.{◌≡◌, ℕ, ◌+◌, ◌<◌, ◌≤◌, List, [], ◌∷◌, ◌++◌, length, ◌⊎◌, Option, Some, None}
+use Rattle.std.specs.Prelude.{Result, IfOk}
+use Rattle.land_desk.specs.declared.serve.DeskFault.{DeskFault}
+use Rattle.land_desk.specs.declared.serve.Served.{Served}
 use Rattle.land_wire.specs.Framing.Items.{Item, request, faulty, IsItem}
 use Rattle.land_wire.specs.Framing.Stream.{IsJustRead}
 use Rattle.land_wire.specs.declared.framing.frame_fault.FrameFault.TheVariants as fault
 
--- of bytes that are known, and of what the reader has left of them
+-- A condition on the bytes of a reader before and after, if they are known.
 abbrev pub IfBoth : (bytes left : Option (List ℕ)) → (List ℕ → List ℕ → Type 0) → Type 0
 IfBoth None left P = Unit {0}
 IfBoth (Some bytes) None P = ⊥
 IfBoth (Some bytes) (Some left) P = P bytes left
 
--- so many bytes were taken at most
+-- At most this number of bytes was taken from the reader.
 abbrev pub TakesAtMost : (most : ℕ) → (bytes left : List ℕ) → Type 0
 TakesAtMost most bytes left = (taken : List ℕ) × (bytes ≡ taken ++ left) × (length taken ≤ most)
 
--- these items stand at the front of the bytes, and the rest follows them
-abbrev pub Begins : List ℕ → List Item → List ℕ → Type 0
-Begins bytes [] rest = rest ≡ bytes
-Begins bytes (item ∷ items) rest = (mid : List ℕ) × IsItem bytes item mid × Begins mid items rest
+-- The bytes begin with these items, and `rest` follows them.
+abbrev pub BeginsWith : List ℕ → List Item → List ℕ → Type 0
+BeginsWith bytes [] rest = rest ≡ bytes
+BeginsWith bytes (item ∷ items) rest = (mid : List ℕ) × IsItem bytes item mid × BeginsWith mid items rest
 
--- nothing was asked once the item at the front of the bytes was there: rest follows it, and so much is left in the reader
+-- The reader was not called once the first item was complete. `rest` follows the item, `left` is still in the
+-- reader.
 abbrev pub IsAskedFor : (bytes : List ℕ) → Item → (rest left : List ℕ) → Type 0
--- of the bytes behind a request at most 1023 were taken
-IsAskedFor bytes (request h body) rest left = (ahead : List ℕ) × (rest ≡ ahead ++ left) × (length ahead < 1024)
--- no fault was to be told without the last piece; a stream that ends too early may be read to its end
-IsAskedFor bytes (faulty f) rest left = (f ≡ fault.Cut) ⊎ ((taken : List ℕ) × (bytes ≡ taken ++ left) × IsJustRead taken)
+-- After a request at most 1023 bytes were read ahead.
+IsAskedFor bytes (request h body) rest left =
+    (ahead : List ℕ) × (rest ≡ ahead ++ left) × (length ahead < 1024)
+-- Without the last chunk the fault could not be found. A stream that is truncated may be read to its end.
+IsAskedFor bytes (faulty f) rest left =
+    (f ≡ fault.Cut) ⊎ ((taken : List ℕ) × (bytes ≡ taken ++ left) × IsJustRead taken)
 
--- the item at the front of the bytes was the last to be asked for
+-- The first item of the bytes was the last one that was read.
 abbrev pub AsksForOne : (bytes left : List ℕ) → Type 0
-AsksForOne bytes left = (item : Item) × (rest : List ℕ) × IsItem bytes item rest × IsAskedFor bytes item rest left
+AsksForOne bytes left =
+    (item : Item) × (rest : List ℕ) × IsItem bytes item rest × IsAskedFor bytes item rest left
 
--- so many items were asked for, and no more; where there was none, all was taken
+-- This number of items was read, and no more. If there was none, the reader was read to its end.
 abbrev pub AsksFor : (items : ℕ) → (bytes left : List ℕ) → Type 0
 AsksFor n bytes left =
     ((n ≡ 0) × (left ≡ []))
-    ⊎ ((items : List Item) × (last : List ℕ) × Begins bytes items last × (n ≡ length items + 1) × AsksForOne last left)
+    ⊎ ((items : List Item) × (at_last : List ℕ) × BeginsWith bytes items at_last × (n ≡ length items + 1)
+    × AsksForOne at_last left)
+
+-- If serving ended without a fault, the reader was read no further than the served items require.
+abbrev pub ReadsOnlyItems : (old new : Option (List ℕ)) → Result Served DeskFault → Type 0
+ReadsOnlyItems old new result =
+    IfBoth old new (λ bytes left. IfOk result (λ served. AsksFor served.replies bytes left))
+
+-- At most this number of bytes was taken from the reader, if its bytes are known.
+abbrev pub ReadsAtMost : (most : ℕ) → (old new : Option (List ℕ)) → Type 0
+ReadsAtMost most old new = IfBoth old new (TakesAtMost most)

@@ -1,4 +1,4 @@
-//! Callers at a port.
+//! TCP connections, with timeouts.
 use crate::service::connections::Connections;
 use crate::service::stopwatch::{PATIENCE, Stopwatch};
 use land_streams::counted_reader::MOST_READS;
@@ -7,8 +7,11 @@ use std::net::{Shutdown, TcpListener, TcpStream};
 use std::time::Duration;
 use std::{io, time};
 
-/// Those who call at a port, one after another. One that brings nothing or takes nothing for half a minute, or whose request takes longer
-/// than a minute, has failed to, so that it does not keep the next one waiting for ever.
+/// Connections to a TCP port, one at a time.
+///
+/// A read fails if no byte arrives for 30 s, or if a request takes longer than 60 s from its first byte to
+/// its last. A write fails if the client accepts no byte for 30 s. So a slow client does not block the
+/// others.
 #[derive(Drop)]
 pub struct Callers<'a, M> {
     listener: TcpListener,
@@ -16,13 +19,14 @@ pub struct Callers<'a, M> {
 }
 
 impl<'a, M: time::Clock> Callers<'a, M> {
-    /// Those who call where this listens, with a stopwatch for the one that is served.
+    /// Creates the source of the connections to `listener`. `watch`: the timer of the connection that is
+    /// served.
     pub fn new(listener: TcpListener, watch: &'a Stopwatch<M>) -> Callers<'a, M> {
         Callers { listener, watch }
     }
 }
 
-/// What a caller brings.
+/// Reads from a connection, with timeouts.
 #[derive(Drop)]
 pub struct CallReader<'a, M> {
     stream: TcpStream,
@@ -30,13 +34,13 @@ pub struct CallReader<'a, M> {
 }
 
 impl<'a, M: time::Clock> CallReader<'a, M> {
-    /// Reads on to the end of what the caller brings, for a second at most, and passes over it.
+    /// Reads and discards the rest of the input, for at most 1 s.
     fn drain(&mut self) -> io::Result<()> {
         let served = self.watch.now()?;
         let mut piece = [0; 4096];
         for _ in 0..MOST_READS {
-            let rest = self.watch.rest(served)?;
-            self.stream.set_read_timeout(Some(rest))?;
+            let left = self.watch.linger_left(served)?;
+            self.stream.set_read_timeout(Some(left))?;
             if self.stream.read(&mut piece)? == 0 {
                 return Ok(());
             }
@@ -47,15 +51,15 @@ impl<'a, M: time::Clock> CallReader<'a, M> {
 
 impl<'a, M: time::Clock> Read for CallReader<'a, M> {
     fn read(&mut self, buf: &mut [u8]) -> io::Result<usize> {
-        let wait = self.watch.wait()?;
-        self.stream.set_read_timeout(Some(wait))?;
+        let next_timeout = self.watch.next_timeout()?;
+        self.stream.set_read_timeout(Some(next_timeout))?;
         let count = self.stream.read(buf)?;
         self.watch.start()?;
         Ok(count)
     }
 }
 
-/// Where the replies to a caller go.
+/// Writes to a connection, with a timeout.
 #[derive(Drop)]
 pub struct CallWriter<'a, M> {
     stream: TcpStream,
@@ -74,9 +78,11 @@ impl<'a, M: time::Clock> Write for CallWriter<'a, M> {
     }
 }
 
-/// A caller's connection is read and written through two handles of its socket, and ends where both are let go. Each reply is sent as soon as
-/// it is written (`TCP_NODELAY`), whether or not the one before was acknowledged. After the last one the caller is told that no more comes,
-/// and is read on for a second at most: a socket that is let go with bytes unread resets the connection, and the reply may be lost.
+/// A connection has a reader and a writer, two handles of one socket, which is closed when both are dropped.
+///
+/// Each reply is sent at once (`TCP_NODELAY`), even if the one before is not acknowledged yet. After the last
+/// reply the write side is shut down, and input is discarded for at most 1 s: if a socket is closed with
+/// unread bytes, TCP resets the connection and the client may lose the reply.
 impl<'a, M: time::Clock + Drop> Connections for Callers<'a, M> {
     type Reader = CallReader<'a, M>;
 
@@ -95,7 +101,7 @@ impl<'a, M: time::Clock + Drop> Connections for Callers<'a, M> {
         Ok((reader, CallWriter { stream, watch }))
     }
 
-    fn end(reader: &mut CallReader<'a, M>, writer: &mut CallWriter<'a, M>) {
+    fn close_connection(reader: &mut CallReader<'a, M>, writer: &mut CallWriter<'a, M>) {
         if writer.stream.shutdown(Shutdown::Write).is_ok() {
             match reader.drain() {
                 Ok(()) | Err(_) => {}

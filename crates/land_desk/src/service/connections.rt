@@ -1,25 +1,26 @@
-//! Where connections come from.
+//! Sources of connections.
 ghost use Rattle.std.specs.Prelude.{List, None, Option, ℕ};
 ghost use Rattle.land_desk.specs.Service.Coming.{Comes, brought};
 
 use std::io;
 use std::io::{Read, Write};
 
-/// A source of connections, one after another.
+/// A source of connections, accepted one at a time.
 pub trait Connections {
-    /// What a connection brings.
+    /// Reads the input of a connection.
     type Reader: Read + Drop;
 
-    /// Where its replies go.
+    /// Writes the replies to a connection.
     type Writer: Write + Drop;
 
-    /// What the connections to come will bring, each with the bytes that its reader gives, where that is known.
+    /// The inputs of the pending connections, if they are known.
     ghost coming: { Self → Option (List (Option (List ℕ))) } = { λ _. None };
 
-    /// Waits for the next connection.
+    /// Waits for the next connection and accepts it.
     fn next_connection(&mut self) -> io::Result<(Self::Reader, Self::Writer)>
         ensures { Comes (coming self.old) (coming self.new) (brought Self.Reader.remaining result) };
 
-    /// Ends a connection that was served, so that its last reply arrives. Nothing but the connection is at hand.
-    fn end(reader: &mut Self::Reader, writer: &mut Self::Writer);
+    /// Closes a connection that was served, so that its last reply arrives. Has access to the connection
+    /// only.
+    fn close_connection(reader: &mut Self::Reader, writer: &mut Self::Writer);
 }

@@ -1,4 +1,4 @@
-//! The machine's clock.
+//! The system clock.
 ghost use Rattle.std.specs.Prelude.{◌≡◌};
 ghost use Rattle.std.specs.Time.{system_time_nanos};
 ghost use Rattle.land_desk.specs.Service.Reading.{milliseconds, reads_time};
@@ -7,10 +7,10 @@ use land_keep::clock::Clock;
 use std::time;
 use std::time::{SystemTime, UNIX_EPOCH};
 
-/// The machine's clock: milliseconds since 1970 UTC, 0 where it cannot be read.
+/// The system clock. Reads Unix time in milliseconds, or 0 if it cannot be read.
 #[derive(Clone, Copy, Debug, PartialEq, Eq)]
 pub struct MachineClock<R> {
-    /// What asks the machine.
+    /// Access to the clock of the host.
     pub machine: R,
 }
 
@@ -25,7 +25,7 @@ impl<R: time::Clock> Clock for MachineClock<R> {
     }
 }
 
-/// Milliseconds since 1970 UTC, or 0 where 64 bits do not hold them.
+/// Returns a time as Unix time in milliseconds, or 0 if it is before 1970 or does not fit in 64 bits.
 pub fn milliseconds(now: SystemTime) -> i64
     ensures { result ≡ milliseconds (system_time_nanos now) }
 {

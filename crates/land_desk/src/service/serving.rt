@@ -1,7 +1,7 @@
-//! Serving connections one after another.
+//! Serves connections one at a time.
 ghost use Rattle.std.specs.Prelude.{◌≡◌, false};
 ghost use Rattle.land_desk.specs.Service.{IsNext, IsService, TellsClosed};
-ghost use Rattle.land_keep.specs.Keeping.{IsAt};
+ghost use Rattle.land_keep.specs.Keepers.{Represents, WasHonest, state_of};
 
 use crate::serve::serve;
 use crate::service::connections::Connections;
@@ -9,17 +9,19 @@ use land_keep::clock::Clock;
 use land_keep::keeper::Keeper;
 use std::alloc::Global;
 
-/// Why connections are served no more.
+/// Why the service ended early.
 #[derive(Clone, Copy, Debug, PartialEq, Eq)]
 pub enum ServiceFault {
-    /// 502: a store call has failed, and the keeper is closed.
+    /// 502: a store operation failed, and the keeper is closed.
     Closed,
-    /// The next connection could not be had.
+    /// Accepting the next connection failed.
     Accept,
 }
 
-/// Serves so many connections one after another. A connection that breaks off ends alone; after a store call has failed
-/// no other one is served, and the fault is told.
+/// Serves this number of connections, one at a time.
+///
+/// A connection that is dropped ends only itself. Once a store operation has failed, no other connection is
+/// served, and the error is `Closed`. If accepting fails, the error is `Accept`.
 pub fn serve_connections<L: Connections, K: Keeper, C: Clock>(
     alloc: Global,
     listener: &mut L,
@@ -27,12 +29,11 @@ pub fn serve_connections<L: Connections, K: Keeper, C: Clock>(
     keeper: &mut K,
     clock: &mut C,
 ) -> Result<(), ServiceFault>
-    ensures told { TellsClosed result (K.closed keeper.new) }
+    ensures closed { TellsClosed result (K.closed keeper.new) }
     ensures served { K.honest keeper.new → IsService C.reads connections
-        (record { closed = K.closed keeper.old; timeline = K.timeline keeper.old; clock = clock.old })
-        (IsAt (K.honest keeper.new) (K.closed keeper.new) (K.timeline keeper.new) clock.new)
+        (state_of K.Keeper keeper.old clock.old) (Represents K.Keeper keeper.new clock.new)
         (L.coming listener.old) (L.coming listener.new) result }
-    ensures was { K.honest keeper.new → K.honest keeper.old }
+    ensures was { WasHonest K.Keeper keeper.old keeper.new }
 {
     if keeper.is_closed() {
         return Err(ServiceFault::Closed);
@@ -46,7 +47,7 @@ pub fn serve_connections<L: Connections, K: Keeper, C: Clock>(
     Ok(())
 }
 
-/// Serves the next connection, over a keeper that is open.
+/// Serves the next connection. The keeper is open.
 fn serve_next<L: Connections, K: Keeper, C: Clock>(
     alloc: Global,
     listener: &mut L,
@@ -54,18 +55,17 @@ fn serve_next<L: Connections, K: Keeper, C: Clock>(
     clock: &mut C,
 ) -> Result<(), ServiceFault>
     requires { K.closed keeper.old ≡ false }
-    ensures told { TellsClosed result (K.closed keeper.new) }
+    ensures closed { TellsClosed result (K.closed keeper.new) }
     ensures served { K.honest keeper.new → IsNext C.reads
-        (record { closed = K.closed keeper.old; timeline = K.timeline keeper.old; clock = clock.old })
-        (IsAt (K.honest keeper.new) (K.closed keeper.new) (K.timeline keeper.new) clock.new)
+        (state_of K.Keeper keeper.old clock.old) (Represents K.Keeper keeper.new clock.new)
         (L.coming listener.old) (L.coming listener.new) result }
-    ensures was { K.honest keeper.new → K.honest keeper.old }
+    ensures was { WasHonest K.Keeper keeper.old keeper.new }
 {
     let Ok((mut reader, mut writer)) = listener.next_connection() else {
         return Err(ServiceFault::Accept);
     };
     match serve(alloc, &mut reader, &mut writer, keeper, clock) {
-        Ok(_) => L::end(&mut reader, &mut writer),
+        Ok(_) => L::close_connection(&mut reader, &mut writer),
         Err(_) => {}
     }
     if keeper.is_closed() {

@@ -1,80 +1,80 @@
-//! How long a connection is waited for.
+//! Timeouts of a connection.
 ghost use Rattle.std.specs.Prelude.{◌≡◌, ◌≤◌, IfOk};
 ghost use Rattle.std.specs.Duration.{as_nanos};
-ghost use Rattle.land_desk.specs.Service.Waiting.{after, patience, waited};
+ghost use Rattle.land_desk.specs.Service.Waiting.{idle_timeout, linger, read_timeout_after};
 
 use std::cell::Cell;
 use std::time::{Duration, Instant};
 use std::{io, time};
 
-/// So many seconds a connection is waited for at most: for its next bytes, and until it takes some of a reply.
+/// The longest wait, in seconds, for the next bytes of a connection, and until it accepts bytes of a reply.
 pub(crate) const PATIENCE: u64 = 30;
 
-/// So many seconds a request may take, from its first bytes to its last.
-const WHOLE: u64 = 60;
+/// The longest time, in seconds, from the first bytes of a request to its last.
+const REQUEST_TIMEOUT: u64 = 60;
 
-/// So many seconds a connection is read on after its last reply.
-const AFTER: u64 = 1;
+/// The time, in seconds, for which input is discarded after the last reply.
+const LINGER: u64 = 1;
 
-/// How long the next bytes of a request are waited for that has taken so long already.
+/// Returns the longest wait for the next bytes of a request that has taken `taken` until now.
 pub fn wait_after(taken: Duration) -> Duration
-    ensures { as_nanos result ≡ waited (as_nanos taken) }
+    ensures { as_nanos result ≡ read_timeout_after (as_nanos taken) }
 {
     let most = Duration::from_secs(PATIENCE);
-    let left = Duration::from_secs(WHOLE).saturating_sub(taken);
+    let left = Duration::from_secs(REQUEST_TIMEOUT).saturating_sub(taken);
     if left < most { left } else { most }
 }
 
-/// Tells by a machine's clock how long a connection is waited for. Its reader and its writer share it: a request begins with the first bytes
-/// that are read after a reply was written.
+/// Measures how long a request takes, by the clock of the host. The reader and the writer of a connection
+/// share it. A request starts with the first bytes that are read after a reply was written.
 #[derive(Drop)]
 pub struct Stopwatch<M> {
     machine: M,
-    begun: Cell<Option<Instant>>,
+    started_at: Cell<Option<Instant>>,
 }
 
 impl<M: time::Clock> Stopwatch<M> {
-    /// A stopwatch by which no request has begun.
+    /// Creates a timer. No request has started.
     pub fn new(machine: M) -> Stopwatch<M> {
         Stopwatch {
             machine,
-            begun: Cell::new(None),
+            started_at: Cell::new(None),
         }
     }
 
-    /// What the machine's clock reads.
+    /// Reads the clock.
     pub fn now(&self) -> io::Result<Instant> {
         Instant::now(&self.machine)
     }
 
-    /// Bytes of a request came, perhaps its first ones.
+    /// Records that bytes of a request arrived. The first ones start the request.
     pub fn start(&self) -> io::Result<()> {
-        if self.begun.get().is_none() {
-            self.begun.set(Some(self.now()?));
+        if self.started_at.get().is_none() {
+            self.started_at.set(Some(self.now()?));
         }
         Ok(())
     }
 
-    /// A connection is new, or a reply was written: the next bytes begin a request.
+    /// Records that no request has started: the connection is new, or a reply was written.
     pub fn reset(&self) {
-        self.begun.set(None);
+        self.started_at.set(None);
     }
 
-    /// How long the next bytes are waited for: not at all where the request at hand has taken its time.
-    pub fn wait(&self) -> io::Result<Duration>
-        ensures { IfOk result (λ wait. as_nanos wait ≤ patience) }
+    /// Returns the longest wait for the next bytes: 0 if the request has taken its 60 s.
+    pub fn next_timeout(&self) -> io::Result<Duration>
+        ensures { IfOk result (λ next_timeout. as_nanos next_timeout ≤ idle_timeout) }
     {
-        match self.begun.get() {
-            Some(begun) => Ok(wait_after(begun.elapsed(&self.machine)?)),
+        match self.started_at.get() {
+            Some(started_at) => Ok(wait_after(started_at.elapsed(&self.machine)?)),
             None => Ok(Duration::from_secs(PATIENCE)),
         }
     }
 
-    /// How long a connection is still read on that was served at this moment.
-    pub fn rest(&self, served: Instant) -> io::Result<Duration>
-        ensures { IfOk result (λ rest. as_nanos rest ≤ after) }
+    /// Returns how long input is still discarded of a connection whose last reply was sent at `served`.
+    pub fn linger_left(&self, served: Instant) -> io::Result<Duration>
+        ensures { IfOk result (λ left. as_nanos left ≤ linger) }
     {
         let gone = served.elapsed(&self.machine)?;
-        Ok(Duration::from_secs(AFTER).saturating_sub(gone))
+        Ok(Duration::from_secs(LINGER).saturating_sub(gone))
     }
 }

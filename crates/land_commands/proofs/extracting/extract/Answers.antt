@@ -19,7 +19,7 @@ returns-in-Ok g c =
       },
     )
 
--- it is not written to its end
+-- the extract is incomplete
 pub returns : goal.returns
 returns g c =
     let from = c.in_ok-tables.tables in

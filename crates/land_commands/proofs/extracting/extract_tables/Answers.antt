@@ -8,7 +8,7 @@ use Rattle.land_sheet.specs.Extracts.Writing.{IsExtracted}
 use Rattle.land_tables.specs.Office.{held}
 use Rattle.land_commands.proofs.extracting.extract_tables.Goals as goal
 
--- the tables that are handed back are those of the keeper
+-- the tables returned are those of the keeper
 pub returns : goal.returns
 returns g c =
     let S = g.S.Store in

@@ -5,11 +5,11 @@ use Rattle.land_commands.specs.Filed.{IsServedOver}
 use Rattle.land_desk.specs.declared.service.serving.ServiceFault.{ServiceFault}
 use Rattle.land_commands.proofs.filed.serve_file.Goals as goal
 
--- the port could not be listened on
+-- listening on the port failed
 pub returns-in_default : goal.returns-in_default
 returns-in_default g c = inr (inl (c.in_ok-tables.tables, c.in_ok-tables.ensures.finding, refl))
 
--- all were served, and the file is closed or is not
+-- all connections were served, and the file is closed or not
 pub returns-in-Ok-served : goal.returns-in-Ok-served
 returns-in-Ok-served g c =
     let S = g.H.Store.Store in

@@ -2,13 +2,13 @@ use Rattle.std.proofs.Common.{subst₂, sym}
 use Rattle.land_commands.specs.Filed.{IsServedOver}
 use Rattle.land_commands.proofs.filed.serve_tables.Goals as goal
 
--- the tables that are handed back are those of the keeper
+-- the tables returned are those of the keeper
 pub returns : goal.returns
 returns g c =
     let call = c.serve_connections-served in
     subst₂ (λ from to. IsServedOver g.S.Store g.C.Clock.reads c.args.connections (g.L.Connections.coming c.args.listener.now) (g.L.Connections.coming call.new.listener) from c.args.clock.now to call.new.clock call.result)
     c.new-keeper.ensures (sym c.into_tables.ensures) (record {
-      told = call.ensures.told;
+      told = call.ensures.closed;
       was = call.ensures.was;
       served = call.ensures.served;
     })

@@ -12,8 +12,8 @@ use Rattle.land_keep.specs.declared.reply.Reply.TheVariants as reply
 use Rattle.land_keep.specs.declared.store_fault.StoreFault.TheVariants.{NoMemory}
 use Rattle.land_desk.proofs.exchange.exchange_request.Goals as goal
 
-pub returns-in-Err-clause-heard : goal.returns-in-Err-clause-heard
-returns-in-Err-clause-heard g c from at =
+pub returns-in-Err-clause-reply : goal.returns-in-Err-clause-reply
+returns-in-Err-clause-reply g c from at =
     let before = g.K.Keeper.closed c.args.keeper.now in
     let closed = g.K.Keeper.closed c.prepare.new.keeper in
     let closes = c.in-Err.ensures.closes in
@@ -24,10 +24,10 @@ returns-in-Err-clause-heard g c from at =
     (fault_tells Prepared before closed c.in-Err.fault closes)
     c.in-Err.ensures.was (was_open Prepared before closed c.in-Err.fault closes) (λ trust is_open. c.in-Err.ensures.same (trust, is_open))
     from at in
-    (it.0, (reply.Store (number_of c.in-Err.fault), it.1, c.failed.ensures), it.2)
+    (it.0, (reply.Store (number_of c.in-Err.fault), it.1, c.store_failure.ensures), it.2)
 
-pub returns-in_default-clause-heard : goal.returns-in_default-clause-heard
-returns-in_default-clause-heard g c from at =
+pub returns-in_default-clause-reply : goal.returns-in_default-clause-reply
+returns-in_default-clause-reply g c from at =
     let before = g.K.Keeper.closed c.args.keeper.now in
     let closed = g.K.Keeper.closed c.prepare.new.keeper in
     let opened = opens before closed c.in-Ok.prepared c.in-Ok.ensures.closes in
@@ -39,10 +39,10 @@ returns-in_default-clause-heard g c from at =
     (fault_tells Prepared before closed NoMemory unsaid)
     c.in-Ok.ensures.was (λ is_open. opened.0) (λ trust is_open. c.in-Ok.ensures.same (trust, is_open))
     from at in
-    (it.0, (reply.Store 501, it.1, c.failed-in_default.ensures), it.2)
+    (it.0, (reply.Store 501, it.1, c.store_failure-in_default.ensures), it.2)
 
-pub returns-in-Err-finish-clause-heard : goal.returns-in-Err-finish-clause-heard
-returns-in-Err-finish-clause-heard g c from at =
+pub returns-in-Err-finish-clause-reply : goal.returns-in-Err-finish-clause-reply
+returns-in-Err-finish-clause-reply g c from at =
     let before = g.K.Keeper.closed c.args.keeper.now in
     let mid = g.K.Keeper.closed c.prepare.new.keeper in
     let closed = g.K.Keeper.closed c.finish.new.keeper in
@@ -58,10 +58,10 @@ returns-in-Err-finish-clause-heard g c from at =
     (λ trust. c.in-Ok.ensures.was (c.in-Err-finish.ensures.was trust)) (λ is_open. opened.0)
     (λ trust is_open. c.in-Err-finish.ensures.err (trust, is_open) ∙ c.in-Ok.ensures.same (c.in-Err-finish.ensures.was trust, opened.1))
     from at in
-    (it.0, (reply.Store (number_of fault), it.1, c.failed-in-Err-finish.ensures), it.2)
+    (it.0, (reply.Store (number_of fault), it.1, c.store_failure-in-Err-finish.ensures), it.2)
 
-pub returns-in-Ok-finish-clause-heard : goal.returns-in-Ok-finish-clause-heard
-returns-in-Ok-finish-clause-heard g c from at =
+pub returns-in-Ok-finish-clause-reply : goal.returns-in-Ok-finish-clause-reply
+returns-in-Ok-finish-clause-reply g c from at =
     let before = g.K.Keeper.closed c.args.keeper.now in
     let mid = g.K.Keeper.closed c.prepare.new.keeper in
     let closed = g.K.Keeper.closed c.finish.new.keeper in
@@ -78,6 +78,6 @@ returns-in-Ok-finish-clause-heard g c from at =
     from at in
     (it.0, (c.in-Ok.prepared.reply, it.1, rw c.reply.ensures at c.in-Some.ensures), it.2)
 
-pub answered-requires : goal.answered-requires
-answered-requires g c =
+pub try_respond-requires : goal.try_respond-requires
+try_respond-requires g c =
     rw c.reply.ensures (shown_has_moment c.args.request.now c.in-Ok.prepared.reply c.requires.moment c.in-Ok.ensures.moment)

@@ -1,8 +1,8 @@
 use Rattle.std.proofs.Common.{◌+◌, ◌*◌, ◌∙◌, Ok, Err, ap, arith, length, refl}
 use Rattle.std.specs.Io.KnownBytes.{prepend_known}
-use Rattle.land_desk.proofs.Asking.{asked_to_end, asked_to_last, begins_short, broken_off, called_before, kept_short, spent_all, spent_on, unspent}
-use Rattle.land_desk.proofs.Honesty.{comes_to, heard_later, keeps_on, starts}
-use Rattle.land_desk.proofs.Moving.{moves_on, unmoved}
+use Rattle.land_desk.proofs.Asking.{asked_to_end, asked_to_last, begins_short, broken_off, called_before, kept_short, spent_all, spent_on, spends_nothing}
+use Rattle.land_desk.proofs.Honesty.{comes_to, step_later, keeps_on, starts}
+use Rattle.land_desk.proofs.Moving.{moves_on, reach_self}
 use Rattle.land_desk.proofs.ServingLemmas.{serves_end, serves_last, serves_fault}
 use Rattle.land_desk.specs.Serving.{HearsIf}
 use Rattle.land_desk.specs.Turns.{IsTurn}
@@ -10,11 +10,11 @@ use Rattle.land_keep.specs.Keeping.{IsAt}
 use Rattle.land_keep.specs.Machine.{State}
 use Rattle.land_desk.proofs.serve.serve_items.Goals as goal
 
-pub returns-in-Ok-End-clause-served : goal.returns-in-Ok-End-clause-served
-returns-in-Ok-End-clause-served g c =
-    let hears = HearsIf (g.K.Keeper.honest c.loop-fault.keeper) g.C.Clock.reads in
+pub returns-in-Ok-Eof-clause-served : goal.returns-in-Ok-Eof-clause-served
+returns-in-Ok-Eof-clause-served g c =
+    let step = HearsIf (g.K.Keeper.honest c.loop-fault.keeper) g.C.Clock.reads in
     let later = HearsIf (g.K.Keeper.honest c.take_turn.new.keeper) g.C.Clock.reads in
-    let weaken = heard_later g.C.Clock.reads (g.K.Keeper.honest c.loop-fault.keeper) (g.K.Keeper.honest c.take_turn.new.keeper) c.in-Ok-End.ensures.was in
+    let weaken = step_later g.C.Clock.reads (g.K.Keeper.honest c.loop-fault.keeper) (g.K.Keeper.honest c.take_turn.new.keeper) c.in-Ok-Eof.ensures.was in
     let from : State g.row.C.Denot = record { closed = g.K.Keeper.closed c.args.keeper.now; timeline = g.K.Keeper.timeline c.args.keeper.now; clock = c.args.clock.now } in
     let start = g.R.Read.remaining c.args.reader.now.reader.now in
     let before = prepend_known c.loop-fault.buffer.items (g.R.Read.remaining c.loop-fault.reader.reader.now) in
@@ -22,19 +22,19 @@ returns-in-Ok-End-clause-served g c =
     let w = g.W.Write.contents c.args.writer.now in
     let u = g.W.Write.contents c.loop-fault.writer in
     let v = g.W.Write.contents c.take_turn.new.writer in
-    comes_to hears later weaken
+    comes_to step later weaken
     (λ s. IsAt (g.K.Keeper.honest c.loop-fault.keeper) (g.K.Keeper.closed c.loop-fault.keeper) (g.K.Keeper.timeline c.loop-fault.keeper) c.loop-fault.clock s)
     (λ s. IsAt (g.K.Keeper.honest c.take_turn.new.keeper) (g.K.Keeper.closed c.take_turn.new.keeper) (g.K.Keeper.timeline c.take_turn.new.keeper) c.take_turn.new.clock s)
     from start before w u v c.loop-fault.replies (Ok (record { replies = c.loop-fault.replies }))
-    (λ rest now to. IsTurn later rest now to after u v (Ok c.in-Ok-End.field-0))
-    (λ now to so turn. serves_end later start before after from now to w u v c.loop-fault.replies _ c.in-Ok-End.field-0-is so turn)
-    c.loop-fault.invariant.1 c.in-Ok-End.ensures.turn
+    (λ rest now to. IsTurn later rest now to after u v (Ok c.in-Ok-Eof.field-0))
+    (λ now to so turn. serves_end later start before after from now to w u v c.loop-fault.replies _ c.in-Ok-Eof.field-0-is so turn)
+    c.loop-fault.invariant.1 c.in-Ok-Eof.ensures.turn
 
-pub returns-in-Ok-Last-clause-served : goal.returns-in-Ok-Last-clause-served
-returns-in-Ok-Last-clause-served g c =
-    let hears = HearsIf (g.K.Keeper.honest c.loop-fault.keeper) g.C.Clock.reads in
+pub returns-in-Ok-Close-clause-served : goal.returns-in-Ok-Close-clause-served
+returns-in-Ok-Close-clause-served g c =
+    let step = HearsIf (g.K.Keeper.honest c.loop-fault.keeper) g.C.Clock.reads in
     let later = HearsIf (g.K.Keeper.honest c.take_turn.new.keeper) g.C.Clock.reads in
-    let weaken = heard_later g.C.Clock.reads (g.K.Keeper.honest c.loop-fault.keeper) (g.K.Keeper.honest c.take_turn.new.keeper) c.in-Ok-Last.ensures.was in
+    let weaken = step_later g.C.Clock.reads (g.K.Keeper.honest c.loop-fault.keeper) (g.K.Keeper.honest c.take_turn.new.keeper) c.in-Ok-Close.ensures.was in
     let from : State g.row.C.Denot = record { closed = g.K.Keeper.closed c.args.keeper.now; timeline = g.K.Keeper.timeline c.args.keeper.now; clock = c.args.clock.now } in
     let start = g.R.Read.remaining c.args.reader.now.reader.now in
     let before = prepend_known c.loop-fault.buffer.items (g.R.Read.remaining c.loop-fault.reader.reader.now) in
@@ -42,19 +42,19 @@ returns-in-Ok-Last-clause-served g c =
     let w = g.W.Write.contents c.args.writer.now in
     let u = g.W.Write.contents c.loop-fault.writer in
     let v = g.W.Write.contents c.take_turn.new.writer in
-    comes_to hears later weaken
+    comes_to step later weaken
     (λ s. IsAt (g.K.Keeper.honest c.loop-fault.keeper) (g.K.Keeper.closed c.loop-fault.keeper) (g.K.Keeper.timeline c.loop-fault.keeper) c.loop-fault.clock s)
     (λ s. IsAt (g.K.Keeper.honest c.take_turn.new.keeper) (g.K.Keeper.closed c.take_turn.new.keeper) (g.K.Keeper.timeline c.take_turn.new.keeper) c.take_turn.new.clock s)
     from start before w u v c.loop-fault.replies (Ok (record { replies = c.loop-fault.replies + 1 }))
-    (λ rest now to. IsTurn later rest now to after u v (Ok c.in-Ok-Last.field-0))
-    (λ now to so turn. serves_last later start before after from now to w u v c.loop-fault.replies _ c.in-Ok-Last.field-0-is so turn)
-    c.loop-fault.invariant.1 c.in-Ok-Last.ensures.turn
+    (λ rest now to. IsTurn later rest now to after u v (Ok c.in-Ok-Close.field-0))
+    (λ now to so turn. serves_last later start before after from now to w u v c.loop-fault.replies _ c.in-Ok-Close.field-0-is so turn)
+    c.loop-fault.invariant.1 c.in-Ok-Close.ensures.turn
 
 pub returns-in-Err-clause-served : goal.returns-in-Err-clause-served
 returns-in-Err-clause-served g c =
-    let hears = HearsIf (g.K.Keeper.honest c.loop-fault.keeper) g.C.Clock.reads in
+    let step = HearsIf (g.K.Keeper.honest c.loop-fault.keeper) g.C.Clock.reads in
     let later = HearsIf (g.K.Keeper.honest c.take_turn.new.keeper) g.C.Clock.reads in
-    let weaken = heard_later g.C.Clock.reads (g.K.Keeper.honest c.loop-fault.keeper) (g.K.Keeper.honest c.take_turn.new.keeper) c.in-Err.ensures.was in
+    let weaken = step_later g.C.Clock.reads (g.K.Keeper.honest c.loop-fault.keeper) (g.K.Keeper.honest c.take_turn.new.keeper) c.in-Err.ensures.was in
     let from : State g.row.C.Denot = record { closed = g.K.Keeper.closed c.args.keeper.now; timeline = g.K.Keeper.timeline c.args.keeper.now; clock = c.args.clock.now } in
     let start = g.R.Read.remaining c.args.reader.now.reader.now in
     let before = prepend_known c.loop-fault.buffer.items (g.R.Read.remaining c.loop-fault.reader.reader.now) in
@@ -62,7 +62,7 @@ returns-in-Err-clause-served g c =
     let w = g.W.Write.contents c.args.writer.now in
     let u = g.W.Write.contents c.loop-fault.writer in
     let v = g.W.Write.contents c.take_turn.new.writer in
-    comes_to hears later weaken
+    comes_to step later weaken
     (λ s. IsAt (g.K.Keeper.honest c.loop-fault.keeper) (g.K.Keeper.closed c.loop-fault.keeper) (g.K.Keeper.timeline c.loop-fault.keeper) c.loop-fault.clock s)
     (λ s. IsAt (g.K.Keeper.honest c.take_turn.new.keeper) (g.K.Keeper.closed c.take_turn.new.keeper) (g.K.Keeper.timeline c.take_turn.new.keeper) c.take_turn.new.clock s)
     from start before w u v c.loop-fault.replies (Err c.in-Err.fault)
@@ -72,9 +72,9 @@ returns-in-Err-clause-served g c =
 
 pub loop-fault-preserved : goal.loop-fault-preserved
 loop-fault-preserved g c =
-    let hears = HearsIf (g.K.Keeper.honest c.loop-fault.keeper) g.C.Clock.reads in
+    let step = HearsIf (g.K.Keeper.honest c.loop-fault.keeper) g.C.Clock.reads in
     let later = HearsIf (g.K.Keeper.honest c.take_turn.new.keeper) g.C.Clock.reads in
-    let weaken = heard_later g.C.Clock.reads (g.K.Keeper.honest c.loop-fault.keeper) (g.K.Keeper.honest c.take_turn.new.keeper) c.in-Ok-More.ensures.was in
+    let weaken = step_later g.C.Clock.reads (g.K.Keeper.honest c.loop-fault.keeper) (g.K.Keeper.honest c.take_turn.new.keeper) c.in-Ok-KeepAlive.ensures.was in
     let from : State g.row.C.Denot = record { closed = g.K.Keeper.closed c.args.keeper.now; timeline = g.K.Keeper.timeline c.args.keeper.now; clock = c.args.clock.now } in
     let start = g.R.Read.remaining c.args.reader.now.reader.now in
     let before = prepend_known c.loop-fault.buffer.items (g.R.Read.remaining c.loop-fault.reader.reader.now) in
@@ -82,24 +82,24 @@ loop-fault-preserved g c =
     let w = g.W.Write.contents c.args.writer.now in
     let u = g.W.Write.contents c.loop-fault.writer in
     let v = g.W.Write.contents c.take_turn.new.writer in (
-      omega (arith, c.loop-fault.invariant.0, c.in-Ok-More.ensures.room),
-      keeps_on hears later weaken
+      omega (arith, c.loop-fault.invariant.0, c.in-Ok-KeepAlive.ensures.room),
+      keeps_on step later weaken
           (λ s. IsAt (g.K.Keeper.honest c.loop-fault.keeper) (g.K.Keeper.closed c.loop-fault.keeper) (g.K.Keeper.timeline c.loop-fault.keeper) c.loop-fault.clock s)
           (λ s. IsAt (g.K.Keeper.honest c.take_turn.new.keeper) (g.K.Keeper.closed c.take_turn.new.keeper) (g.K.Keeper.timeline c.take_turn.new.keeper) c.take_turn.new.clock s)
-          from start before after w u v c.loop-fault.replies c.in-Ok-More.field-0 c.in-Ok-More.field-0-is
-          c.loop-fault.invariant.1 c.in-Ok-More.ensures.turn,
-      moves_on hears later weaken
+          from start before after w u v c.loop-fault.replies c.in-Ok-KeepAlive.field-0 c.in-Ok-KeepAlive.field-0-is
+          c.loop-fault.invariant.1 c.in-Ok-KeepAlive.ensures.turn,
+      moves_on step later weaken
           (λ s. IsAt (g.K.Keeper.honest c.loop-fault.keeper) (g.K.Keeper.closed c.loop-fault.keeper) (g.K.Keeper.timeline c.loop-fault.keeper) c.loop-fault.clock s)
           (λ s. IsAt (g.K.Keeper.honest c.take_turn.new.keeper) (g.K.Keeper.closed c.take_turn.new.keeper) (g.K.Keeper.timeline c.take_turn.new.keeper) c.take_turn.new.clock s)
-          from c.loop-fault.invariant.2 c.in-Ok-More.ensures.hears,
-      (λ trust. c.loop-fault.invariant.3 (c.in-Ok-More.ensures.was trust)),
+          from c.loop-fault.invariant.2 c.in-Ok-KeepAlive.ensures.step,
+      (λ trust. c.loop-fault.invariant.3 (c.in-Ok-KeepAlive.ensures.was trust)),
       kept_short start before (g.R.Read.remaining c.take_turn.new.reader.reader.now) c.loop-fault.buffer.items c.take_turn.new.buffer.items
-          c.in-Ok-More.field-0 c.in-Ok-More.field-0-is c.loop-fault.invariant.4 c.in-Ok-More.ensures.asked,
+          c.in-Ok-KeepAlive.field-0 c.in-Ok-KeepAlive.field-0-is c.loop-fault.invariant.4 c.in-Ok-KeepAlive.ensures.reads,
       spent_on start before after (1024 * c.args.reader.now.left) (length c.loop-fault.buffer.items + 1024 * c.loop-fault.reader.left)
-          (length c.take_turn.new.buffer.items + 1024 * c.take_turn.new.reader.left) c.loop-fault.invariant.5 c.in-Ok-More.ensures.bound,
-      c.in-Ok-More.ensures.same_reference ∙ c.loop-fault.invariant.6,
-      omega (arith, c.loop-fault.invariant.7, c.in-Ok-More.ensures.progress c.in-Ok-More.field-0-is),
-      omega (arith, c.loop-fault.invariant.8, c.in-Ok-More.ensures.fewer),
+          (length c.take_turn.new.buffer.items + 1024 * c.take_turn.new.reader.left) c.loop-fault.invariant.5 c.in-Ok-KeepAlive.ensures.budget,
+      c.in-Ok-KeepAlive.ensures.same_reference ∙ c.loop-fault.invariant.6,
+      omega (arith, c.loop-fault.invariant.7, c.in-Ok-KeepAlive.ensures.progress c.in-Ok-KeepAlive.field-0-is),
+      omega (arith, c.loop-fault.invariant.8, c.in-Ok-KeepAlive.ensures.fewer),
     )
 
 pub loop-fault-init : goal.loop-fault-init
@@ -109,50 +109,50 @@ loop-fault-init g c =
       starts (HearsIf (g.K.Keeper.honest c.args.keeper.now) g.C.Clock.reads)
           (λ s. IsAt (g.K.Keeper.honest c.args.keeper.now) (g.K.Keeper.closed c.args.keeper.now) (g.K.Keeper.timeline c.args.keeper.now) c.args.clock.now s) from
           (g.R.Read.remaining c.args.reader.now.reader.now) c.new-buffer.result.items (g.W.Write.contents c.args.writer.now) (refl, refl, λ live. refl) c.new-buffer.ensures.items,
-      (from, unmoved (HearsIf (g.K.Keeper.honest c.args.keeper.now) g.C.Clock.reads) from, (refl, refl, λ live. refl)),
+      (from, reach_self (HearsIf (g.K.Keeper.honest c.args.keeper.now) g.C.Clock.reads) from, (refl, refl, λ live. refl)),
       (λ trust. trust),
       begins_short (g.R.Read.remaining c.args.reader.now.reader.now) c.new-buffer.result.items c.new-buffer.ensures.items,
-      unspent (g.R.Read.remaining c.args.reader.now.reader.now) c.new-buffer.result.items (1024 * c.args.reader.now.left) c.new-buffer.ensures.items,
+      spends_nothing (g.R.Read.remaining c.args.reader.now.reader.now) c.new-buffer.result.items (1024 * c.args.reader.now.left) c.new-buffer.ensures.items,
       refl,
       omega (arith, ap length c.new-buffer.ensures.items),
       omega arith,
     )
 
-pub returns-in-Ok-End-clause-moves : goal.returns-in-Ok-End-clause-moves
-returns-in-Ok-End-clause-moves g c =
-    let hears = HearsIf (g.K.Keeper.honest c.loop-fault.keeper) g.C.Clock.reads in
+pub returns-in-Ok-Eof-clause-reached : goal.returns-in-Ok-Eof-clause-reached
+returns-in-Ok-Eof-clause-reached g c =
+    let step = HearsIf (g.K.Keeper.honest c.loop-fault.keeper) g.C.Clock.reads in
     let later = HearsIf (g.K.Keeper.honest c.take_turn.new.keeper) g.C.Clock.reads in
-    let weaken = heard_later g.C.Clock.reads (g.K.Keeper.honest c.loop-fault.keeper) (g.K.Keeper.honest c.take_turn.new.keeper) c.in-Ok-End.ensures.was in
-    moves_on hears later weaken
+    let weaken = step_later g.C.Clock.reads (g.K.Keeper.honest c.loop-fault.keeper) (g.K.Keeper.honest c.take_turn.new.keeper) c.in-Ok-Eof.ensures.was in
+    moves_on step later weaken
     (λ s. IsAt (g.K.Keeper.honest c.loop-fault.keeper) (g.K.Keeper.closed c.loop-fault.keeper) (g.K.Keeper.timeline c.loop-fault.keeper) c.loop-fault.clock s)
     (λ s. IsAt (g.K.Keeper.honest c.take_turn.new.keeper) (g.K.Keeper.closed c.take_turn.new.keeper) (g.K.Keeper.timeline c.take_turn.new.keeper) c.take_turn.new.clock s)
     (record { closed = g.K.Keeper.closed c.args.keeper.now; timeline = g.K.Keeper.timeline c.args.keeper.now; clock = c.args.clock.now })
-    c.loop-fault.invariant.2 c.in-Ok-End.ensures.hears
+    c.loop-fault.invariant.2 c.in-Ok-Eof.ensures.step
 
-pub returns-in-Ok-Last-clause-moves : goal.returns-in-Ok-Last-clause-moves
-returns-in-Ok-Last-clause-moves g c =
-    let hears = HearsIf (g.K.Keeper.honest c.loop-fault.keeper) g.C.Clock.reads in
+pub returns-in-Ok-Close-clause-reached : goal.returns-in-Ok-Close-clause-reached
+returns-in-Ok-Close-clause-reached g c =
+    let step = HearsIf (g.K.Keeper.honest c.loop-fault.keeper) g.C.Clock.reads in
     let later = HearsIf (g.K.Keeper.honest c.take_turn.new.keeper) g.C.Clock.reads in
-    let weaken = heard_later g.C.Clock.reads (g.K.Keeper.honest c.loop-fault.keeper) (g.K.Keeper.honest c.take_turn.new.keeper) c.in-Ok-Last.ensures.was in
-    moves_on hears later weaken
+    let weaken = step_later g.C.Clock.reads (g.K.Keeper.honest c.loop-fault.keeper) (g.K.Keeper.honest c.take_turn.new.keeper) c.in-Ok-Close.ensures.was in
+    moves_on step later weaken
     (λ s. IsAt (g.K.Keeper.honest c.loop-fault.keeper) (g.K.Keeper.closed c.loop-fault.keeper) (g.K.Keeper.timeline c.loop-fault.keeper) c.loop-fault.clock s)
     (λ s. IsAt (g.K.Keeper.honest c.take_turn.new.keeper) (g.K.Keeper.closed c.take_turn.new.keeper) (g.K.Keeper.timeline c.take_turn.new.keeper) c.take_turn.new.clock s)
     (record { closed = g.K.Keeper.closed c.args.keeper.now; timeline = g.K.Keeper.timeline c.args.keeper.now; clock = c.args.clock.now })
-    c.loop-fault.invariant.2 c.in-Ok-Last.ensures.hears
+    c.loop-fault.invariant.2 c.in-Ok-Close.ensures.step
 
-pub returns-in-Err-clause-moves : goal.returns-in-Err-clause-moves
-returns-in-Err-clause-moves g c =
-    let hears = HearsIf (g.K.Keeper.honest c.loop-fault.keeper) g.C.Clock.reads in
+pub returns-in-Err-clause-reached : goal.returns-in-Err-clause-reached
+returns-in-Err-clause-reached g c =
+    let step = HearsIf (g.K.Keeper.honest c.loop-fault.keeper) g.C.Clock.reads in
     let later = HearsIf (g.K.Keeper.honest c.take_turn.new.keeper) g.C.Clock.reads in
-    let weaken = heard_later g.C.Clock.reads (g.K.Keeper.honest c.loop-fault.keeper) (g.K.Keeper.honest c.take_turn.new.keeper) c.in-Err.ensures.was in
-    moves_on hears later weaken
+    let weaken = step_later g.C.Clock.reads (g.K.Keeper.honest c.loop-fault.keeper) (g.K.Keeper.honest c.take_turn.new.keeper) c.in-Err.ensures.was in
+    moves_on step later weaken
     (λ s. IsAt (g.K.Keeper.honest c.loop-fault.keeper) (g.K.Keeper.closed c.loop-fault.keeper) (g.K.Keeper.timeline c.loop-fault.keeper) c.loop-fault.clock s)
     (λ s. IsAt (g.K.Keeper.honest c.take_turn.new.keeper) (g.K.Keeper.closed c.take_turn.new.keeper) (g.K.Keeper.timeline c.take_turn.new.keeper) c.take_turn.new.clock s)
     (record { closed = g.K.Keeper.closed c.args.keeper.now; timeline = g.K.Keeper.timeline c.args.keeper.now; clock = c.args.clock.now })
-    c.loop-fault.invariant.2 c.in-Err.ensures.hears
+    c.loop-fault.invariant.2 c.in-Err.ensures.step
 
-pub returns-in-Ok-End-clause-asked : goal.returns-in-Ok-End-clause-asked
-returns-in-Ok-End-clause-asked g c =
+pub returns-in-Ok-Eof-clause-reads : goal.returns-in-Ok-Eof-clause-reads
+returns-in-Ok-Eof-clause-reads g c =
     asked_to_end (HearsIf (g.K.Keeper.honest c.loop-fault.keeper) g.C.Clock.reads)
     (record { closed = g.K.Keeper.closed c.args.keeper.now; timeline = g.K.Keeper.timeline c.args.keeper.now; clock = c.args.clock.now })
     (λ s. IsAt (g.K.Keeper.honest c.loop-fault.keeper) (g.K.Keeper.closed c.loop-fault.keeper) (g.K.Keeper.timeline c.loop-fault.keeper) c.loop-fault.clock s)
@@ -160,10 +160,10 @@ returns-in-Ok-End-clause-asked g c =
     (prepend_known c.loop-fault.buffer.items (g.R.Read.remaining c.loop-fault.reader.reader.now))
     (g.R.Read.remaining c.take_turn.new.reader.reader.now)
     (g.W.Write.contents c.args.writer.now) (g.W.Write.contents c.loop-fault.writer) c.loop-fault.buffer.items c.take_turn.new.buffer.items c.loop-fault.replies
-    c.in-Ok-End.field-0 c.in-Ok-End.field-0-is c.loop-fault.invariant.1 c.loop-fault.invariant.4 c.in-Ok-End.ensures.asked
+    c.in-Ok-Eof.field-0 c.in-Ok-Eof.field-0-is c.loop-fault.invariant.1 c.loop-fault.invariant.4 c.in-Ok-Eof.ensures.reads
 
-pub returns-in-Ok-Last-clause-asked : goal.returns-in-Ok-Last-clause-asked
-returns-in-Ok-Last-clause-asked g c =
+pub returns-in-Ok-Close-clause-reads : goal.returns-in-Ok-Close-clause-reads
+returns-in-Ok-Close-clause-reads g c =
     asked_to_last (HearsIf (g.K.Keeper.honest c.loop-fault.keeper) g.C.Clock.reads)
     (record { closed = g.K.Keeper.closed c.args.keeper.now; timeline = g.K.Keeper.timeline c.args.keeper.now; clock = c.args.clock.now })
     (λ s. IsAt (g.K.Keeper.honest c.loop-fault.keeper) (g.K.Keeper.closed c.loop-fault.keeper) (g.K.Keeper.timeline c.loop-fault.keeper) c.loop-fault.clock s)
@@ -171,44 +171,44 @@ returns-in-Ok-Last-clause-asked g c =
     (prepend_known c.loop-fault.buffer.items (g.R.Read.remaining c.loop-fault.reader.reader.now))
     (g.R.Read.remaining c.take_turn.new.reader.reader.now)
     (g.W.Write.contents c.args.writer.now) (g.W.Write.contents c.loop-fault.writer) c.loop-fault.buffer.items c.take_turn.new.buffer.items c.loop-fault.replies
-    c.in-Ok-Last.field-0 c.in-Ok-Last.field-0-is c.loop-fault.invariant.1 c.loop-fault.invariant.4 c.in-Ok-Last.ensures.asked
+    c.in-Ok-Close.field-0 c.in-Ok-Close.field-0-is c.loop-fault.invariant.1 c.loop-fault.invariant.4 c.in-Ok-Close.ensures.reads
 
-pub returns-in-Err-clause-asked : goal.returns-in-Err-clause-asked
-returns-in-Err-clause-asked g c =
+pub returns-in-Err-clause-reads : goal.returns-in-Err-clause-reads
+returns-in-Err-clause-reads g c =
     let start = g.R.Read.remaining c.args.reader.now.reader.now in
     let left = g.R.Read.remaining c.take_turn.new.reader.reader.now in
     broken_off start left c.take_turn.new.buffer.items (1024 * c.args.reader.now.left) (length c.take_turn.new.buffer.items + 1024 * c.take_turn.new.reader.left) c.in-Err.fault
     (spent_on start (prepend_known c.loop-fault.buffer.items (g.R.Read.remaining c.loop-fault.reader.reader.now)) (prepend_known c.take_turn.new.buffer.items left)
     (1024 * c.args.reader.now.left) (length c.loop-fault.buffer.items + 1024 * c.loop-fault.reader.left)
-    (length c.take_turn.new.buffer.items + 1024 * c.take_turn.new.reader.left) c.loop-fault.invariant.5 c.in-Err.ensures.bound)
+    (length c.take_turn.new.buffer.items + 1024 * c.take_turn.new.reader.left) c.loop-fault.invariant.5 c.in-Err.ensures.budget)
 
-pub returns-in-Ok-End-clause-bound : goal.returns-in-Ok-End-clause-bound
-returns-in-Ok-End-clause-bound g c =
+pub returns-in-Ok-Eof-clause-budget : goal.returns-in-Ok-Eof-clause-budget
+returns-in-Ok-Eof-clause-budget g c =
     let start = g.R.Read.remaining c.args.reader.now.reader.now in
     let left = g.R.Read.remaining c.take_turn.new.reader.reader.now in
     spent_all start left c.take_turn.new.buffer.items (1024 * c.args.reader.now.left) (1024 * c.take_turn.new.reader.left)
     (spent_on start (prepend_known c.loop-fault.buffer.items (g.R.Read.remaining c.loop-fault.reader.reader.now)) (prepend_known c.take_turn.new.buffer.items left)
     (1024 * c.args.reader.now.left) (length c.loop-fault.buffer.items + 1024 * c.loop-fault.reader.left)
-    (length c.take_turn.new.buffer.items + 1024 * c.take_turn.new.reader.left) c.loop-fault.invariant.5 c.in-Ok-End.ensures.bound)
+    (length c.take_turn.new.buffer.items + 1024 * c.take_turn.new.reader.left) c.loop-fault.invariant.5 c.in-Ok-Eof.ensures.budget)
 
-pub returns-in-Ok-Last-clause-bound : goal.returns-in-Ok-Last-clause-bound
-returns-in-Ok-Last-clause-bound g c =
+pub returns-in-Ok-Close-clause-budget : goal.returns-in-Ok-Close-clause-budget
+returns-in-Ok-Close-clause-budget g c =
     let start = g.R.Read.remaining c.args.reader.now.reader.now in
     let left = g.R.Read.remaining c.take_turn.new.reader.reader.now in
     spent_all start left c.take_turn.new.buffer.items (1024 * c.args.reader.now.left) (1024 * c.take_turn.new.reader.left)
     (spent_on start (prepend_known c.loop-fault.buffer.items (g.R.Read.remaining c.loop-fault.reader.reader.now)) (prepend_known c.take_turn.new.buffer.items left)
     (1024 * c.args.reader.now.left) (length c.loop-fault.buffer.items + 1024 * c.loop-fault.reader.left)
-    (length c.take_turn.new.buffer.items + 1024 * c.take_turn.new.reader.left) c.loop-fault.invariant.5 c.in-Ok-Last.ensures.bound)
+    (length c.take_turn.new.buffer.items + 1024 * c.take_turn.new.reader.left) c.loop-fault.invariant.5 c.in-Ok-Close.ensures.budget)
 
-pub returns-in-Err-clause-bound : goal.returns-in-Err-clause-bound
-returns-in-Err-clause-bound g c =
+pub returns-in-Err-clause-budget : goal.returns-in-Err-clause-budget
+returns-in-Err-clause-budget g c =
     let start = g.R.Read.remaining c.args.reader.now.reader.now in
     let left = g.R.Read.remaining c.take_turn.new.reader.reader.now in
     spent_all start left c.take_turn.new.buffer.items (1024 * c.args.reader.now.left) (1024 * c.take_turn.new.reader.left)
     (spent_on start (prepend_known c.loop-fault.buffer.items (g.R.Read.remaining c.loop-fault.reader.reader.now)) (prepend_known c.take_turn.new.buffer.items left)
     (1024 * c.args.reader.now.left) (length c.loop-fault.buffer.items + 1024 * c.loop-fault.reader.left)
-    (length c.take_turn.new.buffer.items + 1024 * c.take_turn.new.reader.left) c.loop-fault.invariant.5 c.in-Err.ensures.bound)
+    (length c.take_turn.new.buffer.items + 1024 * c.take_turn.new.reader.left) c.loop-fault.invariant.5 c.in-Err.ensures.budget)
 
-pub returns-in-Err-clause-failed : goal.returns-in-Err-clause-failed
-returns-in-Err-clause-failed g c is =
-    called_before c.args.reader.now.left c.loop-fault.reader.left c.take_turn.new.reader.left c.loop-fault.invariant.8 (c.in-Err.ensures.failed is)
+pub returns-in-Err-clause-read_fault : goal.returns-in-Err-clause-read_fault
+returns-in-Err-clause-read_fault g c is =
+    called_before c.args.reader.now.left c.loop-fault.reader.left c.take_turn.new.reader.left c.loop-fault.invariant.8 (c.in-Err.ensures.read_fault is)

@@ -5,13 +5,14 @@ use Rattle.land_desk.specs.Serving.Asking.{IfBoth}
 use Rattle.land_desk.specs.Turns.{IsSpent}
 use Rattle.land_keep.specs.Keeping.{IsAt}
 use Rattle.land_keep.specs.Machine.{State}
+use Rattle.land_wire.specs.Framing.Stream.{field_room}
 use Rattle.land_desk.proofs.serve.serve_items.Given as goal
 
--- there is room for the fields of a head; so far the items were answered up to a state at which the keeper stands; at most a
--- piece is read ahead, and no more was read than the reader was asked for
+-- There is room for the header spans. The items answered until now end in a state that the keeper represents. At most
+-- one chunk is read ahead, and the bytes taken are within the budget of reads.
 abbrev pub invariant-loop-fault : goal.invariant-loop-fault
 invariant-loop-fault g l =
-    (2731 ≤ length l.headers)
+    (field_room ≤ length l.headers)
     × IfBoth (g.R.Read.remaining l.initial.reader.reader.now) (prepend_known l.buffer.items (g.R.Read.remaining l.reader.reader.now)) (λ bytes rest.
     (now : State g.row.C.Denot) × SoFar (HearsIf (g.K.Keeper.honest l.keeper) g.C.Clock.reads) bytes rest
     (record { closed = g.K.Keeper.closed l.initial.keeper; timeline = g.K.Keeper.timeline l.initial.keeper; clock = l.initial.clock })
@@ -28,6 +29,6 @@ invariant-loop-fault g l =
     × (l.replies + (length l.buffer.items + 1024 * l.reader.left) ≤ 1024 * l.initial.reader.left)
     × (l.reader.left ≤ l.initial.reader.left)
 
--- each turn after which the connection stays open takes a byte of the buffer, and each read takes 1024 of the budget
+-- Each item after which the connection stays open takes a byte from the buffer, and each read takes 1024 from the budget.
 abbrev pub decreases-loop-fault : goal.decreases-loop-fault
 decreases-loop-fault g l = length l.buffer.items + 1024 * l.reader.left

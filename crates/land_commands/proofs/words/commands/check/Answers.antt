@@ -1,4 +1,4 @@
 use Rattle.land_commands.proofs.words.commands.check.Goals as goal
 
 pub returns : goal.returns
-returns c = c.with_option.ensures _ _ c.named-check.ensures c.file_option-file.ensures
+returns c = c.with_option.ensures _ _ c.described_command-check.ensures c.file_option-file.ensures

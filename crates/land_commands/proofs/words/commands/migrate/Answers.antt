@@ -1,4 +1,4 @@
 use Rattle.land_commands.proofs.words.commands.migrate.Goals as goal
 
 pub returns : goal.returns
-returns c = c.with_option.ensures _ _ c.named-migrate.ensures c.file_option-file.ensures
+returns c = c.with_option.ensures _ _ c.described_command-migrate.ensures c.file_option-file.ensures

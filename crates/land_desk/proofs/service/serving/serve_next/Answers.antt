@@ -7,8 +7,8 @@ returns-in_default-clause-served g c trust = none_served g.C.Clock.reads _ _ _ _
 
 pub returns-then-is_closed-clause-served : goal.returns-then-is_closed-clause-served
 returns-then-is_closed-clause-served g c trust =
-    next_served g.C.Clock.reads _ trust _ _ _ _ _ _ _ _ c.requires c.in-Ok.ensures c.serve.ensures.served c.serve.ensures.moves
+    next_served g.C.Clock.reads _ trust _ _ _ _ _ _ _ _ c.requires c.in-Ok.ensures c.serve.ensures.served c.serve.ensures.reached
 
 pub returns-clause-served : goal.returns-clause-served
 returns-clause-served g c trust =
-    next_served g.C.Clock.reads _ trust _ _ _ _ _ _ _ _ c.requires c.in-Ok.ensures c.serve.ensures.served c.serve.ensures.moves
+    next_served g.C.Clock.reads _ trust _ _ _ _ _ _ _ _ c.requires c.in-Ok.ensures c.serve.ensures.served c.serve.ensures.reached
