@@ -4,11 +4,11 @@
 
 use land_commands::host::Host;
 use land_commands::local_host::LocalHost;
-use land_commands::obey::run_args;
+use land_commands::main_with::run_args;
 use land_commands::program_fault::ProgramFault;
-use land_commands::run::complain;
-use land_desk::service::machine_clock::MachineClock;
-use land_desk::service::stopwatch::Stopwatch;
+use land_commands::run::report_fault;
+use land_desk::service::system_clock::SystemClock;
+use land_desk::service::timer::RequestTimer;
 use land_keep::clock::Clock;
 use std::env;
 use std::io::{Read, Write};
@@ -16,10 +16,10 @@ use std::process::ExitCode;
 use std::rt::Env;
 
 fn main(rt: HostRuntime) -> ExitCode {
-    let watch = Stopwatch::new(rt);
+    let watch = RequestTimer::new(rt);
     let mut host = LocalHost::new(&rt, &watch);
-    let mut clock = MachineClock { machine: rt };
-    let status = start(
+    let mut clock = SystemClock { machine: rt };
+    let status = run_program(
         &rt,
         &mut host,
         &mut rt.stdin(),
@@ -31,7 +31,7 @@ fn main(rt: HostRuntime) -> ExitCode {
 }
 
 /// Runs the command that the arguments name, and returns the exit status.
-fn start<R: Env + AllocGlobal, H: Host, I: Read, O: Write, E: Write, C: Clock>(
+fn run_program<R: Env + AllocGlobal, H: Host, I: Read, O: Write, E: Write, C: Clock>(
     rt: &R,
     host: &mut H,
     input: &mut I,
@@ -39,13 +39,13 @@ fn start<R: Env + AllocGlobal, H: Host, I: Read, O: Write, E: Write, C: Clock>(
     errors: &mut E,
     clock: &mut C,
 ) -> u8 {
-    match words(rt) {
-        Ok(words) => run_args(host, &words, input, output, errors, clock),
-        Err(fault) => complain(errors, fault),
+    match arguments(rt) {
+        Ok(arguments) => run_args(host, &arguments, input, output, errors, clock),
+        Err(fault) => report_fault(errors, fault),
     }
 }
 
 /// Returns the arguments. The first is the name of the program.
-fn words<R: Env + AllocGlobal>(rt: &R) -> Result<Vec<String>, ProgramFault> {
+fn arguments<R: Env + AllocGlobal>(rt: &R) -> Result<Vec<String>, ProgramFault> {
     Ok(env::args(rt)?.collect::<Vec<_>>(rt.alloc())?)
 }

@@ -6,8 +6,8 @@ use Rattle.std.specs.FinMap as map
 use Rattle.std.proofs.lemmas.Bool.{and_parts}
 use Rattle.land_acts.proofs.MortgageSlices.{AgreeOnUnit}
 use Rattle.land_acts.proofs.NumberTests.{at_kept}
-use Rattle.land_acts.specs.Mutations.Discharging.{discharge_change, discharge_refusals, has_entry_in, has_mortgage}
-use Rattle.land_acts.specs.Mutations.Planning.{first_that_holds}
+use Rattle.land_acts.specs.Mutations.Discharging.{discharge_change, discharge_refusals, has_entry_in, is_mortgage_at}
+use Rattle.land_acts.specs.Mutations.Planning.{first_refusal_of}
 use Rattle.land_acts.specs.declared.mutations.refusal.Refusal.{Refusal}
 use Rattle.land_acts.specs.declared.mutations.refusal.Refusal.TheVariants.{NoSuchUnit, NoSuchRight, NotMortgage, ClockOut}
 use Rattle.land_core.specs.Entries.{has}
@@ -20,7 +20,7 @@ use Rattle.land_core.specs.declared.rrr.RrrRecord.{RrrRecord}
 abbrev has_mortgage_in : Register → (unit number : ℕ) → Bool
 has_mortgage_in r unit n = option_map_or (λ e. nat_eq e.unit unit && is_some (rank_of e.class)) (map.get r.rrrs n) false
 
-mortgage_in : (r : Register) (unit n : ℕ) → has_mortgage_in r unit n ≡ (has_entry_in r unit n && has_mortgage r n)
+mortgage_in : (r : Register) (unit n : ℕ) → has_mortgage_in r unit n ≡ (has_entry_in r unit n && is_mortgage_at r n)
 mortgage_in r unit n = of (map.get r.rrrs n)
   where
     of : (o : Option RrrRecord) → option_map_or (λ e. nat_eq e.unit unit && is_some (rank_of e.class)) o false ≡ (option_map_or (λ e. nat_eq e.unit unit) o false && option_map_or (λ e. is_some (rank_of e.class)) o false)
@@ -29,8 +29,8 @@ mortgage_in r unit n = of (map.get r.rrrs n)
 
 -- a refusal after another is read only if the condition of the other one is false
 second_line : (first second : Refusal) (lines : List (Refusal × Bool)) (b c d : Bool) → (b && c) ≡ (b && d)
-    → first_that_holds ((first, not b) ∷ (second, not c) ∷ lines) ≡ first_that_holds ((first, not b) ∷ (second, not d) ∷ lines)
-second_line first second lines true c d same = ap (λ x. first_that_holds ((second, not x) ∷ lines)) same
+    → first_refusal_of ((first, not b) ∷ (second, not c) ∷ lines) ≡ first_refusal_of ((first, not b) ∷ (second, not d) ∷ lines)
+second_line first second lines true c d same = ap (λ x. first_refusal_of ((second, not x) ∷ lines)) same
 second_line first second lines false c d same = refl
 
 module _ (s r : Register) (it : Discharge) (agree : AgreeOnUnit s r it.unit) where
@@ -47,19 +47,19 @@ module _ (s r : Register) (it : Discharge) (agree : AgreeOnUnit s r it.unit) whe
 
   -- the entry may belong to another unit, and then be in only one of the two registers; an earlier refusal
   -- applies then
-  pub discharge_refusal_agrees : (stamp : Option ℤ) → first_that_holds (discharge_refusals s it stamp) ≡ first_that_holds (discharge_refusals r it stamp)
+  pub discharge_refusal_agrees : (stamp : Option ℤ) → first_refusal_of (discharge_refusals s it stamp) ≡ first_refusal_of (discharge_refusals r it stamp)
   discharge_refusal_agrees stamp =
-      ap (λ b. first_that_holds ((NoSuchUnit, not b) ∷ (NoSuchRight, not (has_entry_in s it.unit it.mortgage)) ∷ (NotMortgage, not (has_mortgage s it.mortgage)) ∷ last)) agree.stands
-      ∙ ap (λ b. first_that_holds ((NoSuchUnit, not (has r.units it.unit)) ∷ (NoSuchRight, not b) ∷ (NotMortgage, not (has_mortgage s it.mortgage)) ∷ last)) entry_agrees
+      ap (λ b. first_refusal_of ((NoSuchUnit, not b) ∷ (NoSuchRight, not (has_entry_in s it.unit it.mortgage)) ∷ (NotMortgage, not (is_mortgage_at s it.mortgage)) ∷ last)) agree.stands
+      ∙ ap (λ b. first_refusal_of ((NoSuchUnit, not (has r.units it.unit)) ∷ (NoSuchRight, not b) ∷ (NotMortgage, not (is_mortgage_at s it.mortgage)) ∷ last)) entry_agrees
       ∙ ap (cond (not (has r.units it.unit)) (Some NoSuchUnit))
-      (second_line NoSuchRight NotMortgage last (has_entry_in r it.unit it.mortgage) (has_mortgage s it.mortgage) (has_mortgage r it.mortgage) same)
+      (second_line NoSuchRight NotMortgage last (has_entry_in r it.unit it.mortgage) (is_mortgage_at s it.mortgage) (is_mortgage_at r it.mortgage) same)
     where
       last : List (Refusal × Bool)
       last = (ClockOut, is_none stamp) ∷ []
 
-      same : (has_entry_in r it.unit it.mortgage && has_mortgage s it.mortgage) ≡ (has_entry_in r it.unit it.mortgage && has_mortgage r it.mortgage)
+      same : (has_entry_in r it.unit it.mortgage && is_mortgage_at s it.mortgage) ≡ (has_entry_in r it.unit it.mortgage && is_mortgage_at r it.mortgage)
       same =
-          ap (λ b. b && has_mortgage s it.mortgage) (sym entry_agrees)
+          ap (λ b. b && is_mortgage_at s it.mortgage) (sym entry_agrees)
           ∙ sym (mortgage_in s it.unit it.mortgage)
           ∙ mortgage_agrees
           ∙ mortgage_in r it.unit it.mortgage

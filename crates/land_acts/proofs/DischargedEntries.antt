@@ -4,7 +4,7 @@ use Rattle.std.specs.Prelude.{is_some}
 use Rattle.std.specs.Option.{option_map_or}
 use Rattle.std.proofs.lemmas.Bool.{false≢true}
 use Rattle.land_acts.proofs.EndedEntries.{ended_is_sound}
-use Rattle.land_acts.specs.Mutations.Discharging.{discharge_change, has_mortgage}
+use Rattle.land_acts.specs.Mutations.Discharging.{discharge_change, is_mortgage_at}
 use Rattle.land_core.specs.Changes.{after, NamesKeysOnce}
 use Rattle.land_core.specs.Soundness.{IsSound}
 use Rattle.land_core.specs.Units.{rank_of, type_of}
@@ -20,7 +20,7 @@ mortgage_no_right (Restriction words) h = refl
 mortgage_no_right (Responsibility words) h = refl
 mortgage_no_right (Mortgage amount currency rank) h = refl
 
-pub discharged_is_sound : (r : Register) (it : Discharge) → IsSound r → has_mortgage r it.mortgage ≡ true → IsSound (after (discharge_change r it) r)
+pub discharged_is_sound : (r : Register) (it : Discharge) → IsSound r → is_mortgage_at r it.mortgage ≡ true → IsSound (after (discharge_change r it) r)
 discharged_is_sound r it sound mortgage =
     ended_is_sound r it.mortgage (λ e is. mortgage_no_right e.class (sym (ap (λ o. option_map_or (λ e. is_some (rank_of e.class)) o false) is) ∙ mortgage)) sound
 

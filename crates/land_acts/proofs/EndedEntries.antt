@@ -15,7 +15,7 @@ use Rattle.land_acts.proofs.Numbers.{one_number}
 use Rattle.land_core.proofs.FiniteMaps.{none_is_not_some}
 use Rattle.land_core.proofs.Reflection.{each_there, none_passes, none_at, some_passes, some_at}
 use Rattle.land_core.proofs.SoundRegisters.{refers, refers_back, are_used, are_used_back, used_from, unused_from}
-use Rattle.land_core.specs.Soundness.{IsSound, clashes_later, is_loose_rank}
+use Rattle.land_core.specs.Soundness.{IsSound, clashes_with_later, is_rank_out_of_range}
 use Rattle.land_core.specs.Units.{share_in, share_of, is_right_in, is_right_of, do_clash, rank_of, type_of, type_shares, are_whole_or_none, has_parcel, has_owner, parcel_count, rrr_count, has_whole_shares}
 use Rattle.land_core.specs.declared.register.Register.{Register}
 use Rattle.land_core.specs.declared.rrr.Class.{Class}
@@ -190,11 +190,11 @@ module _ (r : Register) (number : ℕ) (no_type : (e : RrrRecord) → map.get r.
       not_more : (a b : ℕ) → a ≤ b → nat_lt 256 b ≡ false → nat_lt 256 a ≡ false
       not_more a b less h = grind (arith, nat_tests)
   ended_is_sound sound Twice =
-      none_passes nat_cmp_total nat_cmp-IsAntisymmetric (clashes_later left) (map.remove r.rrrs number)
+      none_passes nat_cmp_total nat_cmp-IsAntisymmetric (clashes_with_later left) (map.remove r.rrrs number)
       (λ n e is.
-      let alone = none_at nat_cmp_total nat_cmp-IsAntisymmetric (clashes_later r) r.rrrs n e (sound Twice) (removed_before r.rrrs number n e is) in
+      let alone = none_at nat_cmp_total nat_cmp-IsAntisymmetric (clashes_with_later r) r.rrrs n e (sound Twice) (removed_before r.rrrs number n e is) in
       none_passes nat_cmp_total nat_cmp-IsAntisymmetric (λ m f. nat_lt n m && do_clash e f) (map.remove r.rrrs number)
       (λ m f at. none_at nat_cmp_total nat_cmp-IsAntisymmetric (λ m f. nat_lt n m && do_clash e f) r.rrrs m f alone (removed_before r.rrrs number m f at)))
   ended_is_sound sound Rank =
-      none_passes nat_cmp_total nat_cmp-IsAntisymmetric (λ n e. is_loose_rank left (rank_of e.class)) (map.remove r.rrrs number)
-      (λ n e is. none_at nat_cmp_total nat_cmp-IsAntisymmetric (λ n e. is_loose_rank r (rank_of e.class)) r.rrrs n e (sound Rank) (removed_before r.rrrs number n e is))
+      none_passes nat_cmp_total nat_cmp-IsAntisymmetric (λ n e. is_rank_out_of_range left (rank_of e.class)) (map.remove r.rrrs number)
+      (λ n e is. none_at nat_cmp_total nat_cmp-IsAntisymmetric (λ n e. is_rank_out_of_range r (rank_of e.class)) r.rrrs n e (sound Rank) (removed_before r.rrrs number n e is))

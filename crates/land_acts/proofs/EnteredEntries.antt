@@ -13,12 +13,12 @@ use Rattle.land_acts.proofs.EndedEntries.{no_share}
 use Rattle.land_acts.proofs.Growth.{used_grows, unused_grows, ranks_grow, mutations_stay, AreAnchored, anchored, anchored_back, placed, placed_back}
 use Rattle.land_acts.proofs.NewObjects.{below_later, entries-last, below_next}
 use Rattle.land_acts.proofs.Numbers.{one_number, lesser_apart, tied_number}
-use Rattle.land_acts.specs.Mutations.Planning.{would_crowd}
+use Rattle.land_acts.specs.Mutations.Planning.{would_exceed_entries}
 use Rattle.land_core.proofs.Booleans.{and_false}
 use Rattle.land_core.proofs.Reflection.{none_passes, none_at, some_passes, some_at}
 use Rattle.land_core.proofs.SoundRegisters.{refers, refers_back, are_used, are_used_back, used_from, unused_from, used_bounds, next_above_zero}
 use Rattle.land_core.specs.Entries.{has}
-use Rattle.land_core.specs.Soundness.{IsSound, has_unused, is_past_the_numbers, is_used, clashes_later, is_loose_rank}
+use Rattle.land_core.specs.Soundness.{IsSound, has_unused, exceeds_last_number, is_used, clashes_with_later, is_rank_out_of_range}
 use Rattle.land_core.specs.Units.{share_in, share_of, is_right_in, do_clash, are_of_one_type, are_of_one_rank, type_of, rank_of, type_shares, are_whole_or_none, has_parcel, has_owner, parcel_count, rrr_count, has_whole_shares}
 use Rattle.land_core.specs.declared.register.Register.{Register}
 use Rattle.land_core.specs.declared.rrr.RightType.{RightType}
@@ -57,15 +57,15 @@ entered r number entry sources next = record r { rrrs = map.insert r.rrrs number
 -- the conditions on the new entry: its number is above all others, its references exist, its unit has space
 -- for it, and it is not a right; if it is a mortgage, no other one on the unit has its rank
 pub record Enters (r : Register) (number : ℕ) (entry : RrrRecord) (sources : FinMap nat_cmp SourceRecord) (next : ℕ) : Type 0 where
-  pub room : is_past_the_numbers (entered r number entry sources next) ≡ false
+  pub room : exceeds_last_number (entered r number entry sources next) ≡ false
   pub last : r.next ≤ number
   pub below : number < next
   pub numbers : has_unused (entered r number entry sources next) sources ≡ false
   pub sources_stay : (n : ℕ) → has r.sources n ≡ true → has sources n ≡ true
   pub anchored : AreAnchored (entered r number entry sources next) entry
-  pub few : would_crowd r entry.unit 1 ≡ false
+  pub few : would_exceed_entries r entry.unit 1 ≡ false
   pub no_right : type_of entry.class ≡ None
-  pub rank : is_loose_rank (entered r number entry sources next) (rank_of entry.class) ≡ false
+  pub rank : is_rank_out_of_range (entered r number entry sources next) (rank_of entry.class) ≡ false
   pub ranked : (n : ℕ) (e : RrrRecord) → map.get r.rrrs n ≡ Some e → nat_eq e.unit entry.unit ≡ true → are_of_one_rank (rank_of e.class) (rank_of entry.class) ≡ false
 
 no_type_right : (o : Option RightType) → are_of_one_type o None ≡ false
@@ -197,18 +197,18 @@ module _ (r : Register) (sound : IsSound r) (number : ℕ) (entry : RrrRecord) (
       let had = or_parts (nat_lt 256 (parcel_count r n)) (nat_lt 256 (rrr_count r n)) (none_at nat_cmp_total nat_cmp-IsAntisymmetric (λ n u. nat_lt 256 (parcel_count r n) || nat_lt 256 (rrr_count r n)) r.units n u (sound Crowded) is) in
       ap (λ b. b || nat_lt 256 (rrr_count more n)) had.0 ∙ count_more n had.1)
   entered_is_sound Twice =
-      none_passes nat_cmp_total nat_cmp-IsAntisymmetric (clashes_later more) more.rrrs
-      (each_record r.rrrs number entry (λ n e. clashes_later more n e ≡ false)
+      none_passes nat_cmp_total nat_cmp-IsAntisymmetric (clashes_with_later more) more.rrrs
+      (each_record r.rrrs number entry (λ n e. clashes_with_later more n e ≡ false)
       (none_passes nat_cmp_total nat_cmp-IsAntisymmetric (λ m f. nat_lt number m && do_clash entry f) more.rrrs
       (each_record r.rrrs number entry (λ m f. (nat_lt number m && do_clash entry f) ≡ false) (none_later number entry (omega arith))
       (λ m f at. let less = rrr_below m f at in none_later m f (omega (arith, less)))))
       (λ n e is.
-      let alone = none_at nat_cmp_total nat_cmp-IsAntisymmetric (clashes_later r) r.rrrs n e (sound Twice) is in
+      let alone = none_at nat_cmp_total nat_cmp-IsAntisymmetric (clashes_with_later r) r.rrrs n e (sound Twice) is in
       none_passes nat_cmp_total nat_cmp-IsAntisymmetric (λ m f. nat_lt n m && do_clash e f) more.rrrs
       (each_record r.rrrs number entry (λ m f. (nat_lt n m && do_clash e f) ≡ false)
       (ap (λ b. nat_lt n number && b) (clash_none n e is) ∙ and_false (nat_lt n number))
       (λ m f at. none_at nat_cmp_total nat_cmp-IsAntisymmetric (λ m f. nat_lt n m && do_clash e f) r.rrrs m f alone at))))
   entered_is_sound Rank =
-      none_passes nat_cmp_total nat_cmp-IsAntisymmetric (λ n e. is_loose_rank more (rank_of e.class)) more.rrrs
-      (each_record r.rrrs number entry (λ n e. is_loose_rank more (rank_of e.class) ≡ false) h.rank
-      (λ n e is. none_at nat_cmp_total nat_cmp-IsAntisymmetric (λ n e. is_loose_rank more (rank_of e.class)) r.rrrs n e (ranks_grow r more grows r.rrrs (sound Rank)) is))
+      none_passes nat_cmp_total nat_cmp-IsAntisymmetric (λ n e. is_rank_out_of_range more (rank_of e.class)) more.rrrs
+      (each_record r.rrrs number entry (λ n e. is_rank_out_of_range more (rank_of e.class) ≡ false) h.rank
+      (λ n e is. none_at nat_cmp_total nat_cmp-IsAntisymmetric (λ n e. is_rank_out_of_range more (rank_of e.class)) r.rrrs n e (ranks_grow r more grows r.rrrs (sound Rank)) is))

@@ -11,15 +11,15 @@ use Rattle.land_acts.proofs.Refusals.{first_none}
 use Rattle.land_acts.proofs.SubdividedGrounds.{unrefused_subdivision}
 use Rattle.land_acts.proofs.UnrefusedContents.{unrefused_mortgage, unrefused_move}
 use Rattle.land_acts.specs.Deciding.{approve_has_room, approve_refusals, is_lodged}
-use Rattle.land_acts.specs.Mutations.Asking.{Fits, content_refusals, has_room}
+use Rattle.land_acts.specs.Mutations.ByContent.{StaysInRange, content_refusals, has_room}
 use Rattle.land_acts.specs.Mutations.Mortgaging.{greatest, next_rank, ranks_in}
-use Rattle.land_acts.specs.Mutations.Planning.{first_that_holds, lacks_numbers}
+use Rattle.land_acts.specs.Mutations.Planning.{first_refusal_of, runs_out_of_numbers}
 use Rattle.land_acts.specs.Mutations.Subdividing.{subdivision_count}
-use Rattle.land_acts.specs.Mutations.Transferring.{are_too_many, grows_at, move_change, number_after}
-use Rattle.land_acts.specs.Outcome.{IsUnrefused, has_room_for}
-use Rattle.land_acts.specs.Slices.{IsOfSound, looks_at_rrr}
+use Rattle.land_acts.specs.Mutations.Transferring.{are_too_many, right_of_receiver, move_change, number_after}
+use Rattle.land_acts.specs.Outcome.{HasNoRefusal, has_room_for}
+use Rattle.land_acts.specs.Slices.{IsSliceOfSound, reads_rrr}
 use Rattle.land_acts.specs.declared.mutations.refusal.Refusal.TheVariants.{NotLodged}
-use Rattle.land_acts.specs.declared.mutations.transfer.Held.{Held}
+use Rattle.land_acts.specs.declared.mutations.transfer.HeldRight.{HeldRight}
 use Rattle.land_core.proofs.SoundRegisters.{refers}
 use Rattle.land_core.specs.Changes.{after}
 use Rattle.land_core.specs.Units.{rrr_count}
@@ -33,15 +33,15 @@ use Rattle.land_core.specs.declared.mutation.MutationRecord.{MutationRecord}
 use Rattle.land_core.specs.declared.register.Register.{Register}
 use Rattle.land_core.specs.declared.soundness.Unsound.TheVariants.{Reference}
 
-one_left : (s : Register) → lacks_numbers s 1 ≡ false → s.next ≤ 1000000000
+one_left : (s : Register) → runs_out_of_numbers s 1 ≡ false → s.next ≤ 1000000000
 one_left s h = let most : s.next + 1 ≤ 1000000001 = ltb-false 1000000001 (s.next + 1) h in omega (arith, most)
 
 -- if no refusal applies to an approval, none applies to its content
 content_unrefused : (s : Register) (it : Decision) (stamp : Option ℤ) (m : MutationRecord) → map.get s.mutations it.mutation ≡ Some m
-    → first_that_holds (approve_refusals s it stamp) ≡ None → first_that_holds (content_refusals s m.content stamp) ≡ None
+    → first_refusal_of (approve_refusals s it stamp) ≡ None → first_refusal_of (content_refusals s m.content stamp) ≡ None
 content_unrefused s it stamp m is none =
     let lines = (first_none NotLodged (not (is_lodged s it.mutation)) (option_map_or (λ m. content_refusals s m.content stamp) (map.get s.mutations it.mutation) []) none).rest in
-    sym (ap (λ o. first_that_holds (option_map_or (λ m. content_refusals s m.content stamp) o [])) is) ∙ lines
+    sym (ap (λ o. first_refusal_of (option_map_or (λ m. content_refusals s m.content stamp) o [])) is) ∙ lines
 
 next_bound : (s : Register) → nat_lt s.next 1000000002 ≡ true → s.next ≤ 1000000001
 next_bound s room = let under = ltb-true s.next 1000000002 room in omega (arith, under)
@@ -55,18 +55,18 @@ room_next s (content.Discharge it) room = next_bound s room
 
 -- ---- the range, from the numbers of the register
 
-counted : (s : Register) (o to : Option Held) → s.next ≤ 1000000001 → o ≡ to → (is_none to ≡ true → lacks_numbers s 1 ≡ false) → number_after s to ≤ 1000000001
+counted : (s : Register) (o to : Option HeldRight) → s.next ≤ 1000000001 → o ≡ to → (is_none to ≡ true → runs_out_of_numbers s 1 ≡ false) → number_after s to ≤ 1000000001
 counted s o None most e h = let few = one_left s (h refl) in omega (arith, few)
 counted s o (Some to) most e h = most
 
-content_fits : (s : Register) (stamp : Option ℤ) (c : Content) → has_room s c ≡ true → first_that_holds (content_refusals s c stamp) ≡ None → Fits s c
+content_fits : (s : Register) (stamp : Option ℤ) (c : Content) → has_room s c ≡ true → first_refusal_of (content_refusals s c stamp) ≡ None → StaysInRange s c
 content_fits s stamp (content.Transfer it) room none = λ from held.
     let move = unrefused_move s it stamp none in
     let same : move.from ≡ from = one_right (sym move.held ∙ held) in
-    let many : are_too_many s it from ≡ false = subst (λ (h : Held). are_too_many s it h ≡ false) same move.not_many in
-    counted s (grows_at s it from) (grows_at s it from) (room_next s (content.Transfer it) room) refl (λ new. (or_parts (lacks_numbers s 1) (nat_lt 256 (rrr_count (after (move_change s 0 it from) s) it.unit)) (sym (ap (λ b. b && (lacks_numbers s 1 || nat_lt 256 (rrr_count (after (move_change s 0 it from) s) it.unit))) new) ∙ many)).0)
+    let many : are_too_many s it from ≡ false = subst (λ (h : HeldRight). are_too_many s it h ≡ false) same move.not_many in
+    counted s (right_of_receiver s it from) (right_of_receiver s it from) (room_next s (content.Transfer it) room) refl (λ new. (or_parts (runs_out_of_numbers s 1) (nat_lt 256 (rrr_count (after (move_change s 0 it from) s) it.unit)) (sym (ap (λ b. b && (runs_out_of_numbers s 1 || nat_lt 256 (rrr_count (after (move_change s 0 it from) s) it.unit))) new) ∙ many)).0)
   where
-    one_right : {a b : Held} → Some a ≡ Some b → a ≡ b
+    one_right : {a b : HeldRight} → Some a ≡ Some b → a ≡ b
     one_right e = cc
 content_fits s stamp (content.Subdivision it) room none = ltb-false 1000000001 (s.next + subdivision_count s it) (unrefused_subdivision s it stamp none).room
 content_fits s stamp (content.Merger it) room none = merger_fits s it stamp none
@@ -76,24 +76,24 @@ content_fits s stamp (content.Mortgage it) room none =
     (one_left s mortgage.room, omega (arith, rank))
 content_fits s stamp (content.Discharge it) room none = tt
 
-pub contents_fit : (s : Register) (caller : Caller) (it : Decision) → approve_has_room s it ≡ true → IsUnrefused s caller (act.Approve it)
-    → (m : MutationRecord) → map.get s.mutations it.mutation ≡ Some m → Fits s m.content
+pub contents_fit : (s : Register) (caller : Caller) (it : Decision) → approve_has_room s it ≡ true → HasNoRefusal s caller (act.Approve it)
+    → (m : MutationRecord) → map.get s.mutations it.mutation ≡ Some m → StaysInRange s m.content
 contents_fit s caller it room unrefused m is =
     let here : has_room s m.content ≡ true = sym (ap (λ o. option_map_or (λ m. has_room s m.content) o true) is) ∙ room in
     content_fits s unrefused.stamp m.content here (content_unrefused s it unrefused.stamp m is unrefused.none_holds)
 
 -- ---- the numbers of a sound register
 
-module _ (s : Register) (caller : Caller) (it : Decision) (slice : IsOfSound s caller (act.Approve it)) where
+module _ (s : Register) (caller : Caller) (it : Decision) (slice : IsSliceOfSound s caller (act.Approve it)) where
   next_same : s.next ≡ slice.register.next
   next_same = ap (λ (r : Register). r.next) slice.is
 
   most : s.next ≤ 1000000001
   most = subst (λ (n : ℕ). n ≤ 1000000001) (sym next_same) (ltb-false 1000000001 slice.register.next (refers slice.register (slice.sound Reference)).room)
 
-  rank_fits : (unit : ℕ) → lacks_numbers s 1 ≡ false → next_rank s unit ≤ 1000000000
+  rank_fits : (unit : ℕ) → runs_out_of_numbers s 1 ≡ false → next_rank s unit ≤ 1000000000
   rank_fits unit room =
-      let rank = next_rank_fits_kept slice.register slice.sound unit s (λ n e. looks_at_rrr slice.register (act.Approve it) n e) (ap (λ (r : Register). r.rrrs) slice.is) in
+      let rank = next_rank_fits_kept slice.register slice.sound unit s (λ n e. reads_rrr slice.register (act.Approve it) n e) (ap (λ (r : Register). r.rrrs) slice.is) in
       let few = one_left s room in
       let same = next_same in
       omega (arith, rank, few, same)
@@ -101,7 +101,7 @@ module _ (s : Register) (caller : Caller) (it : Decision) (slice : IsOfSound s c
   next_room : nat_lt s.next 1000000002 ≡ true
   next_room = let fits = most in lt-ltb s.next 1000000002 (omega (arith, fits))
 
-  content_room : (stamp : Option ℤ) (c : Content) → first_that_holds (content_refusals s c stamp) ≡ None → has_room s c ≡ true
+  content_room : (stamp : Option ℤ) (c : Content) → first_refusal_of (content_refusals s c stamp) ≡ None → has_room s c ≡ true
   content_room stamp (content.Transfer it) none = next_room
   content_room stamp (content.Subdivision it) none = next_room
   content_room stamp (content.Merger it) none = next_room
@@ -111,13 +111,13 @@ module _ (s : Register) (caller : Caller) (it : Decision) (slice : IsOfSound s c
       rw (next_room, fits) refl
   content_room stamp (content.Discharge it) none = next_room
 
-  approval_room : (o : Option MutationRecord) → map.get s.mutations it.mutation ≡ o → IsUnrefused s caller (act.Approve it)
+  approval_room : (o : Option MutationRecord) → map.get s.mutations it.mutation ≡ o → HasNoRefusal s caller (act.Approve it)
       → option_map_or (λ m. has_room s m.content) o true ≡ true
   approval_room None is unrefused = refl
   approval_room (Some m) is unrefused = content_room unrefused.stamp m.content (content_unrefused s it unrefused.stamp m is unrefused.none_holds)
 
 -- so they are always small enough in a slice of a sound register
-pub sound_has_room : (s : Register) (caller : Caller) (a : Act) → IsOfSound s caller a → IsUnrefused s caller a → has_room_for s a ≡ true
+pub sound_has_room : (s : Register) (caller : Caller) (a : Act) → IsSliceOfSound s caller a → HasNoRefusal s caller a → has_room_for s a ≡ true
 sound_has_room s caller (act.Enrol it) sound unrefused = refl
 sound_has_room s caller (act.Group it) sound unrefused = refl
 sound_has_room s caller (act.Regroup it) sound unrefused = refl

@@ -12,9 +12,9 @@ use Rattle.land_acts.proofs.Numbers.{one_number}
 use Rattle.land_acts.proofs.PartyActs.{single_stays, tight_stays, stay, put_there, each_party, all_used, no_loose_grant, no_loose_rrr}
 use Rattle.land_acts.specs.Enrolment.{enrol_change}
 use Rattle.land_acts.specs.Grouping.{group_change}
-use Rattle.land_acts.specs.Mutations.Planning.{lacks_numbers}
+use Rattle.land_acts.specs.Mutations.Planning.{runs_out_of_numbers}
 use Rattle.land_acts.specs.Regrouping.{regroup_change}
-use Rattle.land_acts.specs.Sharing.{lists_stranger, lists_twice, are_whole, members_of_list}
+use Rattle.land_acts.specs.Sharing.{lists_no_single_party, lists_twice, are_whole, members_of_list}
 use Rattle.land_core.proofs.FiniteMaps.{is_equal}
 use Rattle.land_core.proofs.FiniteSets.{grants_total, exact_grants}
 use Rattle.land_core.proofs.LooseMandates.{mandates_stay}
@@ -23,7 +23,7 @@ use Rattle.land_core.specs.Changes.{after}
 use Rattle.land_core.specs.Grants.{grant_cmp, grant_of}
 use Rattle.land_core.specs.Members.{Members, shares_in, is_group_size, are_group_shares}
 use Rattle.land_core.specs.Register.{has_single_party, has_group, is_single, shares_of}
-use Rattle.land_core.specs.Soundness.{IsSound, has_loose_members, has_broken_group}
+use Rattle.land_core.specs.Soundness.{IsSound, has_dangling_members, has_broken_group}
 use Rattle.land_core.specs.declared.act.Enrol.{Enrol}
 use Rattle.land_core.specs.declared.act.NewGroup.{NewGroup}
 use Rattle.land_core.specs.declared.act.Regroup.{Regroup}
@@ -41,7 +41,7 @@ module _ (new : Register) (before : FinMap nat_cmp Members) (number : ℕ) (memb
   put_at n = ap (λ m. map.get m n) put ∙ map.get-insert nat_cmp_total before number members n
 
   pub no_loose_members : AreTight new number members → ((n : ℕ) (others : Members) → map.get before n ≡ Some others → AreTight new n others)
-      → has_loose_members new ≡ false
+      → has_dangling_members new ≡ false
   no_loose_members here there =
       loose_members_from new (λ n others is.
       elim (eq_by_cmp nat_cmp n number) as (λ b. eq_by_cmp nat_cmp n number ≡ b → cond b (Some members) (map.get before n) ≡ Some others → AreTight new n others) [
@@ -65,7 +65,7 @@ module _ (new : Register) (before : FinMap nat_cmp Members) (number : ℕ) (memb
 
 -- ---- enrolling
 
-pub enrolled_is_sound : (r : Register) (it : Enrol) → IsSound r → is_single it.kind ≡ true → lacks_numbers r 1 ≡ false → IsSound (after (enrol_change r it) r)
+pub enrolled_is_sound : (r : Register) (it : Enrol) → IsSound r → is_single it.kind ≡ true → runs_out_of_numbers r 1 ≡ false → IsSound (after (enrol_change r it) r)
 enrolled_is_sound r it sound single room Memory = refl
 enrolled_is_sound r it sound single room Reused = sound Reused
 enrolled_is_sound r it sound single room Shares = sound Shares
@@ -111,7 +111,7 @@ enrolled_is_sound r it sound single room Administrator =
 
 -- ---- grouping
 
-pub grouped_is_sound : (r : Register) (it : NewGroup) → IsSound r → is_group_size (length it.members) ≡ true → lists_stranger r it.members ≡ false → lacks_numbers r 1 ≡ false
+pub grouped_is_sound : (r : Register) (it : NewGroup) → IsSound r → is_group_size (length it.members) ≡ true → lists_no_single_party r it.members ≡ false → runs_out_of_numbers r 1 ≡ false
     → are_whole it.members ≡ true → lists_twice it.members ≡ false → IsSound (after (group_change r it) r)
 grouped_is_sound r it sound size known room whole once Memory = refl
 grouped_is_sound r it sound size known room whole once Reused = sound Reused
@@ -152,7 +152,7 @@ grouped_is_sound r it sound size known room whole once Reference =
 
 -- ---- regrouping
 
-pub regrouped_is_sound : (r : Register) (it : Regroup) → IsSound r → is_group_size (length it.members) ≡ true → has_group r it.group ≡ true → lists_stranger r it.members ≡ false
+pub regrouped_is_sound : (r : Register) (it : Regroup) → IsSound r → is_group_size (length it.members) ≡ true → has_group r it.group ≡ true → lists_no_single_party r it.members ≡ false
     → are_whole it.members ≡ true → lists_twice it.members ≡ false → IsSound (after (regroup_change r it) r)
 regrouped_is_sound r it sound size group known whole once Memory = refl
 regrouped_is_sound r it sound size group known whole once Reused = sound Reused

@@ -11,7 +11,7 @@ use Rattle.land_core.proofs.Reflection.{none_passes, none_at}
 use Rattle.land_core.proofs.SoundRegisters.{used_from, unused_from}
 use Rattle.land_core.specs.Contents.{is_well_formed_content}
 use Rattle.land_core.specs.Entries.{some, has}
-use Rattle.land_core.specs.Soundness.{has_unused, has_loose_mutation, has_loose_parcel, has_loose_rrr, is_used, is_loose_mutation, is_loose_rank}
+use Rattle.land_core.specs.Soundness.{has_unused, has_dangling_mutation, has_dangling_parcel, has_dangling_rrr, is_used, is_dangling_mutation, is_rank_out_of_range}
 use Rattle.land_core.specs.Units.{rank_of}
 use Rattle.land_core.specs.declared.parcel.ParcelRecord.{ParcelRecord}
 use Rattle.land_core.specs.declared.register.Register.{Register}
@@ -27,15 +27,15 @@ module _ (r new : Register) (grows : r.next ≤ new.next) where
   pub unused_grows : {V : Type 0} (records : FinMap nat_cmp V) → has_unused r records ≡ false → has_unused new records ≡ false
   unused_grows records none = unused_from new records (λ n v is. used_grows n (used_from r records none n v is))
 
-  rank_grows : (rank : Option ℕ) → is_loose_rank r rank ≡ false → is_loose_rank new rank ≡ false
+  rank_grows : (rank : Option ℕ) → is_rank_out_of_range r rank ≡ false → is_rank_out_of_range new rank ≡ false
   rank_grows None h = refl
   rank_grows (Some rank) h = ap not (used_grows rank (not-false _ h))
 
   -- the ranks of these entries stay in range
-  pub ranks_grow : (rrrs : FinMap nat_cmp RrrRecord) → some (λ n e. is_loose_rank r (rank_of e.class)) rrrs ≡ false → some (λ n e. is_loose_rank new (rank_of e.class)) rrrs ≡ false
+  pub ranks_grow : (rrrs : FinMap nat_cmp RrrRecord) → some (λ n e. is_rank_out_of_range r (rank_of e.class)) rrrs ≡ false → some (λ n e. is_rank_out_of_range new (rank_of e.class)) rrrs ≡ false
   ranks_grow rrrs none =
-      none_passes nat_cmp_total nat_cmp-IsAntisymmetric (λ n e. is_loose_rank new (rank_of e.class)) rrrs
-      (λ n e is. rank_grows (rank_of e.class) (none_at nat_cmp_total nat_cmp-IsAntisymmetric (λ n e. is_loose_rank r (rank_of e.class)) rrrs n e none is))
+      none_passes nat_cmp_total nat_cmp-IsAntisymmetric (λ n e. is_rank_out_of_range new (rank_of e.class)) rrrs
+      (λ n e is. rank_grows (rank_of e.class) (none_at nat_cmp_total nat_cmp-IsAntisymmetric (λ n e. is_rank_out_of_range r (rank_of e.class)) rrrs n e none is))
 
 -- a key of a map is a key of a map with more entries
 pub has_stays : {V : Type 0} (old new : FinMap nat_cmp V) → ((n : ℕ) (v : V) → map.get old n ≡ Some v → map.get new n ≡ Some v) → (n : ℕ) → has old n ≡ true → has new n ≡ true
@@ -51,14 +51,14 @@ pub record AreAnchored (r : Register) (e : RrrRecord) : Type 0 where
   pub party : has r.parties e.party ≡ true
   pub source : has r.sources e.source ≡ true
 
-pub anchored : (r : Register) → has_loose_rrr r ≡ false → (n : ℕ) (e : RrrRecord) → map.get r.rrrs n ≡ Some e → AreAnchored r e
+pub anchored : (r : Register) → has_dangling_rrr r ≡ false → (n : ℕ) (e : RrrRecord) → map.get r.rrrs n ≡ Some e → AreAnchored r e
 anchored r none n e is =
     let all = not-false _ (none_at nat_cmp_total nat_cmp-IsAntisymmetric (λ n e. not (has r.units e.unit && has r.parties e.party && has r.sources e.source)) r.rrrs n e none is) in
     let last = and_parts (has r.units e.unit && has r.parties e.party) (has r.sources e.source) all in
     let first = and_parts (has r.units e.unit) (has r.parties e.party) last.0 in
     record { unit = first.0; party = first.1; source = last.1 }
 
-pub anchored_back : (r : Register) → ((n : ℕ) (e : RrrRecord) → map.get r.rrrs n ≡ Some e → AreAnchored r e) → has_loose_rrr r ≡ false
+pub anchored_back : (r : Register) → ((n : ℕ) (e : RrrRecord) → map.get r.rrrs n ≡ Some e → AreAnchored r e) → has_dangling_rrr r ≡ false
 anchored_back r h =
     none_passes nat_cmp_total nat_cmp-IsAntisymmetric (λ n e. not (has r.units e.unit && has r.parties e.party && has r.sources e.source)) r.rrrs
     (λ n e is.
@@ -66,23 +66,23 @@ anchored_back r h =
     ap (λ b. not (b && has r.parties e.party && has r.sources e.source)) one.unit ∙ ap (λ b. not (b && has r.sources e.source)) one.party ∙ ap not one.source)
 
 -- the unit and the source of a parcel
-pub placed : (r : Register) → has_loose_parcel r ≡ false → (n : ℕ) (p : ParcelRecord) → map.get r.parcels n ≡ Some p → (has r.units p.unit ≡ true) × (has r.sources p.source ≡ true)
+pub placed : (r : Register) → has_dangling_parcel r ≡ false → (n : ℕ) (p : ParcelRecord) → map.get r.parcels n ≡ Some p → (has r.units p.unit ≡ true) × (has r.sources p.source ≡ true)
 placed r none n p is =
     and_parts (has r.units p.unit) (has r.sources p.source)
     (not-false _ (none_at nat_cmp_total nat_cmp-IsAntisymmetric (λ n p. not (has r.units p.unit && has r.sources p.source)) r.parcels n p none is))
 
-pub placed_back : (r : Register) → ((n : ℕ) (p : ParcelRecord) → map.get r.parcels n ≡ Some p → (has r.units p.unit ≡ true) × (has r.sources p.source ≡ true)) → has_loose_parcel r ≡ false
+pub placed_back : (r : Register) → ((n : ℕ) (p : ParcelRecord) → map.get r.parcels n ≡ Some p → (has r.units p.unit ≡ true) × (has r.sources p.source ≡ true)) → has_dangling_parcel r ≡ false
 placed_back r h =
     none_passes nat_cmp_total nat_cmp-IsAntisymmetric (λ n p. not (has r.units p.unit && has r.sources p.source)) r.parcels
     (λ n p is. let one = h n p is in ap (λ b. not (b && has r.sources p.source)) one.0 ∙ ap not one.1)
 
 -- mutations are unchanged, and their references exist as before
 pub mutations_stay : (r new : Register) → new.mutations ≡ r.mutations → ((n : ℕ) → has r.parties n ≡ true → has new.parties n ≡ true) → ((n : ℕ) → has r.sources n ≡ true → has new.sources n ≡ true)
-    → has_loose_mutation r ≡ false → has_loose_mutation new ≡ false
+    → has_dangling_mutation r ≡ false → has_dangling_mutation new ≡ false
 mutations_stay r new same parties sources none =
-    ap (some (λ n m. is_loose_mutation new m)) same
-    ∙ none_passes nat_cmp_total nat_cmp-IsAntisymmetric (λ n m. is_loose_mutation new m) r.mutations (λ n m is.
-    let all = and_parts (has r.parties m.lodger && has r.sources m.source) (is_well_formed_content m.content) (not-false _ (none_at nat_cmp_total nat_cmp-IsAntisymmetric (λ n m. is_loose_mutation r m) r.mutations n m none is)) in
+    ap (some (λ n m. is_dangling_mutation new m)) same
+    ∙ none_passes nat_cmp_total nat_cmp-IsAntisymmetric (λ n m. is_dangling_mutation new m) r.mutations (λ n m is.
+    let all = and_parts (has r.parties m.lodger && has r.sources m.source) (is_well_formed_content m.content) (not-false _ (none_at nat_cmp_total nat_cmp-IsAntisymmetric (λ n m. is_dangling_mutation r m) r.mutations n m none is)) in
     let first = and_parts (has r.parties m.lodger) (has r.sources m.source) all.0 in
     ap (λ b. not (b && has new.sources m.source && is_well_formed_content m.content)) (parties m.lodger first.0)
     ∙ ap (λ b. not (b && is_well_formed_content m.content)) (sources m.source first.1) ∙ ap not all.1)

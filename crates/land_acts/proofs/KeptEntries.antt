@@ -11,8 +11,8 @@ use Rattle.std.proofs.lemmas.Bool.{and_parts}
 use Rattle.land_acts.proofs.Numbers.{one_number}
 use Rattle.land_core.proofs.Booleans.{T_true}
 use Rattle.land_core.proofs.Orders.{less_apart}
-use Rattle.land_core.proofs.Reflection.{entries-only}
-use Rattle.land_core.specs.Entries.{only, updated, with_entries, without}
+use Rattle.land_core.proofs.Reflection.{entries-entries_where}
+use Rattle.land_core.specs.Entries.{entries_where, with_changes, with_entries, without}
 
 -- the value at a key, if it satisfies the condition
 abbrev pub kept_at : {V : Type 0} → (ℕ → V → Bool) → ℕ → Option V → Option V
@@ -54,16 +54,16 @@ module _ {V : Type 0} (p : ℕ → V → Bool) where
             ]
       ] refl
 
-  pub get-kept : (m : FinMap nat_cmp V) (q : ℕ) → map.get (only p m) q ≡ kept_at p q (map.get m q)
+  pub get-kept : (m : FinMap nat_cmp V) (q : ℕ) → map.get (entries_where p m) q ≡ kept_at p q (map.get m q)
   get-kept m q =
-      map.get-entries (only p m) q
-      ∙ ap (find nat_cmp q) (entries-only nat_cmp_total nat_cmp-IsAntisymmetric p m)
+      map.get-entries (entries_where p m) q
+      ∙ ap (find nat_cmp q) (entries-entries_where nat_cmp_total nat_cmp-IsAntisymmetric p m)
       ∙ find-kept q (map.entries m) (T_true _ (map.entries_sorted m))
       ∙ ap (kept_at p q) (sym (map.get-entries m q))
 
-  insert-kept : (m : FinMap nat_cmp V) (k : ℕ) (v : V) → p k v ≡ true → map.insert (only p m) k v ≡ only p (map.insert m k v)
-  insert-kept m k v stays = map.same_map nat_cmp_total nat_cmp-IsAntisymmetric (map.insert (only p m) k v) (only p (map.insert m k v)) (λ q.
-      map.get-insert nat_cmp_total (only p m) k v q
+  insert-kept : (m : FinMap nat_cmp V) (k : ℕ) (v : V) → p k v ≡ true → map.insert (entries_where p m) k v ≡ entries_where p (map.insert m k v)
+  insert-kept m k v stays = map.same_map nat_cmp_total nat_cmp-IsAntisymmetric (map.insert (entries_where p m) k v) (entries_where p (map.insert m k v)) (λ q.
+      map.get-insert nat_cmp_total (entries_where p m) k v q
       ∙ ap (cond (eq_by_cmp nat_cmp q k) (Some v)) (get-kept m q)
       ∙ elim (eq_by_cmp nat_cmp q k) as (λ b. eq_by_cmp nat_cmp q k ≡ b → cond b (Some v) (kept_at p q (map.get m q)) ≡ kept_at p q (cond b (Some v) (map.get m q))) [
         | true ↦ λ at. sym (ap (λ c. cond c (Some v) None) (ap (λ i. p i v) (one_number q k at) ∙ stays))
@@ -72,22 +72,22 @@ module _ {V : Type 0} (p : ℕ → V → Bool) where
       ∙ ap (kept_at p q) (sym (map.get-insert nat_cmp_total m k v q))
       ∙ sym (get-kept (map.insert m k v) q))
 
-  remove-kept : (m : FinMap nat_cmp V) (k : ℕ) → map.remove (only p m) k ≡ only p (map.remove m k)
-  remove-kept m k = map.same_map nat_cmp_total nat_cmp-IsAntisymmetric (map.remove (only p m) k) (only p (map.remove m k)) (λ q.
-      map.get-remove nat_cmp_total (only p m) k q
+  remove-kept : (m : FinMap nat_cmp V) (k : ℕ) → map.remove (entries_where p m) k ≡ entries_where p (map.remove m k)
+  remove-kept m k = map.same_map nat_cmp_total nat_cmp-IsAntisymmetric (map.remove (entries_where p m) k) (entries_where p (map.remove m k)) (λ q.
+      map.get-remove nat_cmp_total (entries_where p m) k q
       ∙ ap (cond (eq_by_cmp nat_cmp q k) None) (get-kept m q)
       ∙ elim (eq_by_cmp nat_cmp q k) as (λ b. cond b None (kept_at p q (map.get m q)) ≡ kept_at p q (cond b None (map.get m q))) [ true ↦ refl | false ↦ refl ]
       ∙ ap (kept_at p q) (sym (map.get-remove nat_cmp_total m k q))
       ∙ sym (get-kept (map.remove m k) q))
 
-  without-kept : (m : FinMap nat_cmp V) (ks : List ℕ) → without (only p m) ks ≡ only p (without m ks)
+  without-kept : (m : FinMap nat_cmp V) (ks : List ℕ) → without (entries_where p m) ks ≡ entries_where p (without m ks)
   without-kept m [] = refl
   without-kept m (k ∷ ks) = ap (λ it. without it ks) (remove-kept m k) ∙ without-kept (map.remove m k) ks
 
-  with_entries-kept : (m : FinMap nat_cmp V) (es : List (ℕ × V)) → AllByRecursion (λ e. p e.0 e.1 ≡ true) es → with_entries (only p m) es ≡ only p (with_entries m es)
+  with_entries-kept : (m : FinMap nat_cmp V) (es : List (ℕ × V)) → AllByRecursion (λ e. p e.0 e.1 ≡ true) es → with_entries (entries_where p m) es ≡ entries_where p (with_entries m es)
   with_entries-kept m [] h = refl
   with_entries-kept m (e ∷ es) h = ap (λ it. with_entries it es) (insert-kept m e.0 e.1 h.0) ∙ with_entries-kept (map.insert m e.0 e.1) es h.1
 
   -- if all written entries satisfy the condition, filtering commutes with the change
-  pub updated-kept : (m : FinMap nat_cmp V) (put : List (ℕ × V)) (ended : List ℕ) → AllByRecursion (λ e. p e.0 e.1 ≡ true) put → updated (only p m) put ended ≡ only p (updated m put ended)
-  updated-kept m put ended h = ap (λ it. with_entries it put) (without-kept m ended) ∙ with_entries-kept (without m ended) put h
+  pub with_changes-kept : (m : FinMap nat_cmp V) (put : List (ℕ × V)) (ended : List ℕ) → AllByRecursion (λ e. p e.0 e.1 ≡ true) put → with_changes (entries_where p m) put ended ≡ entries_where p (with_changes m put ended)
+  with_changes-kept m put ended h = ap (λ it. with_entries it put) (without-kept m ended) ∙ with_entries-kept (without m ended) put h

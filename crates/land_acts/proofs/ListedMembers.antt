@@ -13,7 +13,7 @@ use Rattle.std.proofs.lemmas.Bool.{false≢true, and_parts, not-false, not-true,
 use Rattle.std.proofs.lemmas.List.{length-map}
 use Rattle.std.proofs.lemmas.List.Sorted.{IsPermutation-refl, IsPermutation-trans, IsPermutation-sym, IsPermutation-cons, IsPermutation-middle, IsPermutation-append_right, IsPermutation-map, length_permutation}
 use Rattle.land_acts.proofs.Numbers.{one_number, tied_number, turned_number}
-use Rattle.land_acts.specs.Sharing.{listed_shares, lists_stranger, are_whole, lists_twice, same_party, members_of_list}
+use Rattle.land_acts.specs.Sharing.{listed_shares, lists_no_single_party, are_whole, lists_twice, same_party, members_of_list}
 use Rattle.land_core.proofs.FiniteMaps.{none_is_not_some, nothing_from_length}
 use Rattle.land_core.specs.Entries.{with_entries, are_distinct}
 use Rattle.land_core.specs.Members.{Members, shares_in, is_group_size, is_yes, are_group_shares}
@@ -105,7 +105,7 @@ group_shares members once size whole =
 
 -- ---- if each listed number is a single party, so is each member
 
-single_among : (r : Register) (members : List Member) → lists_stranger r members ≡ false → (m : Members)
+single_among : (r : Register) (members : List Member) → lists_no_single_party r members ≡ false → (m : Members)
     → ((n : ℕ) (share : Ratio) → map.get m n ≡ Some share → has_single_party r n ≡ true)
     → (n : ℕ) (share : Ratio) → map.get (with_entries m (map_list entry members)) n ≡ Some share → has_single_party r n ≡ true
 single_among r [] none m before n share is = before n share is
@@ -118,6 +118,6 @@ single_among r (x ∷ xs) none m before n share is =
       | false ↦ λ apart e. before k v e
     ] refl (sym (map.get-insert nat_cmp_total m x.party x.share k) ∙ at)) n share is
 
-pub listed_single : (r : Register) (members : List Member) → lists_stranger r members ≡ false
+pub listed_single : (r : Register) (members : List Member) → lists_no_single_party r members ≡ false
     → (n : ℕ) (share : Ratio) → map.get (members_of_list members) n ≡ Some share → has_single_party r n ≡ true
 listed_single r members none = single_among r members none map.empty (λ n share is. absurd (none_is_not_some (sym (map.get-empty nat_cmp n) ∙ is)))

@@ -10,16 +10,16 @@ use Rattle.std.proofs.lemmas.Bool.{false≢true}
 use Rattle.std.proofs.lemmas.Bool.Decides.{nat_tests}
 use Rattle.land_acts.proofs.EnteredEntries.{each_record, here, there}
 use Rattle.land_acts.proofs.Growth.{anchored, anchored_back, has_stays, mutations_stay, placed, placed_back, ranks_grow, unused_grows, used_grows}
-use Rattle.land_acts.specs.Lodging.{document_kind, has_lodged_other, is_same_lodging, lodge_change, lodge_repeat, lodged_record, lodged_told, lodged_under, repeat_of}
-use Rattle.land_acts.specs.Mutations.Planning.{lacks_numbers}
+use Rattle.land_acts.specs.Lodging.{document_kind, has_lodged_other, is_same_lodging, lodge_change, lodge_repeat, new_mutation_record, receipt_of_lodging, mutation_with_reference, repeat_of}
+use Rattle.land_acts.specs.Mutations.Planning.{runs_out_of_numbers}
 use Rattle.land_core.proofs.Booleans.{and_false}
 use Rattle.land_core.proofs.Reflection.{none_at, none_passes}
 use Rattle.land_core.proofs.SoundRegisters.{are_used, are_used_back, next_above_zero, refers, refers_back, unused_from, used_bounds, used_from}
 use Rattle.land_core.specs.Changes.{after}
 use Rattle.land_core.specs.Contents.{is_well_formed_content}
 use Rattle.land_core.specs.Entries.{has}
-use Rattle.land_core.specs.Mutations.{is_lodged_as, share_a_reference}
-use Rattle.land_core.specs.Soundness.{IsSound, is_loose_mutation, is_reused_later, is_used}
+use Rattle.land_core.specs.Mutations.{is_lodged_as, have_same_reference}
+use Rattle.land_core.specs.Soundness.{IsSound, is_dangling_mutation, shares_reference_with_later, is_used}
 use Rattle.land_core.specs.declared.act.Lodging.{Lodging}
 use Rattle.land_core.specs.declared.caller.Caller.{Caller}
 use Rattle.land_core.specs.declared.mutation.MutationRecord.{MutationRecord}
@@ -37,19 +37,19 @@ none_found {X} p (x ∷ xs) h =
     some_none e = cc
 
 -- a lodging that is not a repeat, and has no other one under its reference, has a new reference
-pub fresh : (r : Register) (caller : Caller) (it : Lodging) → lodge_repeat r caller it ≡ None → has_lodged_other r caller it ≡ false → lodged_under r caller.party it.reference ≡ None
-fresh r caller it no_repeat no_other = by_case (lodged_under r caller.party it.reference) refl no_repeat no_other
+pub fresh : (r : Register) (caller : Caller) (it : Lodging) → lodge_repeat r caller it ≡ None → has_lodged_other r caller it ≡ false → mutation_with_reference r caller.party it.reference ≡ None
+fresh r caller it no_repeat no_other = by_case (mutation_with_reference r caller.party it.reference) refl no_repeat no_other
   where
-    by_case : (o : Option (ℕ × MutationRecord)) → lodged_under r caller.party it.reference ≡ o → repeat_of r it o ≡ None → option_map_or (λ e. not (is_same_lodging r it e.1)) o false ≡ false
-        → lodged_under r caller.party it.reference ≡ None
+    by_case : (o : Option (ℕ × MutationRecord)) → mutation_with_reference r caller.party it.reference ≡ o → repeat_of r it o ≡ None → option_map_or (λ e. not (is_same_lodging r it e.1)) o false ≡ false
+        → mutation_with_reference r caller.party it.reference ≡ None
     by_case None e a b = e
     by_case (Some e) is a b =
-        elim (is_same_lodging r it e.1) as (λ same. cond same (Some (lodged_told e)) None ≡ None → not same ≡ false → lodged_under r caller.party it.reference ≡ None) [
+        elim (is_same_lodging r it e.1) as (λ same. cond same (Some (receipt_of_lodging e)) None ≡ None → not same ≡ false → mutation_with_reference r caller.party it.reference ≡ None) [
           | true ↦ λ told other. absurd (some_none told)
           | false ↦ λ told other. absurd (false≢true (sym other))
         ] a b
       where
-        some_none : Some (lodged_told e) ≡ None → ⊥
+        some_none : Some (receipt_of_lodging e) ≡ None → ⊥
         some_none e = cc
 
 module _ (r : Register) (caller : Caller) (it : Lodging) (stamp : ℤ) (sound : IsSound r) where
@@ -60,7 +60,7 @@ module _ (r : Register) (caller : Caller) (it : Lodging) (stamp : ℤ) (sound : 
   document = record { kind = document_kind it.content; title = it.document }
 
   abbrev lodged : MutationRecord
-  lodged = lodged_record caller it r.next stamp
+  lodged = new_mutation_record caller it r.next stamp
 
   grows : r.next ≤ more.next
   grows = omega arith
@@ -75,12 +75,12 @@ module _ (r : Register) (caller : Caller) (it : Lodging) (stamp : ℤ) (sound : 
   sources_stay = has_stays r.sources more.sources (λ n s is. there r.sources r.next document n s (source_below n s is) is)
 
   -- the earlier mutations, in the register afterwards
-  old_ones : (n : ℕ) (m : MutationRecord) → map.get r.mutations n ≡ Some m → is_loose_mutation more m ≡ false
+  old_ones : (n : ℕ) (m : MutationRecord) → map.get r.mutations n ≡ Some m → is_dangling_mutation more m ≡ false
   old_ones n m is =
-      none_at nat_cmp_total nat_cmp-IsAntisymmetric (λ n m. is_loose_mutation more m) r.mutations n m
+      none_at nat_cmp_total nat_cmp-IsAntisymmetric (λ n m. is_dangling_mutation more m) r.mutations n m
       (mutations_stay r (record more { mutations = r.mutations }) refl (λ n h. h) sources_stay (refers r (sound Reference)).mutations) is
 
-  alone : lodged_under r caller.party it.reference ≡ None → (n : ℕ) (m : MutationRecord) → map.get r.mutations n ≡ Some m → is_lodged_as caller.party it.reference m ≡ false
+  alone : mutation_with_reference r caller.party it.reference ≡ None → (n : ℕ) (m : MutationRecord) → map.get r.mutations n ≡ Some m → is_lodged_as caller.party it.reference m ≡ false
   alone none n m is =
       none_at nat_cmp_total nat_cmp-IsAntisymmetric (λ n m. is_lodged_as caller.party it.reference m) r.mutations n m (none_found (λ e. is_lodged_as caller.party it.reference e.1) (map.entries r.mutations) none) is
 
@@ -90,7 +90,7 @@ module _ (r : Register) (caller : Caller) (it : Lodging) (stamp : ℤ) (sound : 
   not_itself : (n : ℕ) → nat_lt n n ≡ false
   not_itself n = grind (arith, nat_tests)
 
-  pub lodged_is_sound : has r.parties caller.party ≡ true → is_well_formed_content it.content ≡ true → lacks_numbers r 2 ≡ false → lodged_under r caller.party it.reference ≡ None → IsSound more
+  pub lodged_is_sound : has r.parties caller.party ≡ true → is_well_formed_content it.content ≡ true → runs_out_of_numbers r 2 ≡ false → mutation_with_reference r caller.party it.reference ≡ None → IsSound more
   lodged_is_sound lodger formed room none Memory = refl
   lodged_is_sound lodger formed room none Shares = sound Shares
   lodged_is_sound lodger formed room none Group = sound Group
@@ -119,24 +119,24 @@ module _ (r : Register) (caller : Caller) (it : Lodging) (stamp : ℤ) (sound : 
         members = before.members;
         parcels = placed_back more (λ n p is. let one = placed r before.parcels n p is in (one.0, sources_stay p.source one.1));
         rrrs = anchored_back more (λ n e is. let one = anchored r before.rrrs n e is in record { unit = one.unit; party = one.party; source = sources_stay e.source one.source });
-        mutations = none_passes nat_cmp_total nat_cmp-IsAntisymmetric (λ n m. is_loose_mutation more m) more.mutations
-            (each_record r.mutations (r.next + 1) lodged (λ n m. is_loose_mutation more m ≡ false)
+        mutations = none_passes nat_cmp_total nat_cmp-IsAntisymmetric (λ n m. is_dangling_mutation more m) more.mutations
+            (each_record r.mutations (r.next + 1) lodged (λ n m. is_dangling_mutation more m ≡ false)
             (ap (λ b. not (b && has more.sources r.next && is_well_formed_content it.content)) lodger
             ∙ ap (λ b. not (b && is_well_formed_content it.content)) (ap is_some (here r.sources r.next document)) ∙ ap not formed)
             old_ones);
         mandates = before.mandates;
       })
   lodged_is_sound lodger formed room none Reused =
-      none_passes nat_cmp_total nat_cmp-IsAntisymmetric (is_reused_later more) more.mutations
-      (each_record r.mutations (r.next + 1) lodged (λ n m. is_reused_later more n m ≡ false)
-      (none_passes nat_cmp_total nat_cmp-IsAntisymmetric (λ k other. nat_lt (r.next + 1) k && share_a_reference lodged other) more.mutations
-      (each_record r.mutations (r.next + 1) lodged (λ k other. (nat_lt (r.next + 1) k && share_a_reference lodged other) ≡ false)
-      (ap (λ b. b && share_a_reference lodged lodged) (not_itself (r.next + 1)))
-      (λ k other is. ap (λ b. b && share_a_reference lodged other) (not_after k (mutation_below k other is)))))
+      none_passes nat_cmp_total nat_cmp-IsAntisymmetric (shares_reference_with_later more) more.mutations
+      (each_record r.mutations (r.next + 1) lodged (λ n m. shares_reference_with_later more n m ≡ false)
+      (none_passes nat_cmp_total nat_cmp-IsAntisymmetric (λ k other. nat_lt (r.next + 1) k && have_same_reference lodged other) more.mutations
+      (each_record r.mutations (r.next + 1) lodged (λ k other. (nat_lt (r.next + 1) k && have_same_reference lodged other) ≡ false)
+      (ap (λ b. b && have_same_reference lodged lodged) (not_itself (r.next + 1)))
+      (λ k other is. ap (λ b. b && have_same_reference lodged other) (not_after k (mutation_below k other is)))))
       (λ n m is.
-      none_passes nat_cmp_total nat_cmp-IsAntisymmetric (λ k other. nat_lt n k && share_a_reference m other) more.mutations
-      (each_record r.mutations (r.next + 1) lodged (λ k other. (nat_lt n k && share_a_reference m other) ≡ false)
+      none_passes nat_cmp_total nat_cmp-IsAntisymmetric (λ k other. nat_lt n k && have_same_reference m other) more.mutations
+      (each_record r.mutations (r.next + 1) lodged (λ k other. (nat_lt n k && have_same_reference m other) ≡ false)
       (ap (λ b. nat_lt n (r.next + 1) && b) (alone none n m is) ∙ and_false (nat_lt n (r.next + 1)))
       (λ k other later.
-      none_at nat_cmp_total nat_cmp-IsAntisymmetric (λ k other. nat_lt n k && share_a_reference m other) r.mutations k other
-      (none_at nat_cmp_total nat_cmp-IsAntisymmetric (is_reused_later r) r.mutations n m (sound Reused) is) later))))
+      none_at nat_cmp_total nat_cmp-IsAntisymmetric (λ k other. nat_lt n k && have_same_reference m other) r.mutations k other
+      (none_at nat_cmp_total nat_cmp-IsAntisymmetric (shares_reference_with_later r) r.mutations n m (sound Reused) is) later))))

@@ -4,7 +4,7 @@ use Rattle.std.specs.Prelude.{nat_eq}
 use Rattle.std.specs.Ordering.{eq_by_cmp}
 use Rattle.std.specs.FinMap as map
 use Rattle.land_acts.proofs.Numbers.{turned_number}
-use Rattle.land_acts.specs.Mandating.{given, mandate_change}
+use Rattle.land_acts.specs.Mandating.{mandate_of_caller, mandate_change}
 use Rattle.land_acts.specs.Withdrawing.{withdraw_change}
 use Rattle.land_core.proofs.FiniteMaps.{is_equal, none_is_not_some}
 use Rattle.land_core.proofs.FiniteSets.{exact_mandates, mandates_total}
@@ -13,7 +13,7 @@ use Rattle.land_core.proofs.SoundRegisters.{refers, refers_back}
 use Rattle.land_core.specs.Changes.{after}
 use Rattle.land_core.specs.Mandates.{mandate_cmp}
 use Rattle.land_core.specs.Register.{has_single_party}
-use Rattle.land_core.specs.Soundness.{IsSound, is_loose_mandate}
+use Rattle.land_core.specs.Soundness.{IsSound, is_dangling_mandate}
 use Rattle.land_core.specs.declared.act.NewMandate.{NewMandate}
 use Rattle.land_core.specs.declared.caller.Caller.{Caller}
 use Rattle.land_core.specs.declared.mandates.Mandate.{Mandate}
@@ -51,12 +51,12 @@ mandated_is_sound r caller it sound principal agent apart Reference =
       rrrs = before.rrrs;
       mutations = before.mutations;
       mandates = loose_mandates_from new (λ m is.
-          elim (eq_by_cmp mandate_cmp m (given caller it))
-          as (λ b. eq_by_cmp mandate_cmp m (given caller it) ≡ b → cond b (Some tt) (map.get r.mandates m) ≡ Some tt → is_loose_mandate new m ≡ false) [
-            | true ↦ λ at e. subst (λ (x : Mandate). is_loose_mandate r x ≡ false) (sym (one_mandate m (given caller it) at))
+          elim (eq_by_cmp mandate_cmp m (mandate_of_caller caller it))
+          as (λ b. eq_by_cmp mandate_cmp m (mandate_of_caller caller it) ≡ b → cond b (Some tt) (map.get r.mandates m) ≡ Some tt → is_dangling_mandate new m ≡ false) [
+            | true ↦ λ at e. subst (λ (x : Mandate). is_dangling_mandate r x ≡ false) (sym (one_mandate m (mandate_of_caller caller it) at))
                 (tight (has_single_party r caller.party) (has_single_party r it.agent) (nat_eq caller.party it.agent) principal agent (turned_number it.agent caller.party apart))
             | false ↦ λ other e. mandates_from r before.mandates m e
-          ] refl (sym (map.get-insert mandates_total r.mandates (given caller it) tt m) ∙ is));
+          ] refl (sym (map.get-insert mandates_total r.mandates (mandate_of_caller caller it) tt m) ∙ is));
     })
 
 -- ---- withdrawing
@@ -83,7 +83,7 @@ withdrawn_is_sound r it sound Reference =
       rrrs = before.rrrs;
       mutations = before.mutations;
       mandates = loose_mandates_from new (λ m is.
-          elim (eq_by_cmp mandate_cmp m it) as (λ b. cond b None (map.get r.mandates m) ≡ Some tt → is_loose_mandate new m ≡ false) [
+          elim (eq_by_cmp mandate_cmp m it) as (λ b. cond b None (map.get r.mandates m) ≡ Some tt → is_dangling_mandate new m ≡ false) [
             | true ↦ λ e. absurd (none_is_not_some e)
             | false ↦ λ e. mandates_from r before.mandates m e
           ] (sym (map.get-remove mandates_total r.mandates it m) ∙ is));

@@ -14,7 +14,7 @@ use Rattle.land_acts.proofs.Numbers.{tied_number}
 use Rattle.land_core.proofs.Booleans.{and_turned}
 use Rattle.land_core.proofs.FiniteMaps.{none_is_not_some}
 use Rattle.land_core.proofs.Reflection.{list_any-map}
-use Rattle.land_core.specs.Entries.{numbers_where, only, without}
+use Rattle.land_core.specs.Entries.{numbers_where, entries_where, without}
 use Rattle.land_core.specs.Mergers.{lists_number}
 
 -- ---- filtered lists
@@ -81,8 +81,8 @@ module _ {V : Type 0} where
       either false c o = refl
 
   -- the entries at the other numbers
-  pub without_as_only : (m : FinMap nat_cmp V) (ks : List ℕ) → without m ks ≡ only (λ n v. not (lists_number ks n)) m
-  without_as_only m ks = map.same_map nat_cmp_total nat_cmp-IsAntisymmetric (without m ks) (only (λ n v. not (lists_number ks n)) m) (λ q.
+  pub without_as_only : (m : FinMap nat_cmp V) (ks : List ℕ) → without m ks ≡ entries_where (λ n v. not (lists_number ks n)) m
+  without_as_only m ks = map.same_map nat_cmp_total nat_cmp-IsAntisymmetric (without m ks) (entries_where (λ n v. not (lists_number ks n)) m) (λ q.
       get-without m ks q ∙ left (lists_number ks q) (map.get m q) q refl ∙ sym (get-kept (λ n v. not (lists_number ks n)) m q))
     where
       left : (b : Bool) (o : Option V) (q : ℕ) → lists_number ks q ≡ b → cond b None o ≡ kept_at (λ n v. not (lists_number ks n)) q o
@@ -104,8 +104,8 @@ module _ {V : Type 0} where
       swapped (e ∷ es) = ap (λ b. b || list_any (λ e. test e.1 && nat_eq e.0 n) es) (and_turned (test e.1) (nat_eq e.0 n)) ∙ ap (λ b. (nat_eq e.0 n && test e.1) || b) (swapped es)
 
   -- if all entries that satisfy a condition end, the others remain
-  pub without_where : (m : FinMap nat_cmp V) (test : V → Bool) → without m (numbers_where (λ k v. test v) m) ≡ only (λ k v. not (test v)) m
-  without_where m test = map.same_map nat_cmp_total nat_cmp-IsAntisymmetric (without m (numbers_where (λ k v. test v) m)) (only (λ k v. not (test v)) m) (λ q.
+  pub without_where : (m : FinMap nat_cmp V) (test : V → Bool) → without m (numbers_where (λ k v. test v) m) ≡ entries_where (λ k v. not (test v)) m
+  without_where m test = map.same_map nat_cmp_total nat_cmp-IsAntisymmetric (without m (numbers_where (λ k v. test v) m)) (entries_where (λ k v. not (test v)) m) (λ q.
       get-without m (numbers_where (λ k v. test v) m) q ∙ ap (λ b. cond b None (map.get m q)) (lists_where m test q) ∙ left q (map.get m q) ∙ sym (get-kept (λ k v. not (test v)) m q))
     where
       left : (q : ℕ) (o : Option V) → cond (option_map_or test o false) None o ≡ kept_at (λ k v. not (test v)) q o
@@ -117,7 +117,7 @@ pub record IsKept {V : Type 0} (p : ℕ → V → Bool) (m : FinMap nat_cmp V) (
   pub before : map.get m n ≡ Some v
   pub passes : p n v ≡ true
 
-pub kept_from : {V : Type 0} (p : ℕ → V → Bool) (m : FinMap nat_cmp V) (n : ℕ) (v : V) → map.get (only p m) n ≡ Some v → IsKept p m n v
+pub kept_from : {V : Type 0} (p : ℕ → V → Bool) (m : FinMap nat_cmp V) (n : ℕ) (v : V) → map.get (entries_where p m) n ≡ Some v → IsKept p m n v
 kept_from {V} p m n v is = found (map.get m n) refl (sym (get-kept p m n) ∙ is)
   where
     passed : (b : Bool) (w : V) → p n w ≡ b → cond b (Some w) None ≡ Some v → map.get m n ≡ Some w → IsKept p m n v
@@ -132,5 +132,5 @@ kept_from {V} p m n v is = found (map.get m n) refl (sym (get-kept p m n) ∙ is
     found (Some w) there e = passed (p n w) w refl e there
 
 -- and an entry that existed and satisfies the condition remains
-pub kept_to : {V : Type 0} (p : ℕ → V → Bool) (m : FinMap nat_cmp V) (n : ℕ) (v : V) → map.get m n ≡ Some v → p n v ≡ true → map.get (only p m) n ≡ Some v
+pub kept_to : {V : Type 0} (p : ℕ → V → Bool) (m : FinMap nat_cmp V) (n : ℕ) (v : V) → map.get m n ≡ Some v → p n v ≡ true → map.get (entries_where p m) n ≡ Some v
 kept_to p m n v there passes = get-kept p m n ∙ ap (kept_at p n) there ∙ ap (λ b. cond b (Some v) None) passes

@@ -14,10 +14,10 @@ use Rattle.land_acts.proofs.Numbers.{tied_number}
 use Rattle.land_acts.proofs.Refusals.{none_hold}
 use Rattle.land_acts.proofs.SameGround.{same_area, same_match}
 use Rattle.land_acts.specs.Mutations.Areas.{doubled_areas, outlines_at}
-use Rattle.land_acts.specs.Mutations.Asking.{content_refusals}
+use Rattle.land_acts.specs.Mutations.ByContent.{content_refusals}
 use Rattle.land_acts.specs.Mutations.Grounds.{are_same_ground}
-use Rattle.land_acts.specs.Mutations.Merging.{has_unlike, is_named, is_parcel_named, lacks_parcel, lacks_unit, merger_change, would_have_more_parcels}
-use Rattle.land_acts.specs.Mutations.Planning.{first_that_holds, lacks_numbers}
+use Rattle.land_acts.specs.Mutations.Merging.{has_unlike, is_unit_of_merger, is_parcel_named, lacks_parcel, lacks_unit, merger_change, would_have_more_parcels}
+use Rattle.land_acts.specs.Mutations.Planning.{first_refusal_of, runs_out_of_numbers}
 use Rattle.land_acts.specs.declared.mutations.refusal.Refusal.TheVariants.{NoSuchUnit, NoSuchParcel, UnitsUnlike, TooMany, ClockOut, NotMatched}
 use Rattle.land_core.proofs.Booleans.{T_true}
 use Rattle.land_core.proofs.Orders.{less_apart}
@@ -25,7 +25,7 @@ use Rattle.land_core.proofs.SoundRegisters.{are_used, refers, used_bounds, used_
 use Rattle.land_core.specs.Changes.{NamesKeysOnce}
 use Rattle.land_core.specs.Contents.{is_well_formed_content}
 use Rattle.land_core.specs.Entries.{are_distinct}
-use Rattle.land_core.specs.Mergers.{are_rising, lists_number, rise_above}
+use Rattle.land_core.specs.Mergers.{are_ascending_numbers, lists_number, all_above}
 use Rattle.land_core.specs.Numbers.{is_number}
 use Rattle.land_core.specs.Soundness.{IsSound}
 use Rattle.land_core.specs.declared.content.Content.TheVariants as content
@@ -42,28 +42,28 @@ pub record IsUnrefusedMerger (r : Register) (it : Merger) : Type 0 where
   pub units : lacks_unit r it ≡ false
   pub parcels : lacks_parcel r it ≡ false
   pub alike : has_unlike r it ≡ false
-  pub room : lacks_numbers r 1 ≡ false
+  pub room : runs_out_of_numbers r 1 ≡ false
   pub few : would_have_more_parcels r it ≡ false
   pub ground : are_same_ground (outlines_at r it.parcels) (it.outline ∷ []) ≡ true
 
-pub unrefused_merger : (r : Register) (it : Merger) (stamp : Option ℤ) → first_that_holds (content_refusals r (content.Merger it) stamp) ≡ None → IsUnrefusedMerger r it
+pub unrefused_merger : (r : Register) (it : Merger) (stamp : Option ℤ) → first_refusal_of (content_refusals r (content.Merger it) stamp) ≡ None → IsUnrefusedMerger r it
 unrefused_merger r it stamp none =
     let same = are_same_ground (outlines_at r it.parcels) (it.outline ∷ []) in
-    let crowded = lacks_numbers r 1 || would_have_more_parcels r it in
+    let crowded = runs_out_of_numbers r 1 || would_have_more_parcels r it in
     let fails = none_hold ((NoSuchUnit, lacks_unit r it) ∷ (NoSuchParcel, lacks_parcel r it) ∷ (UnitsUnlike, has_unlike r it) ∷ (TooMany, crowded) ∷ (ClockOut, is_none stamp) ∷ (NotMatched, not same) ∷ []) none in
     let unit = fails.0 in
     let parcel = fails.1.0 in
     let unlike = fails.1.1.0 in
     let number = fails.1.1.1.0 in
     let ground = fails.1.1.1.1.1.0 in
-    let many = or_parts (lacks_numbers r 1) (would_have_more_parcels r it) number in
+    let many = or_parts (runs_out_of_numbers r 1) (would_have_more_parcels r it) number in
     record { units = unit; parcels = parcel; alike = unlike; room = many.0; few = many.1; ground = not-false _ ground }
 
 -- the new parcel covers the ground of those that it replaces, and has their total area
-pub merged_ground : (r : Register) (it : Merger) (stamp : Option ℤ) → first_that_holds (content_refusals r (content.Merger it) stamp) ≡ None → Match (outlines_at r it.parcels) (it.outline ∷ [])
+pub merged_ground : (r : Register) (it : Merger) (stamp : Option ℤ) → first_refusal_of (content_refusals r (content.Merger it) stamp) ≡ None → Match (outlines_at r it.parcels) (it.outline ∷ [])
 merged_ground r it stamp none = same_match (outlines_at r it.parcels) (it.outline ∷ []) (unrefused_merger r it stamp none).ground
 
-pub merged_area : (r : Register) (it : Merger) (stamp : Option ℤ) → first_that_holds (content_refusals r (content.Merger it) stamp) ≡ None → doubled_area it.outline ≡ doubled_areas (outlines_at r it.parcels)
+pub merged_area : (r : Register) (it : Merger) (stamp : Option ℤ) → first_refusal_of (content_refusals r (content.Merger it) stamp) ≡ None → doubled_area it.outline ≡ doubled_areas (outlines_at r it.parcels)
 merged_area r it stamp none =
     let same = same_area (outlines_at r it.parcels) (it.outline ∷ []) (unrefused_merger r it stamp none).ground in
     alone (doubled_area it.outline) (doubled_areas (outlines_at r it.parcels)) same
@@ -74,22 +74,22 @@ merged_area r it stamp none =
 -- ---- its keys
 
 -- ascending numbers are above their lower bound, and distinct
-none_rising : (k last : ℕ) → k ≤ last → (ns : List ℕ) → rise_above last ns ≡ true → list_any (nat_eq k) ns ≡ false
+none_rising : (k last : ℕ) → k ≤ last → (ns : List ℕ) → all_above last ns ≡ true → list_any (nat_eq k) ns ≡ false
 none_rising k last le [] h = refl
 none_rising k last le (n ∷ ns) h =
-    let parts = and_parts (nat_lt last n) (rise_above n ns) h in
+    let parts = and_parts (nat_lt last n) (all_above n ns) h in
     let less : last < n = ltb-true last n parts.0 in
     let apart : nat_eq k n ≡ false = grind (arith, nat_tests) in
     ap (λ b. b || list_any (nat_eq k) ns) apart ∙ none_rising k n (omega (arith, le, less)) ns parts.1
 
-rising_once : (last : ℕ) (ns : List ℕ) → rise_above last ns ≡ true → are_distinct nat_eq ns ≡ true
+rising_once : (last : ℕ) (ns : List ℕ) → all_above last ns ≡ true → are_distinct nat_eq ns ≡ true
 rising_once last [] h = refl
 rising_once last (n ∷ ns) h =
-    let parts = and_parts (nat_lt last n) (rise_above n ns) h in
+    let parts = and_parts (nat_lt last n) (all_above n ns) h in
     ap (λ b. not b && are_distinct nat_eq ns) (none_rising n n (omega arith) ns parts.1) ∙ rising_once n ns parts.1
 
-pub numbers_once : (ns : List ℕ) → are_rising ns ≡ true → are_distinct nat_eq ns ≡ true
-numbers_once ns h = rising_once 0 ns (and_parts (rise_above 0 ns) (list_all is_number ns) h).0
+pub numbers_once : (ns : List ℕ) → are_ascending_numbers ns ≡ true → are_distinct nat_eq ns ≡ true
+numbers_once ns h = rising_once 0 ns (and_parts (all_above 0 ns) (list_all is_number ns) h).0
 
 -- the numbers of some entries of a map are distinct
 module _ {V : Type 0} (p : ℕ × V → Bool) where
@@ -121,7 +121,7 @@ module _ (r : Register) (source : ℕ) (it : Merger) (sound : IsSound r) where
       apart : (next : ℕ) → n < next → nat_eq next n ≡ false
       apart next less = grind (arith, nat_tests)
 
-      found : (o : Option ParcelRecord) → map.get r.parcels n ≡ o → option_map_or (λ p. is_named it p.unit) o false ≡ true → nat_eq r.next n ≡ false
+      found : (o : Option ParcelRecord) → map.get r.parcels n ≡ o → option_map_or (λ p. is_unit_of_merger it p.unit) o false ≡ true → nat_eq r.next n ≡ false
       found None e h = absurd (false≢true h)
       found (Some p) e h = apart r.next (used_bounds r n (used_from r r.parcels (are_used r (refers r (sound Reference)).numbers).parcels n p e)).1
 

@@ -15,15 +15,15 @@ use Rattle.land_acts.proofs.EnteredEntries.{here, there}
 use Rattle.land_acts.proofs.MergedEntries.{fewer_pass_both, filter-filter, get-without, kept_from, kept_to, none_counted, without_as_only}
 use Rattle.land_acts.proofs.NewObjects.{below_next, entries-last}
 use Rattle.land_acts.proofs.Numbers.{turned_number}
-use Rattle.land_acts.specs.Mutations.Merging.{has_unlike, is_named, is_parcel_named, is_unlike, keeps_parcel, lacks_parcel, lacks_unit, merger_change, would_have_more_parcels}
-use Rattle.land_acts.specs.Mutations.Planning.{lacks_numbers}
-use Rattle.land_acts.specs.Mutations.Subdividing.{parcels_beside}
-use Rattle.land_core.proofs.Reflection.{entries-only, none_at, some_at, some_passes}
+use Rattle.land_acts.specs.Mutations.Merging.{has_unlike, is_unit_of_merger, is_parcel_named, is_unlike, keeps_parcel, lacks_parcel, lacks_unit, merger_change, would_have_more_parcels}
+use Rattle.land_acts.specs.Mutations.Planning.{runs_out_of_numbers}
+use Rattle.land_acts.specs.Mutations.Subdividing.{count_other_parcels}
+use Rattle.land_core.proofs.Reflection.{entries-entries_where, none_at, some_at, some_passes}
 use Rattle.land_core.proofs.SoundRegisters.{are_used, refers, unused_from, used_bounds, used_from}
 use Rattle.land_core.specs.Changes.{after}
 use Rattle.land_core.specs.Contents.{is_well_formed_content}
 use Rattle.land_core.specs.Entries.{has, without}
-use Rattle.land_core.specs.Mergers.{are_merged, are_others, are_rising, lists_number}
+use Rattle.land_core.specs.Mergers.{are_merged_parcels, are_other_units, are_ascending_numbers, lists_number}
 use Rattle.land_core.specs.Numbers.{is_number}
 use Rattle.land_core.specs.Soundness.{IsSound, has_unused}
 use Rattle.land_core.specs.Texts.{is_label}
@@ -42,26 +42,26 @@ pub record Merges (r : Register) (source : ℕ) (it : Merger) : Type 0 where
   pub units : lacks_unit r it ≡ false
   pub parcels : lacks_parcel r it ≡ false
   pub alike : has_unlike r it ≡ false
-  pub room : lacks_numbers r 1 ≡ false
+  pub room : runs_out_of_numbers r 1 ≡ false
   pub few : would_have_more_parcels r it ≡ false
 
 -- ---- the limits of a merger
 
 pub record IsMerger (it : Merger) : Type 0 where
-  pub others : are_rising it.others ≡ true
+  pub others : are_ascending_numbers it.others ≡ true
   pub apart : lists_number it.others it.unit ≡ false
-  pub parcels : are_rising it.parcels ≡ true
+  pub parcels : are_ascending_numbers it.parcels ≡ true
 
 pub merger_limits : (it : Merger) → is_well_formed_content (content.Merger it) ≡ true → IsMerger it
 merger_limits it formed =
-    let label = and_parts (is_number it.unit && are_others it.unit it.others && are_merged it.parcels) (is_label it.label) formed in
-    let merged = and_parts (is_number it.unit && are_others it.unit it.others) (are_merged it.parcels) label.0 in
-    let unit = and_parts (is_number it.unit) (are_others it.unit it.others) merged.0 in
-    let others = and_parts (nat_le (length it.others) 15 && are_rising it.others) (not (lists_number it.others it.unit)) unit.1 in
+    let label = and_parts (is_number it.unit && are_other_units it.unit it.others && are_merged_parcels it.parcels) (is_label it.label) formed in
+    let merged = and_parts (is_number it.unit && are_other_units it.unit it.others) (are_merged_parcels it.parcels) label.0 in
+    let unit = and_parts (is_number it.unit) (are_other_units it.unit it.others) merged.0 in
+    let others = and_parts (nat_le (length it.others) 15 && are_ascending_numbers it.others) (not (lists_number it.others it.unit)) unit.1 in
     record {
-      others = (and_parts (nat_le (length it.others) 15) (are_rising it.others) others.0).1;
+      others = (and_parts (nat_le (length it.others) 15) (are_ascending_numbers it.others) others.0).1;
       apart = not-true _ others.1;
-      parcels = (and_parts (nat_le 2 (length it.parcels) && nat_le (length it.parcels) 16) (are_rising it.parcels) merged.1).1;
+      parcels = (and_parts (nat_le 2 (length it.parcels) && nat_le (length it.parcels) 16) (are_ascending_numbers it.parcels) merged.1).1;
     }
 
 -- ---- listed numbers
@@ -113,9 +113,9 @@ module _ (r : Register) (sound : IsSound r) (source : ℕ) (it : Merger) (h : Me
       not-false _ (sym (ap (λ b. b && not (lists_number it.parcels n)) (nat_eq_equiv.refl p.unit)) ∙ here)
 
   -- a parcel that ends belongs to one of the units of the merger
-  pub ends_in_named : (n : ℕ) (p : ParcelRecord) → map.get r.parcels n ≡ Some p → lists_number it.parcels n ≡ true → is_named it p.unit ≡ true
+  pub ends_in_named : (n : ℕ) (p : ParcelRecord) → map.get r.parcels n ≡ Some p → lists_number it.parcels n ≡ true → is_unit_of_merger it p.unit ≡ true
   ends_in_named n p is listed =
-      sym (ap (λ o. option_map_or (λ p. is_named it p.unit) o false) is)
+      sym (ap (λ o. option_map_or (λ p. is_unit_of_merger it p.unit) o false) is)
       ∙ not-false _ (listed_fails (λ n. not (is_parcel_named r it n)) it.parcels n h.parcels listed)
 
   -- a parcel that remains existed before, and belongs to a unit that remains
@@ -150,9 +150,9 @@ module _ (r : Register) (sound : IsSound r) (source : ℕ) (it : Merger) (h : Me
             (there (without r.parcels it.parcels) r.next parcel one.key one.value less (ap (λ m. map.get m one.key) (without_as_only r.parcels it.parcels) ∙ left)) one.passes
       ] refl
     where
-      not_named : (p : ParcelRecord) → p.unit ≡ n → nat_eq it.unit n ≡ false → is_named it p.unit ≡ false
+      not_named : (p : ParcelRecord) → p.unit ≡ n → nat_eq it.unit n ≡ false → is_unit_of_merger it p.unit ≡ false
       not_named p is other =
-          ap (is_named it) is
+          ap (is_unit_of_merger it) is
           ∙ ap (λ b. b || lists_number it.others n) (turned_number it.unit n other)
           ∙ apart
 
@@ -163,26 +163,26 @@ module _ (r : Register) (sound : IsSound r) (source : ℕ) (it : Merger) (h : Me
       ] refl
 
   -- the unit gets one parcel in addition to the remaining ones, and no other unit gets one
-  parcels_counted : (n : ℕ) → parcel_count merged n ≡ parcels_beside r n it.parcels + length {A = ℕ × ParcelRecord} (cond (nat_eq it.unit n) ((r.next, parcel) ∷ []) [])
+  parcels_counted : (n : ℕ) → parcel_count merged n ≡ count_other_parcels r n it.parcels + length {A = ℕ × ParcelRecord} (cond (nat_eq it.unit n) ((r.next, parcel) ∷ []) [])
   parcels_counted n =
       ap (λ (es : List (ℕ × ParcelRecord)). length (filter (λ e. nat_eq e.1.unit n) es)) (entries-last (without r.parcels it.parcels) r.next parcel (below_next r (without r.parcels it.parcels) unused_left))
       ∙ ap length (filter-append (λ (e : ℕ × ParcelRecord). nat_eq e.1.unit n) (map.entries (without r.parcels it.parcels)) ((r.next, parcel) ∷ []))
       ∙ length-append (filter (λ (e : ℕ × ParcelRecord). nat_eq e.1.unit n) (map.entries (without r.parcels it.parcels))) (filter (λ (e : ℕ × ParcelRecord). nat_eq e.1.unit n) ((r.next, parcel) ∷ []))
       ∙ ap (λ k. k + length {A = ℕ × ParcelRecord} (cond (nat_eq it.unit n) ((r.next, parcel) ∷ []) [])) beside
     where
-      beside : length (filter (λ (e : ℕ × ParcelRecord). nat_eq e.1.unit n) (map.entries (without r.parcels it.parcels))) ≡ parcels_beside r n it.parcels
+      beside : length (filter (λ (e : ℕ × ParcelRecord). nat_eq e.1.unit n) (map.entries (without r.parcels it.parcels))) ≡ count_other_parcels r n it.parcels
       beside =
           ap (λ (m : FinMap nat_cmp ParcelRecord). length (filter (λ e. nat_eq e.1.unit n) (map.entries m))) (without_as_only r.parcels it.parcels)
-          ∙ ap (λ es. length (filter (λ (e : ℕ × ParcelRecord). nat_eq e.1.unit n) es)) (entries-only nat_cmp_total nat_cmp-IsAntisymmetric (λ k p. not (lists_number it.parcels k)) r.parcels)
+          ∙ ap (λ es. length (filter (λ (e : ℕ × ParcelRecord). nat_eq e.1.unit n) es)) (entries-entries_where nat_cmp_total nat_cmp-IsAntisymmetric (λ k p. not (lists_number it.parcels k)) r.parcels)
           ∙ ap length (filter-filter (λ (e : ℕ × ParcelRecord). nat_eq e.1.unit n) (λ e. not (lists_number it.parcels e.0)) (map.entries r.parcels))
 
   pub parcels_fit : (n : ℕ) → nat_lt 256 (parcel_count r n) ≡ false → nat_lt 256 (parcel_count merged n) ≡ false
   parcels_fit n before =
       ap (nat_lt 256) (parcels_counted n)
-      ∙ elim (nat_eq it.unit n) as (λ b. nat_eq it.unit n ≡ b → nat_lt 256 (parcels_beside r n it.parcels + length {A = ℕ × ParcelRecord} (cond b ((r.next, parcel) ∷ []) [])) ≡ false) [
-        | true ↦ λ same. subst (λ (u : ℕ). nat_lt 256 (parcels_beside r u it.parcels + 1) ≡ false) (eqb-true it.unit n same) h.few
+      ∙ elim (nat_eq it.unit n) as (λ b. nat_eq it.unit n ≡ b → nat_lt 256 (count_other_parcels r n it.parcels + length {A = ℕ × ParcelRecord} (cond b ((r.next, parcel) ∷ []) [])) ≡ false) [
+        | true ↦ λ same. subst (λ (u : ℕ). nat_lt 256 (count_other_parcels r u it.parcels + 1) ≡ false) (eqb-true it.unit n same) h.few
         | false ↦ λ other.
-            fewer (parcels_beside r n it.parcels) (parcel_count r n) (fewer_pass_both (λ (e : ℕ × ParcelRecord). nat_eq e.1.unit n) (λ e. not (lists_number it.parcels e.0)) (map.entries r.parcels)) before
+            fewer (count_other_parcels r n it.parcels) (parcel_count r n) (fewer_pass_both (λ (e : ℕ × ParcelRecord). nat_eq e.1.unit n) (λ e. not (lists_number it.parcels e.0)) (map.entries r.parcels)) before
       ] refl
     where
       fewer : (least most : ℕ) → least ≤ most → nat_lt 256 most ≡ false → nat_lt 256 (least + 0) ≡ false

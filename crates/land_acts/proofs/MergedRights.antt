@@ -8,17 +8,17 @@ use Rattle.std.specs.FinMap as map
 use Rattle.std.specs.FinMap.{nat_cmp-IsAntisymmetric}
 use Rattle.std.proofs.lemmas.Bool.{false≢true, and_parts}
 use Rattle.land_acts.proofs.EndedEntries.{filter_map-kept, filter_within}
-use Rattle.land_core.proofs.Reflection.{entries-only, list_any-filter}
-use Rattle.land_core.specs.Entries.{only}
+use Rattle.land_core.proofs.Reflection.{entries-entries_where, list_any-filter}
+use Rattle.land_core.specs.Entries.{entries_where}
 use Rattle.land_core.specs.Units.{are_whole_or_none, has_owner, has_whole_shares, is_right_in, is_right_of, rrr_count, share_in, share_of, type_shares}
 use Rattle.land_core.specs.declared.register.Register.{Register}
 use Rattle.land_core.specs.declared.rrr.RightType.{RightType}
 use Rattle.land_core.specs.declared.rrr.RightType.TheVariants.{Ownership, Lease, Usufruct}
 use Rattle.land_core.specs.declared.rrr.RrrRecord.{RrrRecord}
 
-module _ (r new : Register) (kept : ℕ → RrrRecord → Bool) (left : new.rrrs ≡ only kept r.rrrs) (unit : ℕ) (keeps : (n : ℕ) (e : RrrRecord) → nat_eq e.unit unit ≡ true → kept n e ≡ true) where
+module _ (r new : Register) (kept : ℕ → RrrRecord → Bool) (left : new.rrrs ≡ entries_where kept r.rrrs) (unit : ℕ) (keeps : (n : ℕ) (e : RrrRecord) → nat_eq e.unit unit ≡ true → kept n e ≡ true) where
   entries_left : map.entries new.rrrs ≡ filter (λ e. kept e.0 e.1) (map.entries r.rrrs)
-  entries_left = ap map.entries left ∙ entries-only nat_cmp_total nat_cmp-IsAntisymmetric kept r.rrrs
+  entries_left = ap map.entries left ∙ entries-entries_where nat_cmp_total nat_cmp-IsAntisymmetric kept r.rrrs
 
   pub shares_left : (type : RightType) → type_shares new unit type ≡ type_shares r unit type
   shares_left type =

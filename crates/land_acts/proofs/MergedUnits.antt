@@ -13,14 +13,14 @@ use Rattle.land_acts.proofs.MergedEntries.{kept_from, without_where}
 use Rattle.land_acts.proofs.MergedParcels.{Merges, parcel_stays, parcel_stood, parcels_fit, unit_itself, unit_stays, unit_stood, unused_left}
 use Rattle.land_acts.proofs.MergedRights.{count_left, owner_left, whole_left}
 use Rattle.land_acts.specs.Mutations.Merging.{has_unlike, lacks_parcel, lacks_unit, merger_change, would_have_more_parcels}
-use Rattle.land_acts.specs.Mutations.Planning.{lacks_numbers}
+use Rattle.land_acts.specs.Mutations.Planning.{runs_out_of_numbers}
 use Rattle.land_core.proofs.Reflection.{none_at, none_passes}
 use Rattle.land_core.proofs.SoundRegisters.{are_used, are_used_back, next_above_zero, refers, refers_back, unused_from, used_from}
 use Rattle.land_core.specs.Changes.{after}
 use Rattle.land_core.specs.Contents.{is_well_formed_content}
-use Rattle.land_core.specs.Entries.{has, only, without}
+use Rattle.land_core.specs.Entries.{has, entries_where, without}
 use Rattle.land_core.specs.Mergers.{lists_number}
-use Rattle.land_core.specs.Soundness.{IsSound, clashes_later, is_loose_rank, is_used}
+use Rattle.land_core.specs.Soundness.{IsSound, clashes_with_later, is_rank_out_of_range, is_used}
 use Rattle.land_core.specs.Units.{do_clash, has_owner, has_parcel, has_whole_shares, parcel_count, rank_of, rrr_count}
 use Rattle.land_core.specs.declared.content.Content.TheVariants as content
 use Rattle.land_core.specs.declared.merger.Merger.{Merger}
@@ -42,7 +42,7 @@ module _ (r : Register) (sound : IsSound r) (source : ℕ) (it : Merger) (h : Me
   abbrev kept : ℕ → RrrRecord → Bool
   kept n e = not (lists_number it.others e.unit)
 
-  entries_left : new.rrrs ≡ only kept r.rrrs
+  entries_left : new.rrrs ≡ entries_where kept r.rrrs
   entries_left = without_where r.rrrs (λ e. lists_number it.others e.unit)
 
   keeps : (unit : ℕ) → lists_number it.others unit ≡ false → (n : ℕ) (e : RrrRecord) → nat_eq e.unit unit ≡ true → kept n e ≡ true
@@ -120,16 +120,16 @@ module _ (r : Register) (sound : IsSound r) (source : ℕ) (it : Merger) (h : Me
       ap (λ b. b || nat_lt 256 (rrr_count new n)) (parcels_fit r sound source it h n had.0)
       ∙ ap (nat_lt 256) (count_left r new kept entries_left n (keeps n stood.apart)) ∙ had.1)
   sound_after Twice =
-      none_passes nat_cmp_total nat_cmp-IsAntisymmetric (clashes_later new) new.rrrs
+      none_passes nat_cmp_total nat_cmp-IsAntisymmetric (clashes_with_later new) new.rrrs
       (λ n e is.
-      let alone = none_at nat_cmp_total nat_cmp-IsAntisymmetric (clashes_later r) r.rrrs n e (sound Twice) (entry_stood n e is).before in
+      let alone = none_at nat_cmp_total nat_cmp-IsAntisymmetric (clashes_with_later r) r.rrrs n e (sound Twice) (entry_stood n e is).before in
       none_passes nat_cmp_total nat_cmp-IsAntisymmetric (λ m f. nat_lt n m && do_clash e f) new.rrrs
       (λ m f at. none_at nat_cmp_total nat_cmp-IsAntisymmetric (λ m f. nat_lt n m && do_clash e f) r.rrrs m f alone (entry_stood m f at).before))
   sound_after Rank =
-      none_passes nat_cmp_total nat_cmp-IsAntisymmetric (λ n e. is_loose_rank new (rank_of e.class)) new.rrrs
-      (λ n e is. none_at nat_cmp_total nat_cmp-IsAntisymmetric (λ n e. is_loose_rank new (rank_of e.class)) r.rrrs n e (ranks_grow r new grows r.rrrs (sound Rank)) (entry_stood n e is).before)
+      none_passes nat_cmp_total nat_cmp-IsAntisymmetric (λ n e. is_rank_out_of_range new (rank_of e.class)) new.rrrs
+      (λ n e is. none_at nat_cmp_total nat_cmp-IsAntisymmetric (λ n e. is_rank_out_of_range new (rank_of e.class)) r.rrrs n e (ranks_grow r new grows r.rrrs (sound Rank)) (entry_stood n e is).before)
 
 pub merged_is_sound : (r : Register) (source : ℕ) (it : Merger) → IsSound r → has r.sources source ≡ true → is_well_formed_content (content.Merger it) ≡ true → lacks_unit r it ≡ false
-    → lacks_parcel r it ≡ false → has_unlike r it ≡ false → lacks_numbers r 1 ≡ false → would_have_more_parcels r it ≡ false → IsSound (after (merger_change r source it) r)
+    → lacks_parcel r it ≡ false → has_unlike r it ≡ false → runs_out_of_numbers r 1 ≡ false → would_have_more_parcels r it ≡ false → IsSound (after (merger_change r source it) r)
 merged_is_sound r source it sound from formed units parcels alike room few =
     sound_after r sound source it (record { comes_from = from; formed = formed; units = units; parcels = parcels; alike = alike; room = room; few = few })

@@ -9,10 +9,10 @@ use Rattle.std.specs.FinMap.{nat_cmp-IsAntisymmetric}
 use Rattle.std.proofs.lemmas.Bool.{ltb-true, not-false, or_parts}
 use Rattle.std.proofs.lemmas.Bool.Decides.{nat_tests}
 use Rattle.land_acts.specs.Mutations.Mortgaging.{greatest, next_rank, rank_in, ranks_in}
-use Rattle.land_core.proofs.Reflection.{entries-only, none_at, none_passes}
+use Rattle.land_core.proofs.Reflection.{entries-entries_where, none_at, none_passes}
 use Rattle.land_core.proofs.SoundRegisters.{next_above_zero}
-use Rattle.land_core.specs.Entries.{only, some}
-use Rattle.land_core.specs.Soundness.{IsSound, is_loose_rank}
+use Rattle.land_core.specs.Entries.{entries_where, some}
+use Rattle.land_core.specs.Soundness.{IsSound, is_rank_out_of_range}
 use Rattle.land_core.specs.Units.{are_of_one_rank, rank_of}
 use Rattle.land_core.specs.declared.register.Register.{Register}
 use Rattle.land_core.specs.declared.rrr.RrrRecord.{RrrRecord}
@@ -45,20 +45,20 @@ none_kept {X} t p (x ∷ xs) none =
 -- ---- in a sound register the next rank is at most the next number
 
 module _ (r : Register) (sound : IsSound r) (unit : ℕ) where
-  in_bounds : (e : RrrRecord) → is_loose_rank r (rank_of e.class) ≡ false → reaches r.next (rank_in unit e) ≡ false
+  in_bounds : (e : RrrRecord) → is_rank_out_of_range r (rank_of e.class) ≡ false → reaches r.next (rank_in unit e) ≡ false
   in_bounds e h = elim (nat_eq e.unit unit) as (λ b. reaches r.next (cond b (rank_of e.class) None) ≡ false) [ true ↦ of_rank (rank_of e.class) h | false ↦ refl ]
     where
       below : (k next : ℕ) → (nat_lt 0 k && nat_lt k next) ≡ true → not (nat_lt k next) ≡ false
       below k next h = grind (arith, nat_tests)
 
-      of_rank : (o : Option ℕ) → is_loose_rank r o ≡ false → reaches r.next o ≡ false
+      of_rank : (o : Option ℕ) → is_rank_out_of_range r o ≡ false → reaches r.next o ≡ false
       of_rank None h = refl
       of_rank (Some k) h = below k r.next (not-false _ h)
 
   none_reaches : list_any (λ e. reaches r.next (rank_in unit e.1)) (map.entries r.rrrs) ≡ false
   none_reaches =
       none_passes nat_cmp_total nat_cmp-IsAntisymmetric (λ n e. reaches r.next (rank_in unit e)) r.rrrs
-      (λ n e is. in_bounds e (none_at nat_cmp_total nat_cmp-IsAntisymmetric (λ n e. is_loose_rank r (rank_of e.class)) r.rrrs n e (sound Rank) is))
+      (λ n e is. in_bounds e (none_at nat_cmp_total nat_cmp-IsAntisymmetric (λ n e. is_rank_out_of_range r (rank_of e.class)) r.rrrs n e (sound Rank) is))
 
   fits : (es : List (ℕ × RrrRecord)) → list_any (λ e. reaches r.next (rank_in unit e.1)) es ≡ false → greatest (filter_map (λ e. rank_in unit e.1) es) + 1 ≤ r.next
   fits es none =
@@ -69,11 +69,11 @@ module _ (r : Register) (sound : IsSound r) (unit : ℕ) where
   next_rank_fits = fits (map.entries r.rrrs) none_reaches
 
   -- the same for some of the entries
-  pub next_rank_fits_kept : (s : Register) (kept : ℕ → RrrRecord → Bool) → s.rrrs ≡ only kept r.rrrs → next_rank s unit ≤ r.next
+  pub next_rank_fits_kept : (s : Register) (kept : ℕ → RrrRecord → Bool) → s.rrrs ≡ entries_where kept r.rrrs → next_rank s unit ≤ r.next
   next_rank_fits_kept s kept is =
       fits (map.entries s.rrrs)
       (ap (λ m. some (λ n e. reaches r.next (rank_in unit e)) m) is
-      ∙ ap (list_any (λ e. reaches r.next (rank_in unit e.1))) (entries-only nat_cmp_total nat_cmp-IsAntisymmetric kept r.rrrs)
+      ∙ ap (list_any (λ e. reaches r.next (rank_in unit e.1))) (entries-entries_where nat_cmp_total nat_cmp-IsAntisymmetric kept r.rrrs)
       ∙ none_kept (λ e. reaches r.next (rank_in unit e.1)) (λ e. kept e.0 e.1) (map.entries r.rrrs) none_reaches)
 
 -- no mortgage on a unit has the next rank

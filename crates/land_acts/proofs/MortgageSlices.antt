@@ -8,8 +8,8 @@ use Rattle.std.specs.FinMap.{nat_cmp-IsAntisymmetric}
 use Rattle.std.proofs.lemmas.Bool.{false≢true}
 use Rattle.land_acts.proofs.EndedEntries.{filter_map-kept, filter_within}
 use Rattle.land_acts.specs.Mutations.Mortgaging.{greatest, mortgage_change, mortgage_refusals, next_rank, rank_in, ranks_in}
-use Rattle.land_core.proofs.Reflection.{entries-only}
-use Rattle.land_core.specs.Entries.{has, only}
+use Rattle.land_core.proofs.Reflection.{entries-entries_where}
+use Rattle.land_core.specs.Entries.{has, entries_where}
 use Rattle.land_core.specs.Register.{holds}
 use Rattle.land_core.specs.Units.{rank_of, rrr_count}
 use Rattle.land_core.specs.declared.content.Mortgage.{Mortgage}
@@ -21,14 +21,14 @@ use Rattle.land_core.specs.declared.rrr.RrrRecord.{RrrRecord}
 -- exists, and on the next number
 pub record AgreeOnUnit (s r : Register) (unit : ℕ) : Type 0 where
   pub kept : ℕ → RrrRecord → Bool
-  pub entries : s.rrrs ≡ only kept r.rrrs
+  pub entries : s.rrrs ≡ entries_where kept r.rrrs
   pub keeps : (n : ℕ) (e : RrrRecord) → nat_eq e.unit unit ≡ true → kept n e ≡ true
   pub stands : has s.units unit ≡ has r.units unit
   pub next : s.next ≡ r.next
 
 module _ (s r : Register) (unit : ℕ) (agree : AgreeOnUnit s r unit) where
   entries_kept : map.entries s.rrrs ≡ filter (λ e. agree.kept e.0 e.1) (map.entries r.rrrs)
-  entries_kept = ap map.entries agree.entries ∙ entries-only nat_cmp_total nat_cmp-IsAntisymmetric agree.kept r.rrrs
+  entries_kept = ap map.entries agree.entries ∙ entries-entries_where nat_cmp_total nat_cmp-IsAntisymmetric agree.kept r.rrrs
 
   pub count_agrees : rrr_count s unit ≡ rrr_count r unit
   count_agrees =

@@ -6,7 +6,7 @@ use Rattle.land_acts.proofs.EnteredEntries.{entered, entered_is_sound}
 use Rattle.land_acts.proofs.Growth.{unused_grows}
 use Rattle.land_acts.proofs.MortgageRanks.{next_rank_apart, next_rank_fits}
 use Rattle.land_acts.specs.Mutations.Mortgaging.{mortgage_change, mortgage_entry, next_rank}
-use Rattle.land_acts.specs.Mutations.Planning.{would_crowd, lacks_numbers}
+use Rattle.land_acts.specs.Mutations.Planning.{would_exceed_entries, runs_out_of_numbers}
 use Rattle.land_core.proofs.SoundRegisters.{are_used, refers}
 use Rattle.land_core.specs.Changes.{after, NamesKeysOnce}
 use Rattle.land_core.specs.Entries.{has}
@@ -16,7 +16,7 @@ use Rattle.land_core.specs.declared.register.Register.{Register}
 use Rattle.land_core.specs.declared.soundness.Unsound.TheVariants.{Reference}
 
 pub mortgaged_is_sound : (r : Register) (source : ℕ) (it : Mortgage) → IsSound r → has r.sources source ≡ true → has r.units it.unit ≡ true → has r.parties it.creditor ≡ true
-    → lacks_numbers r 1 ≡ false → would_crowd r it.unit 1 ≡ false → IsSound (after (mortgage_change r source it) r)
+    → runs_out_of_numbers r 1 ≡ false → would_exceed_entries r it.unit 1 ≡ false → IsSound (after (mortgage_change r source it) r)
 mortgaged_is_sound r source it sound from unit creditor room few =
     entered_is_sound r sound r.next (mortgage_entry r source it) r.sources (r.next + 1) (record {
       room = room;

@@ -14,28 +14,28 @@ use Rattle.std.proofs.lemmas.Slice.Eq.{bytes_eq-Decides}
 use Rattle.std.specs.Cmp.Lexicographic.{pointwise}
 use Rattle.std.proofs.lemmas.Bool.Decides.{Decides-int_eq}
 use Rattle.std.proofs.lemmas.Cmp.{nat_eq_equiv}
-use Rattle.land_acts.proofs.Accepted.{planned}
+use Rattle.land_acts.proofs.Accepted.{plan_of}
 use Rattle.land_acts.proofs.EnteredEntries.{here, there}
 use Rattle.land_acts.proofs.LodgedMutations.{none_found}
 use Rattle.land_acts.proofs.Numbers.{one_number}
 use Rattle.land_acts.proofs.Refusals.{first_none, none_hold}
 use Rattle.land_acts.proofs.TransferLaws.{whole_law}
-use Rattle.land_acts.specs.Deciding.{decided, is_lodged, with_state}
-use Rattle.land_acts.specs.Lodging.{document_kind, in_order, is_same_lodging, lodge_repeat, lodged_record, lodged_told, lodged_under, repeat_of}
-use Rattle.land_acts.specs.MutationLaws.{DecisionsStay, LodgingsStand, LodgingsStay, RepeatsAreToldTheFirst, StandsAsLodged}
-use Rattle.land_acts.specs.Mutations.Asking.{content_change, content_refusals, transfer_change}
-use Rattle.land_acts.specs.Mutations.Planning.{first_that_holds}
-use Rattle.land_acts.specs.Mutations.Transferring.{held_at}
-use Rattle.land_acts.specs.Outcome.{change_of, done_of, refusals_of, refused_else, repeated_else, stamped}
+use Rattle.land_acts.specs.Deciding.{decided_mutation, is_lodged, with_state}
+use Rattle.land_acts.specs.Lodging.{document_kind, ascending_pair, is_same_lodging, lodge_repeat, new_mutation_record, receipt_of_lodging, mutation_with_reference, repeat_of}
+use Rattle.land_acts.specs.MutationLaws.{DecisionsStay, LodgingsExist, LodgingsStay, RepeatsGetTheFirstReceipt, ExistsAsLodged}
+use Rattle.land_acts.specs.Mutations.ByContent.{content_change, content_refusals, transfer_change}
+use Rattle.land_acts.specs.Mutations.Planning.{first_refusal_of}
+use Rattle.land_acts.specs.Mutations.Transferring.{right_at}
+use Rattle.land_acts.specs.Outcome.{change_of, done_of, refusals_of, refusal_or, repeat_or, plan_with_stamp}
 use Rattle.land_acts.specs.declared.mutations.refusal.Refusal.TheVariants.{ClockOut, NotLodged}
-use Rattle.land_acts.specs.declared.mutations.transfer.Held.{Held}
+use Rattle.land_acts.specs.declared.mutations.transfer.HeldRight.{HeldRight}
 use Rattle.land_core.proofs.FiniteMaps.{none_is_not_some}
-use Rattle.land_core.proofs.LookUps.{by_look_ups}
+use Rattle.land_core.proofs.RecordLookups.{by_look_ups}
 use Rattle.land_core.proofs.Reflection.{each_there, some_at}
 use Rattle.land_core.proofs.SoundRegisters.{are_used, refers, used_bounds, used_from}
 use Rattle.land_core.specs.Changes.{after, no_change}
 use Rattle.land_core.specs.Contents.{is_same_content}
-use Rattle.land_core.specs.Entries.{updated}
+use Rattle.land_core.specs.Entries.{with_changes}
 use Rattle.land_core.specs.Mergers.{are_same_numbers}
 use Rattle.land_core.specs.Mutations.{is_lodged_as, is_undecided}
 use Rattle.land_core.specs.Soundness.{IsSound}
@@ -63,7 +63,7 @@ use Rattle.land_shape.specs.Place.{Place, is_same_place, is_same_ring}
 
 -- an act to which no refusal applies leaves an existing mutation unchanged, or decides it if it was undecided
 abbrev Becomes : Register → ℕ → MutationRecord → Register → Type 0
-Becomes r number m new = (state : MutationState) × (map.get new.mutations number ≡ Some (decided state m)) × (is_undecided m ≡ false → state ≡ m.state)
+Becomes r number m new = (state : MutationState) × (map.get new.mutations number ≡ Some (decided_mutation state m)) × (is_undecided m ≡ false → state ≡ m.state)
 
 -- a change that writes and ends no source, and ends no mutation
 record IsUntouched (change : Change) : Type 0 where
@@ -80,19 +80,19 @@ module _ (r : Register) (sound : IsSound r) where
 
   -- a decision changes the state of one undecided mutation
   put_state : (n number : ℕ) (m x : MutationRecord) (state : MutationState) → map.get r.mutations number ≡ Some m → is_undecided m ≡ true → map.get r.mutations n ≡ Some x
-      → (after : MutationState) × (map.get (map.insert r.mutations number (decided state m)) n ≡ Some (decided after x)) × (is_undecided x ≡ false → after ≡ x.state)
+      → (after : MutationState) × (map.get (map.insert r.mutations number (decided_mutation state m)) n ≡ Some (decided_mutation after x)) × (is_undecided x ≡ false → after ≡ x.state)
   put_state n number m x state there undecided is =
       elim (eq_by_cmp nat_cmp n number) as (λ b. eq_by_cmp nat_cmp n number ≡ b
-      → (after : MutationState) × (map.get (map.insert r.mutations number (decided state m)) n ≡ Some (decided after x)) × (is_undecided x ≡ false → after ≡ x.state)) [
+      → (after : MutationState) × (map.get (map.insert r.mutations number (decided_mutation state m)) n ≡ Some (decided_mutation after x)) × (is_undecided x ≡ false → after ≡ x.state)) [
         | true ↦ λ at.
             let same : m ≡ x = one_right (sym there ∙ ap (map.get r.mutations) (sym (one_number n number at)) ∙ is) in (
               state,
-              map.get-insert nat_cmp_total r.mutations number (decided state m) n ∙ ap (λ b. cond b (Some (decided state m)) (map.get r.mutations n)) at ∙ ap (λ y. Some (decided state y)) same,
+              map.get-insert nat_cmp_total r.mutations number (decided_mutation state m) n ∙ ap (λ b. cond b (Some (decided_mutation state m)) (map.get r.mutations n)) at ∙ ap (λ y. Some (decided_mutation state y)) same,
               λ shut. absurd (false≢true (sym shut ∙ ap is_undecided (sym same) ∙ undecided)),
             )
         | false ↦ λ apart. (
           x.state,
-          map.get-insert nat_cmp_total r.mutations number (decided state m) n ∙ ap (λ b. cond b (Some (decided state m)) (map.get r.mutations n)) apart ∙ is,
+          map.get-insert nat_cmp_total r.mutations number (decided_mutation state m) n ∙ ap (λ b. cond b (Some (decided_mutation state m)) (map.get r.mutations n)) apart ∙ is,
           λ shut. refl,
         )
       ] refl
@@ -100,13 +100,13 @@ module _ (r : Register) (sound : IsSound r) where
       one_right : Some m ≡ Some x → m ≡ x
       one_right e = cc
 
-  transfer_touches : (source : ℕ) (it : Transfer) (o : Option Held) → IsUntouched (transfer_change r source it o)
+  transfer_touches : (source : ℕ) (it : Transfer) (o : Option HeldRight) → IsUntouched (transfer_change r source it o)
   transfer_touches source it None = record { mutations = refl; put = refl; ended = refl }
   transfer_touches source it (Some from) = record { mutations = refl; put = refl; ended = refl }
 
   -- the content of an approval changes no source, and ends no mutation
   content_touches : (source : ℕ) (c : Content) → IsUntouched (content_change r source c)
-  content_touches source (content.Transfer it) = transfer_touches source it (held_at r it.unit it.right)
+  content_touches source (content.Transfer it) = transfer_touches source it (right_at r it.unit it.right)
   content_touches source (content.Subdivision it) = record { mutations = refl; put = refl; ended = refl }
   content_touches source (content.Merger it) = record { mutations = refl; put = refl; ended = refl }
   content_touches source (content.Mortgage it) = record { mutations = refl; put = refl; ended = refl }
@@ -120,7 +120,7 @@ module _ (r : Register) (sound : IsSound r) where
   by_decision number state change touches (Some m) e undecided n x is =
       let it = put_state n number m x state e undecided is in (
         it.0,
-        ap (λ ended. map.get (updated r.mutations ((number, decided state m) ∷ []) ended) n) (touches m).mutations ∙ it.1,
+        ap (λ ended. map.get (with_changes r.mutations ((number, decided_mutation state m) ∷ []) ended) n) (touches m).mutations ∙ it.1,
         it.2,
       )
 
@@ -128,9 +128,9 @@ module _ (r : Register) (sound : IsSound r) where
       → (after (option_map_or (λ m. with_state state number m (change m)) o (no_change r.next)) r).sources ≡ r.sources
   sources_by_decision number state change touches None = refl
   sources_by_decision number state change touches (Some m) =
-      ap (λ put. updated r.sources put (change m).ended.sources) (touches m).put ∙ ap (updated r.sources []) (touches m).ended
+      ap (λ put. with_changes r.sources put (change m).ended.sources) (touches m).put ∙ ap (with_changes r.sources []) (touches m).ended
 
-  becomes : (caller : Caller) (a : Act) (stamp : ℤ) → first_that_holds (refusals_of r caller a (Some stamp)) ≡ None → (n : ℕ) (x : MutationRecord) → map.get r.mutations n ≡ Some x
+  becomes : (caller : Caller) (a : Act) (stamp : ℤ) → first_refusal_of (refusals_of r caller a (Some stamp)) ≡ None → (n : ℕ) (x : MutationRecord) → map.get r.mutations n ≡ Some x
       → Becomes r n x (after (change_of r caller a stamp) r)
   becomes caller (act.Enrol it) stamp none n x is = (x.state, is, λ shut. refl)
   becomes caller (act.Group it) stamp none n x is = (x.state, is, λ shut. refl)
@@ -144,7 +144,7 @@ module _ (r : Register) (sound : IsSound r) where
   becomes caller (act.Lift it) stamp none n x is = (x.state, is, λ shut. refl)
   becomes caller (act.Lodge it) stamp none n x is =
       let less = mutation_below n x is in
-      (x.state, there r.mutations (r.next + 1) (lodged_record caller it r.next stamp) n x (omega (arith, less)) is, λ shut. refl)
+      (x.state, there r.mutations (r.next + 1) (new_mutation_record caller it r.next stamp) n x (omega (arith, less)) is, λ shut. refl)
   becomes caller (act.Approve it) stamp none n x is =
       by_decision it.mutation Approved (λ m. content_change r m.source m.content) (λ m. content_touches m.source m.content) (map.get r.mutations it.mutation) refl
       (not-false _ (first_none NotLodged (not (is_lodged r it.mutation)) (option_map_or (λ m. content_refusals r m.content (Some stamp)) (map.get r.mutations it.mutation) []) none).first) n x is
@@ -173,25 +173,25 @@ module _ (r : Register) (sound : IsSound r) where
 
 pub decisions_stay : DecisionsStay
 decisions_stay r change stamp number m sound h is shut =
-    let plan = planned r h.caller h.act stamp change h.done h.outcome in
+    let plan = plan_of r h.caller h.act stamp change h.done h.outcome in
     let it = becomes r sound h.caller h.act stamp plan.none_holds number m is in
-    subst (λ (made : Change). map.get (after made r).mutations number ≡ Some m) plan.same (it.1 ∙ ap (λ state. Some (decided state m)) (it.2 shut))
+    subst (λ (made : Change). map.get (after made r).mutations number ≡ Some m) plan.same (it.1 ∙ ap (λ state. Some (decided_mutation state m)) (it.2 shut))
 
-pub lodgings_stand : LodgingsStand
-lodgings_stand r caller it stamp change done is =
-    let plan = planned r caller (act.Lodge it) stamp change done is in
-    subst (λ (made : Change). StandsAsLodged (after made r) caller it r.next (r.next + 1) stamp) plan.same
+pub lodgings_exist : LodgingsExist
+lodgings_exist r caller it stamp change done is =
+    let plan = plan_of r caller (act.Lodge it) stamp change done is in
+    subst (λ (made : Change). ExistsAsLodged (after made r) caller it r.next (r.next + 1) stamp) plan.same
     (record {
       state = Lodged;
-      mutation = here r.mutations (r.next + 1) (lodged_record caller it r.next stamp);
+      mutation = here r.mutations (r.next + 1) (new_mutation_record caller it r.next stamp);
       document = here r.sources r.next (record { kind = document_kind it.content; title = it.document });
     })
 
 pub lodgings_stay : LodgingsStay
 lodgings_stay r caller it source number lodged stamp change sound h standing =
-    let plan = planned r h.caller h.act stamp change h.done h.outcome in
-    let mutation = becomes r sound h.caller h.act stamp plan.none_holds number (decided standing.state (lodged_record caller it source lodged)) standing.mutation in
-    subst (λ (made : Change). StandsAsLodged (after made r) caller it source number lodged) plan.same
+    let plan = plan_of r h.caller h.act stamp change h.done h.outcome in
+    let mutation = becomes r sound h.caller h.act stamp plan.none_holds number (decided_mutation standing.state (new_mutation_record caller it source lodged)) standing.mutation in
+    subst (λ (made : Change). ExistsAsLodged (after made r) caller it source number lodged) plan.same
     (record { state = mutation.0; mutation = mutation.1; document = source_stays r sound h.caller h.act stamp source (record { kind = document_kind it.content; title = it.document }) standing.document })
 
 -- ---- repeats
@@ -247,9 +247,9 @@ found_holds {X} P p (y ∷ ys) all x e =
     same : Some y ≡ Some x → y ≡ x
     same e = cc
 
-module _ (later : Register) (sound : IsSound later) (caller : Caller) (it : Lodging) (source number : ℕ) (stamp : ℤ) (standing : StandsAsLodged later caller it source number stamp) where
+module _ (later : Register) (sound : IsSound later) (caller : Caller) (it : Lodging) (source number : ℕ) (stamp : ℤ) (standing : ExistsAsLodged later caller it source number stamp) where
   abbrev m : MutationRecord
-  m = decided standing.state (lodged_record caller it source stamp)
+  m = decided_mutation standing.state (new_mutation_record caller it source stamp)
 
   abbrev p : ℕ × MutationRecord → Bool
   p e = is_lodged_as caller.party it.reference e.1
@@ -280,10 +280,10 @@ module _ (later : Register) (sound : IsSound later) (caller : Caller) (it : Lodg
       differ : nat_eq e.0 number ≡ false → e.0 ≡ number → ⊥
       differ apart same = false≢true (sym apart ∙ ap (λ n. nat_eq n number) same ∙ nat_eq_equiv.refl number)
 
-  under : lodged_under later caller.party it.reference ≡ Some (number, m)
+  under : mutation_with_reference later caller.party it.reference ≡ Some (number, m)
   under = by_case (find p (map.entries later.mutations)) refl
     where
-      by_case : (o : Option (ℕ × MutationRecord)) → find p (map.entries later.mutations) ≡ o → lodged_under later caller.party it.reference ≡ Some (number, m)
+      by_case : (o : Option (ℕ × MutationRecord)) → find p (map.entries later.mutations) ≡ o → mutation_with_reference later caller.party it.reference ≡ Some (number, m)
       by_case None e =
           absurd (false≢true (sym (none_found p (map.entries later.mutations) e)
           ∙ some_at nat_cmp_total nat_cmp-IsAntisymmetric (λ n x. is_lodged_as caller.party it.reference x) later.mutations number m standing.mutation passes))
@@ -292,20 +292,20 @@ module _ (later : Register) (sound : IsSound later) (caller : Caller) (it : Lodg
   same : is_same_lodging later it m ≡ true
   same = and_from _ _ (ap (λ o. option_map_or (λ s. bytes_eq s.title it.document) o false) standing.document ∙ (bytes_eq-Decides it.document it.document).1 refl) (content_itself it.content)
 
-  repeated : lodge_repeat later caller it ≡ Some (lodged_told (number, m))
-  repeated = ap (repeat_of later it) under ∙ ap (λ b. cond b (Some (lodged_told (number, m))) None) same
+  repeated : lodge_repeat later caller it ≡ Some (receipt_of_lodging (number, m))
+  repeated = ap (repeat_of later it) under ∙ ap (λ b. cond b (Some (receipt_of_lodging (number, m))) None) same
 
-told_then : (number : ℕ) → in_order number (number + 1) ≡ number ∷ (number + 1) ∷ []
+told_then : (number : ℕ) → ascending_pair number (number + 1) ≡ number ∷ (number + 1) ∷ []
 told_then number = ap (λ b. cond b ((number + 1) ∷ number ∷ []) (number ∷ (number + 1) ∷ [])) not_before
   where
     not_before : nat_lt (number + 1) number ≡ false
     not_before = grind (arith, nat_tests)
 
-pub repeats_are_told : RepeatsAreToldTheFirst
+pub repeats_are_told : RepeatsGetTheFirstReceipt
 repeats_are_told r later caller it stamp now change done first sound standing =
-    let plan = planned r caller (act.Lodge it) stamp change done first in
-    let told : lodged_told (r.next + 1, decided standing.state (lodged_record caller it r.next stamp)) ≡ done =
+    let plan = plan_of r caller (act.Lodge it) stamp change done first in
+    let told : receipt_of_lodging (r.next + 1, decided_mutation standing.state (new_mutation_record caller it r.next stamp)) ≡ done =
     ap (λ (made : List ℕ). record { number = r.next + 1; made = made; stamp = stamp }) (told_then r.next) ∙ plan.is_told in
-    ap (λ (o : Option Done). repeated_else o (refused_else (first_that_holds (refusals_of later caller (act.Lodge it) now))
-    (stamped (λ at. change_of later caller (act.Lodge it) at) (λ at. done_of later caller (act.Lodge it) at) now)))
+    ap (λ (o : Option Done). repeat_or o (refusal_or (first_refusal_of (refusals_of later caller (act.Lodge it) now))
+    (plan_with_stamp (λ at. change_of later caller (act.Lodge it) at) (λ at. done_of later caller (act.Lodge it) at) now)))
     (repeated later sound caller it r.next (r.next + 1) stamp standing ∙ ap Some told)

@@ -8,7 +8,7 @@ use Rattle.std.specs.declared.cmp.Ordering.TheVariants.{Greater}
 use Rattle.std.specs.FinMap as map
 use Rattle.std.specs.FinMap.{FinMap, put, nat_cmp-IsAntisymmetric}
 use Rattle.std.proofs.lemmas.Bool.Decides.{nat_tests}
-use Rattle.land_acts.specs.Mutations.Numbering.{numbered}
+use Rattle.land_acts.specs.Mutations.Numbering.{with_numbers_from}
 use Rattle.land_core.proofs.Reflection.{each_there}
 use Rattle.land_core.proofs.SoundRegisters.{used_from, used_bounds}
 use Rattle.land_core.specs.Entries.{with_entries, are_distinct}
@@ -39,14 +39,14 @@ pub entries-last : {V : Type 0} (m : FinMap nat_cmp V) (k : ℕ) (v : V) → Are
 entries-last m k v below = map.entries-insert nat_cmp_total m k v ∙ put_end k v (map.entries m) below
 
 -- and so are several with the numbers after it
-pub entries-numbered : {V : Type 0} (m : FinMap nat_cmp V) (first : ℕ) (xs : List V) → AreBelow first (map.entries m)
-    → map.entries (with_entries m (numbered first xs)) ≡ map.entries m ++ numbered first xs
-entries-numbered m first [] below = sym (append-nil (map.entries m))
-entries-numbered {V} m first (x ∷ xs) below =
+pub entries-with_numbers_from : {V : Type 0} (m : FinMap nat_cmp V) (first : ℕ) (xs : List V) → AreBelow first (map.entries m)
+    → map.entries (with_entries m (with_numbers_from first xs)) ≡ map.entries m ++ with_numbers_from first xs
+entries-with_numbers_from m first [] below = sym (append-nil (map.entries m))
+entries-with_numbers_from {V} m first (x ∷ xs) below =
     let once = entries-last m first x below in
-    entries-numbered (map.insert m first x) (first + 1) xs (subst (AreBelow (first + 1)) (sym once) (one_more first x (map.entries m) below))
-    ∙ ap (λ (it : List (ℕ × V)). it ++ numbered (first + 1) xs) once
-    ∙ append_assoc (map.entries m) ((first, x) ∷ []) (numbered (first + 1) xs)
+    entries-with_numbers_from (map.insert m first x) (first + 1) xs (subst (AreBelow (first + 1)) (sym once) (one_more first x (map.entries m) below))
+    ∙ ap (λ (it : List (ℕ × V)). it ++ with_numbers_from (first + 1) xs) once
+    ∙ append_assoc (map.entries m) ((first, x) ∷ []) (with_numbers_from (first + 1) xs)
 
 -- used numbers are below the next one
 pub below_next : {V : Type 0} (r : Register) (records : FinMap nat_cmp V) → has_unused r records ≡ false → AreBelow r.next (map.entries records)
@@ -57,16 +57,16 @@ below_next {V} r records none = each_below (map.entries records) (each_there nat
     each_below (e ∷ es) h = ((used_bounds r e.0 (used_from r records none e.0 e.1 h.0)).1, each_below es h.1)
 
 -- consecutively numbered objects have different numbers
-none_before : {V : Type 0} (k first : ℕ) → k < first → (xs : List V) → list_any (nat_eq k) (map_list (λ e. e.0) (numbered first xs)) ≡ false
+none_before : {V : Type 0} (k first : ℕ) → k < first → (xs : List V) → list_any (nat_eq k) (map_list (λ e. e.0) (with_numbers_from first xs)) ≡ false
 none_before k first less [] = refl
 none_before k first less (x ∷ xs) =
     let apart : nat_eq k first ≡ false = grind (arith, nat_tests) in
-    ap (λ b. b || list_any (nat_eq k) (map_list (λ e. e.0) (numbered (first + 1) xs))) apart ∙ none_before k (first + 1) (omega (arith, less)) xs
+    ap (λ b. b || list_any (nat_eq k) (map_list (λ e. e.0) (with_numbers_from (first + 1) xs))) apart ∙ none_before k (first + 1) (omega (arith, less)) xs
 
-pub numbered_once : {V : Type 0} (first : ℕ) (xs : List V) → are_distinct nat_eq (map_list (λ e. e.0) (numbered first xs) ++ []) ≡ true
-numbered_once {V} first xs = ap (are_distinct nat_eq) (append-nil (map_list (λ e. e.0) (numbered first xs))) ∙ once first xs
+pub numbered_once : {V : Type 0} (first : ℕ) (xs : List V) → are_distinct nat_eq (map_list (λ e. e.0) (with_numbers_from first xs) ++ []) ≡ true
+numbered_once {V} first xs = ap (are_distinct nat_eq) (append-nil (map_list (λ e. e.0) (with_numbers_from first xs))) ∙ once first xs
   where
-    once : (first : ℕ) (xs : List V) → are_distinct nat_eq (map_list (λ e. e.0) (numbered first xs)) ≡ true
+    once : (first : ℕ) (xs : List V) → are_distinct nat_eq (map_list (λ e. e.0) (with_numbers_from first xs)) ≡ true
     once first [] = refl
     once first (x ∷ xs) =
-        ap (λ b. not b && are_distinct nat_eq (map_list (λ e. e.0) (numbered (first + 1) xs))) (none_before first (first + 1) (omega arith) xs) ∙ once (first + 1) xs
+        ap (λ b. not b && are_distinct nat_eq (map_list (λ e. e.0) (with_numbers_from (first + 1) xs))) (none_before first (first + 1) (omega arith) xs) ∙ once (first + 1) xs

@@ -10,8 +10,8 @@ use Rattle.std.specs.FinMap.{FinMap, nat_cmp-IsAntisymmetric}
 use Rattle.std.proofs.lemmas.Bool.{and_parts, eqb-true}
 use Rattle.std.proofs.lemmas.Cmp.{nat_eq_equiv}
 use Rattle.land_core.proofs.FiniteMaps.{none_is_not_some}
-use Rattle.land_core.proofs.Reflection.{entries-only, list_any-filter, none_passes, some_at}
-use Rattle.land_core.specs.Entries.{only, some}
+use Rattle.land_core.proofs.Reflection.{entries-entries_where, list_any-filter, none_passes, some_at}
+use Rattle.land_core.specs.Entries.{entries_where, some}
 
 module _ {V : Type 0} (m : FinMap nat_cmp V) (test : V → Bool) (n : ℕ) where
   -- they are equivalent, because there is no other entry at the number
@@ -39,10 +39,10 @@ module _ {V : Type 0} (m : FinMap nat_cmp V) (test : V → Bool) (n : ℕ) where
 
 -- filtering does not change its value if all entries that satisfy it remain
 pub at_kept : {V : Type 0} (m : FinMap nat_cmp V) (kept : ℕ → V → Bool) (test : V → Bool) (n : ℕ) → ((v : V) → test v ≡ true → kept n v ≡ true)
-    → option_map_or test (map.get (only kept m) n) false ≡ option_map_or test (map.get m n) false
+    → option_map_or test (map.get (entries_where kept m) n) false ≡ option_map_or test (map.get m n) false
 at_kept {V} m kept test n keeps =
-    at_as_some (only kept m) test n
-    ∙ ap (list_any (λ e. nat_eq e.0 n && test e.1)) (entries-only nat_cmp_total nat_cmp-IsAntisymmetric kept m)
+    at_as_some (entries_where kept m) test n
+    ∙ ap (list_any (λ e. nat_eq e.0 n && test e.1)) (entries-entries_where nat_cmp_total nat_cmp-IsAntisymmetric kept m)
     ∙ list_any-filter (λ e. nat_eq e.0 n && test e.1) (λ e. kept e.0 e.1) (map.entries m) (all_kept (map.entries m))
     ∙ sym (at_as_some m test n)
   where

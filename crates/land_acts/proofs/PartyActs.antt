@@ -13,7 +13,7 @@ use Rattle.land_core.proofs.SoundRegisters.{are_used, are_used_back, refers, use
 use Rattle.land_core.specs.Entries.{has}
 use Rattle.land_core.specs.Members.{Members}
 use Rattle.land_core.specs.Register.{has_single_party, has_group, is_single}
-use Rattle.land_core.specs.Soundness.{IsSound, has_unused, has_unused_number, has_loose_grant, has_loose_rrr, is_used}
+use Rattle.land_core.specs.Soundness.{IsSound, has_unused, has_unused_number, has_dangling_grant, has_dangling_rrr, is_used}
 use Rattle.land_core.specs.declared.party.PartyRecord.{PartyRecord}
 use Rattle.land_core.specs.declared.register.Register.{Register}
 use Rattle.land_core.specs.declared.soundness.Unsound.TheVariants.{Reference}
@@ -95,7 +95,7 @@ module _ (r new : Register) (party : PartyRecord) (parties : new.parties ≡ map
       })
 
   -- the references of entries exist as before
-  pub no_loose_rrr : new.units ≡ r.units → new.rrrs ≡ r.rrrs → new.sources ≡ r.sources → has_loose_rrr new ≡ false
+  pub no_loose_rrr : new.units ≡ r.units → new.rrrs ≡ r.rrrs → new.sources ≡ r.sources → has_dangling_rrr new ≡ false
   no_loose_rrr units rrrs sources =
       anchored_back new (λ n e is.
       let one = anchored r (refers r (sound Reference)).rrrs n e (sym (ap (λ m. map.get m n) rrrs) ∙ is) in
@@ -105,6 +105,6 @@ module _ (r new : Register) (party : PartyRecord) (parties : new.parties ≡ map
         source = ap (λ m. has m e.source) sources ∙ one.source;
       })
 
-  pub no_loose_grant : new.roles ≡ r.roles → has_loose_grant new ≡ false
+  pub no_loose_grant : new.roles ≡ r.roles → has_dangling_grant new ≡ false
   no_loose_grant roles =
       loose_from new (λ g is. single_stays r new stay g.party (single_from r (refers r (sound Reference)).grants g (sym (ap (λ m. map.get m g) roles) ∙ is)))

@@ -5,8 +5,8 @@ use Rattle.std.specs.List.{AllByRecursion}
 use Rattle.std.specs.Option.{option_map_or}
 use Rattle.std.specs.FinMap as map
 use Rattle.std.proofs.lemmas.Bool.{false≢true, eqb-true, not-false}
-use Rattle.land_acts.proofs.Accepted.{planned}
-use Rattle.land_acts.proofs.AreaLaws.{approved}
+use Rattle.land_acts.proofs.Accepted.{plan_of}
+use Rattle.land_acts.proofs.AreaLaws.{approval_plan}
 use Rattle.land_acts.proofs.MergedApprovals.{tight_mutation}
 use Rattle.land_acts.proofs.MergedKeys.{merger_names_once, unrefused_merger}
 use Rattle.land_acts.proofs.MergedParcels.{listed_fails}
@@ -16,22 +16,22 @@ use Rattle.land_acts.proofs.ReplacedParcels.{IsReplacement, area_changes, area_i
 use Rattle.land_acts.proofs.SameGround.{same_area, same_match}
 use Rattle.land_acts.proofs.SubdividedGrounds.{outlines_made, unrefused_subdivision}
 use Rattle.land_acts.proofs.SubdividedKeys.{parcels_above, subdivision_names_once}
-use Rattle.land_acts.specs.AreaLaws.{outlines_put}
+use Rattle.land_acts.specs.AreaLaws.{new_outlines}
 use Rattle.land_acts.specs.Deciding.{is_lodged, with_state}
 use Rattle.land_acts.specs.Mutations.Areas.{doubled_areas, outlines_at}
-use Rattle.land_acts.specs.Mutations.Asking.{content_change, content_refusals, transfer_change}
+use Rattle.land_acts.specs.Mutations.ByContent.{content_change, content_refusals, transfer_change}
 use Rattle.land_acts.specs.Mutations.Discharging.{discharge_change}
-use Rattle.land_acts.specs.Mutations.Merging.{is_named, is_parcel_named, merger_change}
+use Rattle.land_acts.specs.Mutations.Merging.{is_unit_of_merger, is_parcel_named, merger_change}
 use Rattle.land_acts.specs.Mutations.Mortgaging.{mortgage_change}
-use Rattle.land_acts.specs.Mutations.Numbering.{numbered}
-use Rattle.land_acts.specs.Mutations.Planning.{first_that_holds}
+use Rattle.land_acts.specs.Mutations.Numbering.{with_numbers_from}
+use Rattle.land_acts.specs.Mutations.Planning.{first_refusal_of}
 use Rattle.land_acts.specs.Mutations.Subdividing.{all_parts, has_parcel_in, origin_of, outlines_of, subdivision_change}
-use Rattle.land_acts.specs.Mutations.Transferring.{held_at}
+use Rattle.land_acts.specs.Mutations.Transferring.{right_at}
 use Rattle.land_acts.specs.Outcome.{change_of, refusals_of}
-use Rattle.land_acts.specs.RegisterAreas.{ApprovedRegistersKeepTheirArea, HaveTakenPlace, RegistrationsAloneAddArea, area_of_all, area_registered, outlines_asked, parcels_replaced}
-use Rattle.land_acts.specs.Registering.{parcel_of}
+use Rattle.land_acts.specs.RegisterAreas.{ApprovedRegistersKeepTheirArea, HaveReplaced, OnlyRegistrationsAddArea, total_doubled_area, area_registered, requested_outlines, parcels_replaced}
+use Rattle.land_acts.specs.Registering.{new_parcel_record}
 use Rattle.land_acts.specs.declared.mutations.refusal.Refusal.TheVariants.{NotLodged}
-use Rattle.land_acts.specs.declared.mutations.transfer.Held.{Held}
+use Rattle.land_acts.specs.declared.mutations.transfer.HeldRight.{HeldRight}
 use Rattle.land_core.proofs.SoundRegisters.{are_used, refers, used_bounds, used_from}
 use Rattle.land_core.specs.Changes.{after, no_change}
 use Rattle.land_core.specs.Contents.{is_well_formed_content}
@@ -73,12 +73,12 @@ stands_where test (Some p) passes = refl
 
 -- ---- consecutively numbered parcels
 
-numbers_above : (next first : ℕ) → next ≤ first → (ps : List ParcelRecord) → AllByRecursion (λ e. next ≤ e.0) (numbered first ps)
+numbers_above : (next first : ℕ) → next ≤ first → (ps : List ParcelRecord) → AllByRecursion (λ e. next ≤ e.0) (with_numbers_from first ps)
 numbers_above next first le [] = tt
 numbers_above next first le (p ∷ ps) = (le, numbers_above next (first + 1) (omega (arith, le)) ps)
 
 -- registered parcels have the area of their outlines
-area_numbered : (unit source first : ℕ) (ps : List NewParcel) → area_in (numbered first (map_list (parcel_of unit source) ps)) ≡ doubled_areas (map_list (λ p. p.outline) ps)
+area_numbered : (unit source first : ℕ) (ps : List NewParcel) → area_in (with_numbers_from first (map_list (new_parcel_record unit source) ps)) ≡ doubled_areas (map_list (λ p. p.outline) ps)
 area_numbered unit source first [] = refl
 area_numbered unit source first (p ∷ ps) = ap (λ n. doubled_area p.outline + n) (area_numbered unit source (first + 1) ps)
 
@@ -89,12 +89,12 @@ module _ (r : Register) (sound : IsSound r) where
   -- ---- the effect of an approval
 
   -- new parcels with the area of those that end have replaced them
-  taken_place : (change : Change) (outlines : List (List Place)) → IsReplacement r.parcels r.next change.put.parcels change.ended.parcels → outlines_put change ≡ outlines
+  taken_place : (change : Change) (outlines : List (List Place)) → IsReplacement r.parcels r.next change.put.parcels change.ended.parcels → new_outlines change ≡ outlines
       → doubled_areas (outlines_at r change.ended.parcels) ≡ doubled_areas outlines → Match (outlines_at r change.ended.parcels) outlines
-      → HaveTakenPlace r change.ended.parcels outlines change
+      → HaveReplaced r change.ended.parcels outlines change
   taken_place change outlines replacement outlined same ground =
       record {
-        area = cancel (area_of_all (after change r)) (area_of_all r) (doubled_areas (outlines_at r change.ended.parcels)) (area_in change.put.parcels) (same ∙ sym (ap doubled_areas outlined))
+        area = cancel (total_doubled_area (after change r)) (total_doubled_area r) (doubled_areas (outlines_at r change.ended.parcels)) (area_in change.put.parcels) (same ∙ sym (ap doubled_areas outlined))
             (area_changes r.parcels r.next change.put.parcels change.ended.parcels replacement);
         gone = λ n listed. (replacement.stood n listed, ended_gone r.parcels r.next change.put.parcels change.ended.parcels replacement n listed);
         outlined = outlined;
@@ -111,7 +111,7 @@ module _ (r : Register) (sound : IsSound r) where
   none_replaced = record { once = refl; above = tt; below = below; stood = λ n listed. absurd (false≢true listed) }
 
   -- so a change of other objects leaves the parcels unchanged
-  none_taken : (put : Put) (ended : Ended) (next : ℕ) → HaveTakenPlace r [] [] (record { put = record put { parcels = [] }; ended = record ended { parcels = [] }; next = next })
+  none_taken : (put : Put) (ended : Ended) (next : ℕ) → HaveReplaced r [] [] (record { put = record put { parcels = [] }; ended = record ended { parcels = [] }; next = next })
   none_taken put ended next = taken_place (record { put = record put { parcels = [] }; ended = record ended { parcels = [] }; next = next }) [] none_replaced refl refl none_match
 
   -- the parts of a subdivision, and the parcel that ends
@@ -129,7 +129,7 @@ module _ (r : Register) (sound : IsSound r) where
       stood n false other listed = absurd (false≢true listed)
 
   -- the parcel of a merger, and those that end
-  joined : (source : ℕ) (it : Merger) (stamp : Option ℤ) → is_well_formed_content (content.Merger it) ≡ true → first_that_holds (content_refusals r (content.Merger it) stamp) ≡ None
+  joined : (source : ℕ) (it : Merger) (stamp : Option ℤ) → is_well_formed_content (content.Merger it) ≡ true → first_refusal_of (content_refusals r (content.Merger it) stamp) ≡ None
       → IsReplacement r.parcels r.next (merger_change r source it).put.parcels it.parcels
   joined source it stamp formed none =
       let free = unrefused_merger r it stamp none in
@@ -137,15 +137,15 @@ module _ (r : Register) (sound : IsSound r) where
         once = (merger_names_once r source it sound formed free.parcels).parcels;
         above = (omega arith, tt);
         below = below;
-        stood = λ n listed. stands_where (λ p. is_named it p.unit) (map.get r.parcels n) (not-false _ (listed_fails (λ n. not (is_parcel_named r it n)) it.parcels n free.parcels listed));
+        stood = λ n listed. stands_where (λ p. is_unit_of_merger it p.unit) (map.get r.parcels n) (not-false _ (listed_fails (λ n. not (is_parcel_named r it n)) it.parcels n free.parcels listed));
       }
 
   -- approvals, by their content
-  content_taken : (number : ℕ) (m : MutationRecord) (c : Content) (stamp : ℤ) → is_well_formed_content c ≡ true → first_that_holds (content_refusals r c (Some stamp)) ≡ None
-      → HaveTakenPlace r (parcels_replaced c) (outlines_asked c) (with_state Approved number m (content_change r m.source c))
-  content_taken number m (content.Transfer it) stamp formed none = by_right (held_at r it.unit it.right)
+  content_taken : (number : ℕ) (m : MutationRecord) (c : Content) (stamp : ℤ) → is_well_formed_content c ≡ true → first_refusal_of (content_refusals r c (Some stamp)) ≡ None
+      → HaveReplaced r (parcels_replaced c) (requested_outlines c) (with_state Approved number m (content_change r m.source c))
+  content_taken number m (content.Transfer it) stamp formed none = by_right (right_at r it.unit it.right)
     where
-      by_right : (o : Option Held) → HaveTakenPlace r [] [] (with_state Approved number m (transfer_change r m.source it o))
+      by_right : (o : Option HeldRight) → HaveReplaced r [] [] (with_state Approved number m (transfer_change r m.source it o))
       by_right None =
           let change = with_state Approved number m (transfer_change r m.source it None) in
           none_taken change.put change.ended change.next
@@ -173,54 +173,54 @@ module _ (r : Register) (sound : IsSound r) where
   -- ---- the effect of any act
 
   -- a registration adds the areas of its parcels, and ends none
-  registered : (it : NewUnit) (caller : Caller) (stamp : ℤ) → area_of_all (after (change_of r caller (act.Register it) stamp) r) ≡ area_of_all r + area_registered (act.Register it)
+  registered : (it : NewUnit) (caller : Caller) (stamp : ℤ) → total_doubled_area (after (change_of r caller (act.Register it) stamp) r) ≡ total_doubled_area r + area_registered (act.Register it)
   registered it caller stamp =
-      let new = numbered (r.next + 2) (map_list (parcel_of (r.next + 1) r.next) it.parcels) in
-      nothing_more (area_of_all (after (change_of r caller (act.Register it) stamp) r))
+      let new = with_numbers_from (r.next + 2) (map_list (new_parcel_record (r.next + 1) r.next) it.parcels) in
+      nothing_more (total_doubled_area (after (change_of r caller (act.Register it) stamp) r))
       ∙ area_changes r.parcels r.next new [] (record {
-        once = numbered_once (r.next + 2) (map_list (parcel_of (r.next + 1) r.next) it.parcels);
-        above = numbers_above r.next (r.next + 2) (omega arith) (map_list (parcel_of (r.next + 1) r.next) it.parcels);
+        once = numbered_once (r.next + 2) (map_list (new_parcel_record (r.next + 1) r.next) it.parcels);
+        above = numbers_above r.next (r.next + 2) (omega arith) (map_list (new_parcel_record (r.next + 1) r.next) it.parcels);
         below = below;
         stood = λ n listed. absurd (false≢true listed);
       })
-      ∙ ap (λ n. area_of_all r + n) (area_numbered (r.next + 1) r.next (r.next + 2) it.parcels)
+      ∙ ap (λ n. total_doubled_area r + n) (area_numbered (r.next + 1) r.next (r.next + 2) it.parcels)
 
-  adds : (caller : Caller) (a : Act) (stamp : ℤ) → first_that_holds (refusals_of r caller a (Some stamp)) ≡ None → area_of_all (after (change_of r caller a stamp) r) ≡ area_of_all r + area_registered a
-  adds caller (act.Enrol it) stamp none = nothing_more (area_of_all r)
-  adds caller (act.Group it) stamp none = nothing_more (area_of_all r)
-  adds caller (act.Regroup it) stamp none = nothing_more (area_of_all r)
-  adds caller (act.Grant it) stamp none = nothing_more (area_of_all r)
-  adds caller (act.Revoke it) stamp none = nothing_more (area_of_all r)
-  adds caller (act.Mandate it) stamp none = nothing_more (area_of_all r)
-  adds caller (act.Withdraw it) stamp none = nothing_more (area_of_all r)
+  adds : (caller : Caller) (a : Act) (stamp : ℤ) → first_refusal_of (refusals_of r caller a (Some stamp)) ≡ None → total_doubled_area (after (change_of r caller a stamp) r) ≡ total_doubled_area r + area_registered a
+  adds caller (act.Enrol it) stamp none = nothing_more (total_doubled_area r)
+  adds caller (act.Group it) stamp none = nothing_more (total_doubled_area r)
+  adds caller (act.Regroup it) stamp none = nothing_more (total_doubled_area r)
+  adds caller (act.Grant it) stamp none = nothing_more (total_doubled_area r)
+  adds caller (act.Revoke it) stamp none = nothing_more (total_doubled_area r)
+  adds caller (act.Mandate it) stamp none = nothing_more (total_doubled_area r)
+  adds caller (act.Withdraw it) stamp none = nothing_more (total_doubled_area r)
   adds caller (act.Register it) stamp none = registered it caller stamp
-  adds caller (act.Burden it) stamp none = nothing_more (area_of_all r)
-  adds caller (act.Lift it) stamp none = nothing_more (area_of_all r)
-  adds caller (act.Lodge it) stamp none = nothing_more (area_of_all r)
+  adds caller (act.Burden it) stamp none = nothing_more (total_doubled_area r)
+  adds caller (act.Lift it) stamp none = nothing_more (total_doubled_area r)
+  adds caller (act.Lodge it) stamp none = nothing_more (total_doubled_area r)
   adds caller (act.Approve it) stamp none =
       found (map.get r.mutations it.mutation) refl
       (first_none NotLodged (not (is_lodged r it.mutation)) (option_map_or (λ m. content_refusals r m.content (Some stamp)) (map.get r.mutations it.mutation) []) none).rest
     where
-      found : (o : Option MutationRecord) → map.get r.mutations it.mutation ≡ o → first_that_holds (option_map_or (λ m. content_refusals r m.content (Some stamp)) o []) ≡ None
-          → area_of_all (after (option_map_or (λ m. with_state Approved it.mutation m (content_change r m.source m.content)) o (no_change r.next)) r) ≡ area_of_all r + 0
-      found None e h = nothing_more (area_of_all r)
-      found (Some m) e h = (content_taken it.mutation m m.content stamp (tight_mutation r sound it.mutation m e).formed h).area ∙ nothing_more (area_of_all r)
+      found : (o : Option MutationRecord) → map.get r.mutations it.mutation ≡ o → first_refusal_of (option_map_or (λ m. content_refusals r m.content (Some stamp)) o []) ≡ None
+          → total_doubled_area (after (option_map_or (λ m. with_state Approved it.mutation m (content_change r m.source m.content)) o (no_change r.next)) r) ≡ total_doubled_area r + 0
+      found None e h = nothing_more (total_doubled_area r)
+      found (Some m) e h = (content_taken it.mutation m m.content stamp (tight_mutation r sound it.mutation m e).formed h).area ∙ nothing_more (total_doubled_area r)
   adds caller (act.Refuse it) stamp none = found (map.get r.mutations it.mutation)
     where
       found : (o : Option MutationRecord)
-          → area_of_all (after (option_map_or (λ m. with_state Refused it.mutation m (no_change r.next)) o (no_change r.next)) r) ≡ area_of_all r + 0
-      found None = nothing_more (area_of_all r)
-      found (Some m) = nothing_more (area_of_all r)
+          → total_doubled_area (after (option_map_or (λ m. with_state Refused it.mutation m (no_change r.next)) o (no_change r.next)) r) ≡ total_doubled_area r + 0
+      found None = nothing_more (total_doubled_area r)
+      found (Some m) = nothing_more (total_doubled_area r)
 
 -- ---- the laws
 
 pub approved_registers_keep_their_area : ApprovedRegistersKeepTheirArea
 approved_registers_keep_their_area r caller decision m stamp change done sound there outcome =
-    let approval = approved r caller decision m m.content stamp change done there refl outcome in
-    subst (λ (made : Change). HaveTakenPlace r (parcels_replaced m.content) (outlines_asked m.content) made) approval.same
+    let approval = approval_plan r caller decision m m.content stamp change done there refl outcome in
+    subst (λ (made : Change). HaveReplaced r (parcels_replaced m.content) (requested_outlines m.content) made) approval.same
     (content_taken r sound decision.mutation m m.content stamp (tight_mutation r sound decision.mutation m there).formed approval.unrefused)
 
-pub registrations_alone_add_area : RegistrationsAloneAddArea
-registrations_alone_add_area r change stamp sound h =
-    let plan = planned r h.caller h.act stamp change h.done h.outcome in
-    subst (λ (made : Change). area_of_all (after made r) ≡ area_of_all r + area_registered h.act) plan.same (adds r sound h.caller h.act stamp plan.none_holds)
+pub only_registrations_add_area : OnlyRegistrationsAddArea
+only_registrations_add_area r change stamp sound h =
+    let plan = plan_of r h.caller h.act stamp change h.done h.outcome in
+    subst (λ (made : Change). total_doubled_area (after made r) ≡ total_doubled_area r + area_registered h.act) plan.same (adds r sound h.caller h.act stamp plan.none_holds)

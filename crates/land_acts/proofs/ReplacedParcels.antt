@@ -18,7 +18,7 @@ use Rattle.land_acts.proofs.MergedEntries.{get-without}
 use Rattle.land_acts.proofs.Numbers.{one_number, tied_number, turned_number}
 use Rattle.land_acts.specs.Mutations.Areas.{doubled_areas}
 use Rattle.land_core.proofs.FiniteMaps.{none_is_not_some}
-use Rattle.land_core.specs.Entries.{are_distinct, has, updated, with_entries, without}
+use Rattle.land_core.specs.Entries.{are_distinct, has, with_changes, with_entries, without}
 use Rattle.land_core.specs.Mergers.{lists_number}
 use Rattle.land_core.specs.declared.parcel.ParcelRecord.{ParcelRecord}
 use Rattle.land_shape.specs.Outline.{doubled_area}
@@ -220,16 +220,16 @@ module _ (m : Parcels) (next : ℕ) (new : List (ℕ × ParcelRecord)) (ended : 
       other k above = grind (arith, nat_tests)
 
   -- written parcels add their areas, and parcels that end subtract theirs
-  pub area_changes : area (updated m new ended) + doubled_areas (outlines_in m ended) ≡ area m + area_in new
+  pub area_changes : area (with_changes m new ended) + doubled_areas (outlines_in m ended) ≡ area m + area_in new
   area_changes =
-      balance (area (updated m new ended)) (area m) (area_in new) (doubled_areas (outlines_in m ended)) (area (without m ended))
+      balance (area (with_changes m new ended)) (area m) (area_in new) (doubled_areas (outlines_in m ended)) (area (without m ended))
       (entries_add (without m ended) new (once_before (keys new) ended h.once) (all_free new h.above))
       (without_takes m ended (once_after (keys new) ended h.once))
     where
       balance : (then before put gone left : ℕ) → then ≡ put + left → before ≡ gone + left → then + gone ≡ before + put
       balance then before put gone left is was = omega (arith, is, was)
 
-  pub ended_gone : (n : ℕ) → lists_number ended n ≡ true → map.get (updated m new ended) n ≡ None
+  pub ended_gone : (n : ℕ) → lists_number ended n ≡ true → map.get (with_changes m new ended) n ≡ None
   ended_gone n listed =
       get-others (without m ended) new n (not_new n (in_use (map.get m n) refl (h.stood n listed)) new h.above)
       ∙ get-without m ended n
@@ -239,13 +239,13 @@ module _ (m : Parcels) (next : ℕ) (new : List (ℕ × ParcelRecord)) (ended : 
       in_use None e there = absurd (false≢true there)
       in_use (Some p) e there = h.below n p e
 
-  pub new_stand : AllByRecursion (λ e. (next ≤ e.0) × (map.get (updated m new ended) e.0 ≡ Some e.1)) new
+  pub new_stand : AllByRecursion (λ e. (next ≤ e.0) × (map.get (with_changes m new ended) e.0 ≡ Some e.1)) new
   new_stand = both new h.above (entries_stand (without m ended) new (once_before (keys new) ended h.once))
     where
-      both : (es : List (ℕ × ParcelRecord)) → AllByRecursion (λ e. next ≤ e.0) es → AllByRecursion (λ e. map.get (updated m new ended) e.0 ≡ Some e.1) es
-          → AllByRecursion (λ e. (next ≤ e.0) × (map.get (updated m new ended) e.0 ≡ Some e.1)) es
+      both : (es : List (ℕ × ParcelRecord)) → AllByRecursion (λ e. next ≤ e.0) es → AllByRecursion (λ e. map.get (with_changes m new ended) e.0 ≡ Some e.1) es
+          → AllByRecursion (λ e. (next ≤ e.0) × (map.get (with_changes m new ended) e.0 ≡ Some e.1)) es
       both [] above stand = tt
       both (e ∷ es) above stand = ((above.0, stand.0), both es above.1 stand.1)
 
-  pub others_stay : (n : ℕ) → lists_number ended n ≡ false → lists_number (keys new) n ≡ false → map.get (updated m new ended) n ≡ map.get m n
+  pub others_stay : (n : ℕ) → lists_number ended n ≡ false → lists_number (keys new) n ≡ false → map.get (with_changes m new ended) n ≡ map.get m n
   others_stay n left apart = get-others (without m ended) new n apart ∙ get-without m ended n ∙ ap (λ b. cond b None (map.get m n)) left

@@ -6,7 +6,7 @@ use Rattle.std.specs.FinMap as map
 use Rattle.std.proofs.lemmas.Bool.{false≢true, and_parts, not-false}
 use Rattle.std.proofs.lemmas.Cmp.{nat_eq_equiv}
 use Rattle.land_acts.specs.Granting.{grant_change}
-use Rattle.land_acts.specs.Revoking.{has_administrator_beside, revoke_change}
+use Rattle.land_acts.specs.Revoking.{has_other_administrator, revoke_change}
 use Rattle.land_core.proofs.FiniteMaps.{is_equal, none_is_not_some}
 use Rattle.land_core.proofs.FiniteSets.{grants_total, exact_grants}
 use Rattle.land_core.proofs.Reflection.{Passes, some_passes, list_any-map}
@@ -65,7 +65,7 @@ granted_is_sound r it sound single Administrator =
 
 -- ---- revoking
 
-beside_from : (r : Register) (n : ℕ) → has_administrator_beside r n ≡ true → Passes (λ (g : Grant) (u : Unit {0}). is_role g.role StateAdministrator && not (nat_eq g.party n)) r.roles
+beside_from : (r : Register) (n : ℕ) → has_other_administrator r n ≡ true → Passes (λ (g : Grant) (u : Unit {0}). is_role g.role StateAdministrator && not (nat_eq g.party n)) r.roles
 unfolding grants_in
 beside_from r n h =
     some_passes grants_total exact_grants (λ g u. is_role g.role StateAdministrator && not (nat_eq g.party n)) r.roles
@@ -87,9 +87,9 @@ pub record IsBeside (r : Register) (it : Grant) : Type 0 where
   pub passes : is_role key.role StateAdministrator ≡ true
   pub other : key ≡ it → ⊥
 
-one_beside : (r : Register) (it : Grant) → IsSound r → (is_role it.role StateAdministrator && not (has_administrator_beside r it.party)) ≡ false → IsBeside r it
+one_beside : (r : Register) (it : Grant) → IsSound r → (is_role it.role StateAdministrator && not (has_other_administrator r it.party)) ≡ false → IsBeside r it
 one_beside r it sound last =
-    elim (is_role it.role StateAdministrator) as (λ b. is_role it.role StateAdministrator ≡ b → (b && not (has_administrator_beside r it.party)) ≡ false → IsBeside r it) [
+    elim (is_role it.role StateAdministrator) as (λ b. is_role it.role StateAdministrator ≡ b → (b && not (has_other_administrator r it.party)) ≡ false → IsBeside r it) [
       | true ↦ λ role last.
           let one = beside_from r it.party (not-false _ last) in
           let parts = and_parts _ _ one.passes in
@@ -109,7 +109,7 @@ one_beside r it sound last =
           }
     ] refl last
 
-pub revoked_is_sound : (r : Register) (it : Grant) → IsSound r → (is_role it.role StateAdministrator && not (has_administrator_beside r it.party)) ≡ false
+pub revoked_is_sound : (r : Register) (it : Grant) → IsSound r → (is_role it.role StateAdministrator && not (has_other_administrator r it.party)) ≡ false
     → IsSound (after (revoke_change r it) r)
 revoked_is_sound r it sound last Memory = refl
 revoked_is_sound r it sound last Reused = sound Reused

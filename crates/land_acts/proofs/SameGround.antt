@@ -9,7 +9,7 @@ use Rattle.land_acts.specs.Mutations.Areas.{doubled_areas}
 use Rattle.land_acts.specs.Mutations.Grounds.{are_same_ground}
 use Rattle.land_shape.proofs.MatchingLaw.{matching_law}
 use Rattle.land_shape.proofs.MatchingTest.{test_law}
-use Rattle.land_shape.specs.Matching.{IsCounterclockwise, Match, do_match, runs_counterclockwise}
+use Rattle.land_shape.specs.Matching.{IsCounterclockwise, Match, passes_matching_test, runs_counterclockwise}
 use Rattle.land_shape.specs.Outline.{doubled_area}
 use Rattle.land_shape.specs.Place.{Place}
 
@@ -28,7 +28,7 @@ area_sums (ring ∷ rings) = ap (λ n. doubled_area ring + n) (area_sums rings) 
 -- the same ground has the same area
 pub same_area : (old new : List (List Place)) → are_same_ground old new ≡ true → doubled_areas old ≡ doubled_areas new
 same_area old new same =
-    let parts = and_parts (list_all runs_counterclockwise (old ++ new)) (do_match old new) same in
+    let parts = and_parts (list_all runs_counterclockwise (old ++ new)) (passes_matching_test old new) same in
     let left = and_parts (list_all runs_counterclockwise old) (list_all runs_counterclockwise new) (sym (list_all-append runs_counterclockwise old new) ∙ parts.0) in
     area_sums old
     ∙ matching_law old new (all_left old left.0) (all_left new left.1) ((test_law old new).0 parts.1)
@@ -36,7 +36,7 @@ same_area old new same =
 
 -- lists with the same ground match
 pub same_match : (old new : List (List Place)) → are_same_ground old new ≡ true → Match old new
-same_match old new same = (test_law old new).0 (and_parts (list_all runs_counterclockwise (old ++ new)) (do_match old new) same).1
+same_match old new same = (test_law old new).0 (and_parts (list_all runs_counterclockwise (old ++ new)) (passes_matching_test old new) same).1
 
 -- two decisions of one fact are equal
 one_test : {P : Type 0} (b t : Bool) → (IsTrue b ↔ P) → (IsTrue t ↔ P) → b ≡ t
@@ -49,4 +49,4 @@ pub told_by_matching : (b : Bool) (old new : List (List Place)) → list_all run
     → (IsTrue b ↔ Match old new) → b ≡ are_same_ground old new
 told_by_matching b old new h k tells =
     let left : list_all runs_counterclockwise (old ++ new) ≡ true = list_all-append runs_counterclockwise old new ∙ ap (λ l. l && list_all runs_counterclockwise new) h ∙ k in
-    one_test b (do_match old new) tells (test_law old new) ∙ sym (ap (λ l. l && do_match old new) left)
+    one_test b (passes_matching_test old new) tells (test_law old new) ∙ sym (ap (λ l. l && passes_matching_test old new) left)

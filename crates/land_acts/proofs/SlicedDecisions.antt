@@ -15,15 +15,15 @@ use Rattle.land_acts.proofs.SlicedWords.{holds_same, stands_same, unit_same}
 use Rattle.land_acts.proofs.SubdivisionSlices.{AgreeOnUnits, subdivision_change_agrees, subdivision_made_agrees, subdivision_refusal_agrees}
 use Rattle.land_acts.proofs.TransferSlices.{transfer_agrees}
 use Rattle.land_acts.specs.Deciding.{with_state}
-use Rattle.land_acts.specs.Mutations.Asking.{content_change, content_made, content_refusals}
-use Rattle.land_acts.specs.Mutations.Merging.{is_named}
-use Rattle.land_acts.specs.Mutations.Planning.{done_on, first_that_holds}
-use Rattle.land_acts.specs.Outcome.{outcome_of, refused_else, stamped}
-use Rattle.land_acts.specs.Slices.{content_names_party, looks_at_mutation, looks_at_rrr, names_party, names_rrr, names_unit, slice_of}
+use Rattle.land_acts.specs.Mutations.ByContent.{content_change, content_made, content_refusals}
+use Rattle.land_acts.specs.Mutations.Merging.{is_unit_of_merger}
+use Rattle.land_acts.specs.Mutations.Planning.{done_on, first_refusal_of}
+use Rattle.land_acts.specs.Outcome.{outcome_of, refusal_or, plan_with_stamp}
+use Rattle.land_acts.specs.Slices.{content_names_party, reads_mutation, reads_rrr, names_party, names_rrr, names_unit, slice_of}
 use Rattle.land_acts.specs.declared.mutations.refusal.Planned.{Planned}
 use Rattle.land_acts.specs.declared.mutations.refusal.Refusal.{Refusal}
 use Rattle.land_acts.specs.declared.mutations.refusal.Refusal.TheVariants.{ClockOut, NotLodged}
-use Rattle.land_core.proofs.Reflection.{get-only}
+use Rattle.land_core.proofs.Reflection.{get-entries_where}
 use Rattle.land_core.specs.Changes.{no_change}
 use Rattle.land_core.specs.Contents.{names_unit as content_names_unit}
 use Rattle.land_core.specs.Mutations.{is_undecided}
@@ -39,8 +39,8 @@ use Rattle.land_core.specs.declared.register.Register.{Register}
 use Rattle.land_core.specs.declared.role.Role.TheVariants.{Bank}
 
 -- the mutation that is decided is in the slice
-mutation_same : (r : Register) (caller : Caller) (a : Act) (n : ℕ) → ((m : MutationRecord) → looks_at_mutation caller a n m ≡ true) → map.get (slice_of r caller a).mutations n ≡ map.get r.mutations n
-mutation_same r caller a n looks = get-only nat_cmp_total nat_cmp-IsAntisymmetric (λ n m. looks_at_mutation caller a n m) r.mutations n looks
+mutation_same : (r : Register) (caller : Caller) (a : Act) (n : ℕ) → ((m : MutationRecord) → reads_mutation caller a n m ≡ true) → map.get (slice_of r caller a).mutations n ≡ map.get r.mutations n
+mutation_same r caller a n looks = get-entries_where nat_cmp_total nat_cmp-IsAntisymmetric (λ n m. reads_mutation caller a n m) r.mutations n looks
 
 -- ---- the content, if the mutation exists
 
@@ -59,7 +59,7 @@ module _ (r : Register) (caller : Caller) (it : Decision) (m : MutationRecord) (
 
   agree : (unit : ℕ) → content_names_unit unit m.content ≡ true → AgreeOnUnit s r unit
   agree unit names = record {
-    kept = λ n e. looks_at_rrr r a n e;
+    kept = λ n e. reads_rrr r a n e;
     entries = refl;
     keeps = λ n e in_unit. or_left (names_unit r a e.unit) (names_rrr r a n)
         (subst (λ (u : ℕ). names_unit r a u ≡ true) (sym (one_number e.unit unit (tied_number e.unit unit ∙ in_unit))) (unit_named unit names));
@@ -68,7 +68,7 @@ module _ (r : Register) (caller : Caller) (it : Decision) (m : MutationRecord) (
   }
 
   checked_same : (unit : ℕ) → content_names_unit unit m.content ≡ true → map.get s.units unit ≡ map.get r.units unit
-  checked_same unit names = get-only nat_cmp_total nat_cmp-IsAntisymmetric (λ k u. names_unit r a k) r.units unit (λ v. unit_named unit names)
+  checked_same unit names = get-entries_where nat_cmp_total nat_cmp-IsAntisymmetric (λ k u. names_unit r a k) r.units unit (λ v. unit_named unit names)
 
   agree_on_units : AgreeOnUnits s r (λ n. content_names_unit n m.content)
   agree_on_units = record {
@@ -76,14 +76,14 @@ module _ (r : Register) (caller : Caller) (it : Decision) (m : MutationRecord) (
     kept_parcels = λ n p. names_unit r a p.unit;
     parcels = refl;
     keeps_parcels = λ n p names. unit_named p.unit names;
-    kept_entries = λ n e. looks_at_rrr r a n e;
+    kept_entries = λ n e. reads_rrr r a n e;
     entries = refl;
     keeps_entries = λ n e names. or_left (names_unit r a e.unit) (names_rrr r a n) (unit_named e.unit names);
     next = refl;
   }
 
   record IsSameContent (c : Content) (stamp : Option ℤ) : Type 0 where
-    refusal : first_that_holds (content_refusals s c stamp) ≡ first_that_holds (content_refusals r c stamp)
+    refusal : first_refusal_of (content_refusals s c stamp) ≡ first_refusal_of (content_refusals r c stamp)
     change : content_change s m.source c ≡ content_change r m.source c
     made : content_made s c ≡ content_made r c
 
@@ -92,7 +92,7 @@ module _ (r : Register) (caller : Caller) (it : Decision) (m : MutationRecord) (
       let unit : content_names_unit it.unit m.content ≡ true = ap (content_names_unit it.unit) is ∙ nat_eq_equiv.refl it.unit in
       let party : content_names_party it.receiver m.content ≡ true = ap (content_names_party it.receiver) is ∙ nat_eq_equiv.refl it.receiver in
       let same = transfer_agrees s r it (agree it.unit unit) (stands_same r caller a it.receiver (party_named it.receiver party)) (checked_same it.unit unit) in
-      record { refusal = ap first_that_holds (same.refusals stamp); change = same.change m.source; made = same.made }
+      record { refusal = ap first_refusal_of (same.refusals stamp); change = same.change m.source; made = same.made }
   content_same (content.Subdivision it) is stamp =
       let unit : content_names_unit it.unit m.content ≡ true = ap (content_names_unit it.unit) is ∙ nat_eq_equiv.refl it.unit in
       let named : ℕ → Bool = λ n. content_names_unit n m.content in
@@ -102,7 +102,7 @@ module _ (r : Register) (caller : Caller) (it : Decision) (m : MutationRecord) (
         made = subdivision_made_agrees s r it named agree_on_units unit;
       }
   content_same (content.Merger it) is stamp =
-      let names : (n : ℕ) → is_named it n ≡ true → content_names_unit n m.content ≡ true = λ n name. ap (content_names_unit n) is ∙ named_in_content it n name in
+      let names : (n : ℕ) → is_unit_of_merger it n ≡ true → content_names_unit n m.content ≡ true = λ n name. ap (content_names_unit n) is ∙ named_in_content it n name in
       let named : ℕ → Bool = λ n. content_names_unit n m.content in
       record {
         refusal = merger_refusal_agrees s r it named agree_on_units names stamp;
@@ -113,7 +113,7 @@ module _ (r : Register) (caller : Caller) (it : Decision) (m : MutationRecord) (
       let unit : content_names_unit it.unit m.content ≡ true = ap (content_names_unit it.unit) is ∙ nat_eq_equiv.refl it.unit in
       let party = party_named it.creditor (ap (content_names_party it.creditor) is ∙ nat_eq_equiv.refl it.creditor) in
       record {
-        refusal = ap first_that_holds (mortgage_refusals_agree s r it (agree it.unit unit) (stands_same r caller a it.creditor party) (holds_same r caller a it.creditor Bank party) stamp);
+        refusal = ap first_refusal_of (mortgage_refusals_agree s r it (agree it.unit unit) (stands_same r caller a it.creditor party) (holds_same r caller a it.creditor Bank party) stamp);
         change = mortgage_change_agrees s r it (agree it.unit unit) m.source;
         made = refl;
       }
@@ -130,9 +130,9 @@ module _ (r : Register) (caller : Caller) (it : Decision) (m : MutationRecord) (
 -- the outcome of an approval and of a refusal, from the mutation at the number
 abbrev approved_by : Register → ℕ → Option ℤ → Option MutationRecord → Result Planned Refusal
 approved_by r n stamp o =
-    refused_else
-    (first_that_holds ((NotLodged, not (option_map_or is_undecided o false)) ∷ option_map_or (λ m. content_refusals r m.content stamp) o []))
-    (stamped (λ at. option_map_or (λ m. with_state Approved n m (content_change r m.source m.content)) o (no_change r.next))
+    refusal_or
+    (first_refusal_of ((NotLodged, not (option_map_or is_undecided o false)) ∷ option_map_or (λ m. content_refusals r m.content stamp) o []))
+    (plan_with_stamp (λ at. option_map_or (λ m. with_state Approved n m (content_change r m.source m.content)) o (no_change r.next))
     (λ at. record { number = n; made = option_map_or (λ m. content_made r m.content) o []; stamp = at }) stamp)
 
 -- the slice for an approval
@@ -148,18 +148,18 @@ approve_same r caller it stamp =
     by_case None e = refl
     by_case (Some m) e =
         let same = content_same r caller it m e m.content refl stamp in
-        let decided : Bool = not (is_undecided m) in
-        ap (λ refusal. refused_else (cond decided (Some NotLodged) refusal) (stamped (λ at. with_state Approved it.mutation m (content_change (slice_for r caller it) m.source m.content))
+        let decided_mutation : Bool = not (is_undecided m) in
+        ap (λ refusal. refusal_or (cond decided_mutation (Some NotLodged) refusal) (plan_with_stamp (λ at. with_state Approved it.mutation m (content_change (slice_for r caller it) m.source m.content))
         (λ at. record { number = it.mutation; made = content_made (slice_for r caller it) m.content; stamp = at }) stamp)) same.refusal
-        ∙ ap (λ change. refused_else (cond decided (Some NotLodged) (first_that_holds (content_refusals r m.content stamp))) (stamped (λ at. with_state Approved it.mutation m change)
+        ∙ ap (λ change. refusal_or (cond decided_mutation (Some NotLodged) (first_refusal_of (content_refusals r m.content stamp))) (plan_with_stamp (λ at. with_state Approved it.mutation m change)
         (λ at. record { number = it.mutation; made = content_made (slice_for r caller it) m.content; stamp = at }) stamp)) same.change
-        ∙ ap (λ made. refused_else (cond decided (Some NotLodged) (first_that_holds (content_refusals r m.content stamp)))
-        (stamped (λ at. with_state Approved it.mutation m (content_change r m.source m.content)) (λ at. record { number = it.mutation; made = made; stamp = at }) stamp)) same.made
+        ∙ ap (λ made. refusal_or (cond decided_mutation (Some NotLodged) (first_refusal_of (content_refusals r m.content stamp)))
+        (plan_with_stamp (λ at. with_state Approved it.mutation m (content_change r m.source m.content)) (λ at. record { number = it.mutation; made = made; stamp = at }) stamp)) same.made
 
 abbrev refused_by : Register → ℕ → Option ℤ → Option MutationRecord → Result Planned Refusal
 refused_by r n stamp o =
-    refused_else (first_that_holds ((NotLodged, not (option_map_or is_undecided o false)) ∷ (ClockOut, is_none stamp) ∷ []))
-    (stamped (λ at. option_map_or (λ m. with_state Refused n m (no_change r.next)) o (no_change r.next)) (λ at. done_on n at) stamp)
+    refusal_or (first_refusal_of ((NotLodged, not (option_map_or is_undecided o false)) ∷ (ClockOut, is_none stamp) ∷ []))
+    (plan_with_stamp (λ at. option_map_or (λ m. with_state Refused n m (no_change r.next)) o (no_change r.next)) (λ at. done_on n at) stamp)
 
 pub refuse_same : (r : Register) (caller : Caller) (it : Decision) (stamp : Option ℤ) → outcome_of (slice_of r caller (act.Refuse it)) caller (act.Refuse it) stamp ≡ outcome_of r caller (act.Refuse it) stamp
 refuse_same r caller it stamp =

@@ -8,9 +8,9 @@ use Rattle.std.specs.Cmp.{nat_cmp_total}
 use Rattle.std.specs.FinMap as map
 use Rattle.std.specs.FinMap.{nat_cmp-IsAntisymmetric}
 use Rattle.std.proofs.lemmas.Cmp.{nat_eq_equiv}
-use Rattle.land_acts.specs.Lodging.{has_lodged_other, is_same_lodging, lodge_repeat, lodged_under, lodged_told, repeat_of}
-use Rattle.land_acts.specs.Slices.{looks_at_source, slice_of}
-use Rattle.land_core.proofs.Reflection.{entries-only, get-only}
+use Rattle.land_acts.specs.Lodging.{has_lodged_other, is_same_lodging, lodge_repeat, mutation_with_reference, receipt_of_lodging, repeat_of}
+use Rattle.land_acts.specs.Slices.{reads_source, slice_of}
+use Rattle.land_core.proofs.Reflection.{entries-entries_where, get-entries_where}
 use Rattle.land_core.specs.Contents.{is_same_content}
 use Rattle.land_core.specs.Mutations.{is_lodged_as}
 use Rattle.land_core.specs.declared.act.Act.TheVariants as act
@@ -47,33 +47,33 @@ module _ (r : Register) (caller : Caller) (it : Lodging) where
   abbrev slice : Register
   slice = slice_of r caller (act.Lodge it)
 
-  under_same : lodged_under slice caller.party it.reference ≡ lodged_under r caller.party it.reference
+  under_same : mutation_with_reference slice caller.party it.reference ≡ mutation_with_reference r caller.party it.reference
   under_same =
-      ap (find (λ e. is_lodged_as caller.party it.reference e.1)) (entries-only nat_cmp_total nat_cmp-IsAntisymmetric (λ n m. is_lodged_as caller.party it.reference m) r.mutations)
+      ap (find (λ e. is_lodged_as caller.party it.reference e.1)) (entries-entries_where nat_cmp_total nat_cmp-IsAntisymmetric (λ n m. is_lodged_as caller.party it.reference m) r.mutations)
       ∙ find_kept (λ e. is_lodged_as caller.party it.reference e.1) (map.entries r.mutations)
 
   -- the source of a found mutation is in the slice
-  looked_at : (e : ℕ × MutationRecord) → lodged_under r caller.party it.reference ≡ Some e → looks_at_source r caller (act.Lodge it) e.1.source ≡ true
+  looked_at : (e : ℕ × MutationRecord) → mutation_with_reference r caller.party it.reference ≡ Some e → reads_source r caller (act.Lodge it) e.1.source ≡ true
   looked_at e is =
-      ap (list_any (λ f. nat_eq f.1.source e.1.source)) (entries-only nat_cmp_total nat_cmp-IsAntisymmetric (λ n m. is_lodged_as caller.party it.reference m) r.mutations)
+      ap (list_any (λ f. nat_eq f.1.source e.1.source)) (entries-entries_where nat_cmp_total nat_cmp-IsAntisymmetric (λ n m. is_lodged_as caller.party it.reference m) r.mutations)
       ∙ found_among_kept (λ f. is_lodged_as caller.party it.reference f.1) (λ f. nat_eq f.1.source e.1.source) (map.entries r.mutations) e is (nat_eq_equiv.refl e.1.source)
 
-  title_same : (e : ℕ × MutationRecord) → lodged_under r caller.party it.reference ≡ Some e → is_same_lodging slice it e.1 ≡ is_same_lodging r it e.1
+  title_same : (e : ℕ × MutationRecord) → mutation_with_reference r caller.party it.reference ≡ Some e → is_same_lodging slice it e.1 ≡ is_same_lodging r it e.1
   title_same e is =
       ap (λ o. option_map_or (λ s. bytes_eq s.title it.document) o false && is_same_content e.1.content it.content)
-      (get-only nat_cmp_total nat_cmp-IsAntisymmetric (λ n s. looks_at_source r caller (act.Lodge it) n) r.sources e.1.source (λ s. looked_at e is))
+      (get-entries_where nat_cmp_total nat_cmp-IsAntisymmetric (λ n s. reads_source r caller (act.Lodge it) n) r.sources e.1.source (λ s. looked_at e is))
 
   pub repeat_same : lodge_repeat slice caller it ≡ lodge_repeat r caller it
-  repeat_same = ap (repeat_of slice it) under_same ∙ by_case (lodged_under r caller.party it.reference) refl
+  repeat_same = ap (repeat_of slice it) under_same ∙ by_case (mutation_with_reference r caller.party it.reference) refl
     where
-      by_case : (o : Option (ℕ × MutationRecord)) → lodged_under r caller.party it.reference ≡ o → repeat_of slice it o ≡ repeat_of r it o
+      by_case : (o : Option (ℕ × MutationRecord)) → mutation_with_reference r caller.party it.reference ≡ o → repeat_of slice it o ≡ repeat_of r it o
       by_case None e = refl
-      by_case (Some e) is = ap (λ b. cond b (Some (lodged_told e)) None) (title_same e is)
+      by_case (Some e) is = ap (λ b. cond b (Some (receipt_of_lodging e)) None) (title_same e is)
 
   pub other_same : has_lodged_other slice caller it ≡ has_lodged_other r caller it
-  other_same = ap (λ o. option_map_or (λ e. not (is_same_lodging slice it e.1)) o false) under_same ∙ by_case (lodged_under r caller.party it.reference) refl
+  other_same = ap (λ o. option_map_or (λ e. not (is_same_lodging slice it e.1)) o false) under_same ∙ by_case (mutation_with_reference r caller.party it.reference) refl
     where
-      by_case : (o : Option (ℕ × MutationRecord)) → lodged_under r caller.party it.reference ≡ o
+      by_case : (o : Option (ℕ × MutationRecord)) → mutation_with_reference r caller.party it.reference ≡ o
           → option_map_or (λ e. not (is_same_lodging slice it e.1)) o false ≡ option_map_or (λ e. not (is_same_lodging r it e.1)) o false
       by_case None e = refl
       by_case (Some e) is = ap not (title_same e is)

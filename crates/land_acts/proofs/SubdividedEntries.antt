@@ -11,8 +11,8 @@ use Rattle.std.proofs.lemmas.List.Folds.{list_any-append}
 use Rattle.std.proofs.lemmas.Bool.{or_parts}
 use Rattle.std.proofs.lemmas.Cmp.{nat_eq_equiv}
 use Rattle.land_acts.proofs.Numbers.{one_number, tied_number}
-use Rattle.land_acts.specs.Mutations.Numbering.{numbered}
-use Rattle.land_acts.specs.Mutations.Subdividing.{entries_of, in_unit}
+use Rattle.land_acts.specs.Mutations.Numbering.{with_numbers_from}
+use Rattle.land_acts.specs.Mutations.Subdividing.{list_entries_of, in_unit}
 use Rattle.land_core.proofs.Pairs.{some_pair}
 use Rattle.land_core.proofs.Reflection.{each_there}
 use Rattle.land_core.specs.Units.{share_in, share_of, is_right_in, is_right_of, do_clash, are_of_one_type, are_of_one_rank, type_of, rank_of, type_shares, are_whole_or_none, has_owner, rrr_count, has_whole_shares}
@@ -67,15 +67,15 @@ three_types a b c x y z first second third =
     ∙ ap (λ it. are_whole_or_none x && are_whole_or_none y && are_whole_or_none it) third
 
 module _ (r : Register) (unit : ℕ) where
-  pub whole_among : has_whole_shares r unit ≡ are_shares_whole (entries_of r unit)
+  pub whole_among : has_whole_shares r unit ≡ are_shares_whole (list_entries_of r unit)
   whole_among =
-      three_types (type_shares r unit Ownership) (type_shares r unit Lease) (type_shares r unit Usufruct) (shares_among Ownership (entries_of r unit)) (shares_among Lease (entries_of r unit)) (shares_among Usufruct (entries_of r unit))
+      three_types (type_shares r unit Ownership) (type_shares r unit Lease) (type_shares r unit Usufruct) (shares_among Ownership (list_entries_of r unit)) (shares_among Lease (list_entries_of r unit)) (shares_among Usufruct (list_entries_of r unit))
       (shares_listed unit Ownership (map.entries r.rrrs)) (shares_listed unit Lease (map.entries r.rrrs)) (shares_listed unit Usufruct (map.entries r.rrrs))
 
-  pub owner_among : has_owner r unit ≡ has_right_among Ownership (entries_of r unit)
+  pub owner_among : has_owner r unit ≡ has_right_among Ownership (list_entries_of r unit)
   owner_among = right_listed unit Ownership (map.entries r.rrrs)
 
-  pub count_among : rrr_count r unit ≡ length (entries_of r unit)
+  pub count_among : rrr_count r unit ≡ length (list_entries_of r unit)
   count_among = sym (length-map (filter (λ (e : ℕ × RrrRecord). nat_eq e.1.unit unit) (map.entries r.rrrs)) (λ e. e.1))
 
 -- ---- copies in another unit
@@ -95,17 +95,17 @@ module _ (unit : ℕ) where
   right_copied type (e ∷ es) = ap (λ b. is_right_of type e.class || b) (right_copied type es)
 
   -- all copies are in their unit, and none is in another
-  pub listed_copies : (first : ℕ) (es : List RrrRecord) → listed_in unit (numbered first (map_list (in_unit unit) es)) ≡ map_list (in_unit unit) es
+  pub listed_copies : (first : ℕ) (es : List RrrRecord) → listed_in unit (with_numbers_from first (map_list (in_unit unit) es)) ≡ map_list (in_unit unit) es
   listed_copies first [] = refl
   listed_copies first (e ∷ es) =
       let rest = listed_copies (first + 1) es in
-      let others = filter (λ (x : ℕ × RrrRecord). nat_eq x.1.unit unit) (numbered (first + 1) (map_list (in_unit unit) es)) in
+      let others = filter (λ (x : ℕ × RrrRecord). nat_eq x.1.unit unit) (with_numbers_from (first + 1) (map_list (in_unit unit) es)) in
       ap (λ b. map_list (λ (x : ℕ × RrrRecord). x.1) (cond b ((first, in_unit unit e) ∷ others) others)) (nat_eq_equiv.refl unit) ∙ ap (λ it. in_unit unit e ∷ it) rest
 
-  pub none_copied : (other first : ℕ) → nat_eq unit other ≡ false → (es : List RrrRecord) → listed_in other (numbered first (map_list (in_unit unit) es)) ≡ []
+  pub none_copied : (other first : ℕ) → nat_eq unit other ≡ false → (es : List RrrRecord) → listed_in other (with_numbers_from first (map_list (in_unit unit) es)) ≡ []
   none_copied other first apart [] = refl
   none_copied other first apart (e ∷ es) =
-      let others = filter (λ (x : ℕ × RrrRecord). nat_eq x.1.unit other) (numbered (first + 1) (map_list (in_unit unit) es)) in
+      let others = filter (λ (x : ℕ × RrrRecord). nat_eq x.1.unit other) (with_numbers_from (first + 1) (map_list (in_unit unit) es)) in
       ap (λ b. map_list (λ (x : ℕ × RrrRecord). x.1) (cond b ((first, in_unit unit e) ∷ others) others)) apart ∙ none_copied other (first + 1) apart es
 
 -- a property of two lists
@@ -139,7 +139,7 @@ in_one_unit a b unit x y =
 
 module _ (unit old : ℕ) where
   abbrev copies : (first : ℕ) → List (ℕ × RrrRecord) → List (ℕ × RrrRecord)
-  copies first es = numbered first (map_list (in_unit unit) (listed_in old es))
+  copies first es = with_numbers_from first (map_list (in_unit unit) (listed_in old es))
 
   copy_apart : (e : RrrRecord) → nat_eq e.unit old ≡ true → (first : ℕ) (es : List (ℕ × RrrRecord)) → list_any (λ (f : ℕ × RrrRecord). do_clash e f.1) es ≡ false
       → list_any (λ (f : ℕ × RrrRecord). do_clash (in_unit unit e) f.1) (copies first es) ≡ false
@@ -148,7 +148,7 @@ module _ (unit old : ℕ) where
       let parts = or_parts (do_clash e f.1) (list_any (λ (x : ℕ × RrrRecord). do_clash e x.1) fs) none in
       let others = filter (λ (x : ℕ × RrrRecord). nat_eq x.1.unit old) fs in
       elim (nat_eq f.1.unit old) as (λ b. nat_eq f.1.unit old ≡ b
-      → list_any (λ (x : ℕ × RrrRecord). do_clash (in_unit unit e) x.1) (numbered first (map_list (in_unit unit) (map_list (λ (x : ℕ × RrrRecord). x.1) (cond b (f ∷ others) others)))) ≡ false) [
+      → list_any (λ (x : ℕ × RrrRecord). do_clash (in_unit unit e) x.1) (with_numbers_from first (map_list (in_unit unit) (map_list (λ (x : ℕ × RrrRecord). x.1) (cond b (f ∷ others) others)))) ≡ false) [
         | true ↦ λ there.
             ap (λ b. b || list_any (λ (x : ℕ × RrrRecord). do_clash (in_unit unit e) x.1) (copies (first + 1) fs)) (clash_copied unit e f.1 (in_one_unit e.unit f.1.unit old here there) parts.0)
             ∙ copy_apart e here (first + 1) fs parts.1
@@ -161,16 +161,16 @@ module _ (unit old : ℕ) where
       let parts = or_parts (list_any (λ (x : ℕ × RrrRecord). do_clash e.1 x.1) es) (some_pair do_clash es) none in
       let others = filter (λ (x : ℕ × RrrRecord). nat_eq x.1.unit old) es in
       elim (nat_eq e.1.unit old) as (λ b. nat_eq e.1.unit old ≡ b
-      → some_pair do_clash (numbered first (map_list (in_unit unit) (map_list (λ (x : ℕ × RrrRecord). x.1) (cond b (e ∷ others) others)))) ≡ false) [
+      → some_pair do_clash (with_numbers_from first (map_list (in_unit unit) (map_list (λ (x : ℕ × RrrRecord). x.1) (cond b (e ∷ others) others)))) ≡ false) [
         | true ↦ λ here. ap (λ b. b || some_pair do_clash (copies (first + 1) es)) (copy_apart e.1 here (first + 1) es parts.0) ∙ copies_apart (first + 1) es parts.1
         | false ↦ λ other. copies_apart first es parts.1
       ] refl
 
 -- an entry of another unit clashes with no copy
-pub other_apart : (unit : ℕ) (e : RrrRecord) → nat_eq e.unit unit ≡ false → (first : ℕ) (es : List RrrRecord) → list_any (λ (f : ℕ × RrrRecord). do_clash e f.1) (numbered first (map_list (in_unit unit) es)) ≡ false
+pub other_apart : (unit : ℕ) (e : RrrRecord) → nat_eq e.unit unit ≡ false → (first : ℕ) (es : List RrrRecord) → list_any (λ (f : ℕ × RrrRecord). do_clash e f.1) (with_numbers_from first (map_list (in_unit unit) es)) ≡ false
 other_apart unit e apart first [] = refl
 other_apart unit e apart first (f ∷ fs) =
-    ap (λ b. b && do_contents_clash e (in_unit unit f) || list_any (λ (x : ℕ × RrrRecord). do_clash e x.1) (numbered (first + 1) (map_list (in_unit unit) fs))) apart
+    ap (λ b. b && do_contents_clash e (in_unit unit f) || list_any (λ (x : ℕ × RrrRecord). do_clash e x.1) (with_numbers_from (first + 1) (map_list (in_unit unit) fs))) apart
     ∙ other_apart unit e apart (first + 1) fs
 
 -- a concatenation has no clashing pair if neither list has one, and no pair across them clashes
@@ -184,10 +184,10 @@ no_pair-append {V} test (x ∷ xs) ys left right across =
 
 -- no copy satisfies a condition that none satisfies under any of their numbers
 pub none_made : {S : RrrRecord → Type 0} (unit : ℕ) (p : ℕ → RrrRecord → Bool) (first last : ℕ) → ((n : ℕ) (e : RrrRecord) → S e → first ≤ n → n < last → p n (in_unit unit e) ≡ false)
-    → (es : List RrrRecord) → AllByRecursion S es → first + length es ≤ last → list_any (λ (e : ℕ × RrrRecord). p e.0 e.1) (numbered first (map_list (in_unit unit) es)) ≡ false
+    → (es : List RrrRecord) → AllByRecursion S es → first + length es ≤ last → list_any (λ (e : ℕ × RrrRecord). p e.0 e.1) (with_numbers_from first (map_list (in_unit unit) es)) ≡ false
 none_made unit p first last h [] all room = refl
 none_made unit p first last h (e ∷ es) all room =
-    ap (λ b. b || list_any (λ (x : ℕ × RrrRecord). p x.0 x.1) (numbered (first + 1) (map_list (in_unit unit) es))) (h first e all.0 (omega arith) (omega (arith, room)))
+    ap (λ b. b || list_any (λ (x : ℕ × RrrRecord). p x.0 x.1) (with_numbers_from (first + 1) (map_list (in_unit unit) es))) (h first e all.0 (omega arith) (omega (arith, room)))
     ∙ none_made unit p (first + 1) last (λ n x is low high. h n x is (omega (arith, low)) high) es all.1 (omega (arith, room))
 
 -- an entry of a register exists
@@ -196,7 +196,7 @@ pub record Stood (r : Register) (e : RrrRecord) : Type 0 where
   pub there : map.get r.rrrs number ≡ Some e
 
 -- the entries of a unit exist
-pub all_stood : (r : Register) (unit : ℕ) → AllByRecursion (Stood r) (entries_of r unit)
+pub all_stood : (r : Register) (unit : ℕ) → AllByRecursion (Stood r) (list_entries_of r unit)
 all_stood r unit = listed (map.entries r.rrrs) (each_there nat_cmp_total nat_cmp-IsAntisymmetric r.rrrs)
   where
     listed : (es : List (ℕ × RrrRecord)) → AllByRecursion (λ e. map.get r.rrrs e.0 ≡ Some e.1) es → AllByRecursion (Stood r) (listed_in unit es)

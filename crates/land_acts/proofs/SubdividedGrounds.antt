@@ -9,9 +9,9 @@ use Rattle.std.proofs.lemmas.Bool.{not-false, or_parts}
 use Rattle.land_acts.proofs.Refusals.{none_hold}
 use Rattle.land_acts.proofs.SameGround.{same_area, same_match}
 use Rattle.land_acts.specs.Mutations.Areas.{doubled_areas, outlines_at}
-use Rattle.land_acts.specs.Mutations.Asking.{content_refusals}
+use Rattle.land_acts.specs.Mutations.ByContent.{content_refusals}
 use Rattle.land_acts.specs.Mutations.Grounds.{are_same_ground}
-use Rattle.land_acts.specs.Mutations.Planning.{first_that_holds, lacks_numbers}
+use Rattle.land_acts.specs.Mutations.Planning.{first_refusal_of, runs_out_of_numbers}
 use Rattle.land_acts.specs.Mutations.Subdividing.{Origin, all_parts, has_parcel_in, numbers_for, origin_of, outlines_of, parcel_made, parcels_made, subdivision_change, subdivision_count, would_have_many_parcels}
 use Rattle.land_acts.specs.declared.mutations.refusal.Refusal.TheVariants.{NoSuchUnit, NoSuchParcel, TooMany, ClockOut, NotMatched}
 use Rattle.land_core.specs.Entries.{has}
@@ -28,20 +28,20 @@ use Rattle.land_shape.specs.Place.{Place}
 pub record IsUnrefusedSubdivision (r : Register) (it : Subdivision) : Type 0 where
   pub unit : has r.units it.unit ≡ true
   pub parcel : has_parcel_in r it.unit it.parcel ≡ true
-  pub room : lacks_numbers r (subdivision_count r it) ≡ false
+  pub room : runs_out_of_numbers r (subdivision_count r it) ≡ false
   pub few : would_have_many_parcels r it ≡ false
   pub ground : are_same_ground (outlines_at r (it.parcel ∷ [])) (outlines_of (all_parts it)) ≡ true
 
-pub unrefused_subdivision : (r : Register) (it : Subdivision) (stamp : Option ℤ) → first_that_holds (content_refusals r (content.Subdivision it) stamp) ≡ None → IsUnrefusedSubdivision r it
+pub unrefused_subdivision : (r : Register) (it : Subdivision) (stamp : Option ℤ) → first_refusal_of (content_refusals r (content.Subdivision it) stamp) ≡ None → IsUnrefusedSubdivision r it
 unrefused_subdivision r it stamp none =
     let same = are_same_ground (outlines_at r (it.parcel ∷ [])) (outlines_of (all_parts it)) in
-    let many = lacks_numbers r (subdivision_count r it) || would_have_many_parcels r it in
+    let many = runs_out_of_numbers r (subdivision_count r it) || would_have_many_parcels r it in
     let fails = none_hold ((NoSuchUnit, not (has r.units it.unit)) ∷ (NoSuchParcel, not (has_parcel_in r it.unit it.parcel)) ∷ (TooMany, many) ∷ (ClockOut, is_none stamp) ∷ (NotMatched, not same) ∷ []) none in
     let unit = fails.0 in
     let parcel = fails.1.0 in
     let number = fails.1.1.0 in
     let ground = fails.1.1.1.1.0 in
-    let room = or_parts (lacks_numbers r (subdivision_count r it)) (would_have_many_parcels r it) number in
+    let room = or_parts (runs_out_of_numbers r (subdivision_count r it)) (would_have_many_parcels r it) number in
     record { unit = not-false _ unit; parcel = not-false _ parcel; room = room.0; few = room.1; ground = not-false _ ground }
 
 -- the written parcels have the outlines of the parts
@@ -55,7 +55,7 @@ outlines_made origin first (part ∷ parts) = by_unit (λ n. outlines_made origi
     by_unit rest (Some name) = ap (λ it. part.outline ∷ it) (rest (first + (2 + length origin.entries)))
 
 -- if no refusal applies, the written parcels cover the ground of the one that ends, and have its total area
-module _ (r : Register) (source : ℕ) (it : Subdivision) (stamp : Option ℤ) (none : first_that_holds (content_refusals r (content.Subdivision it) stamp) ≡ None)
+module _ (r : Register) (source : ℕ) (it : Subdivision) (stamp : Option ℤ) (none : first_refusal_of (content_refusals r (content.Subdivision it) stamp) ≡ None)
     (p : ParcelRecord) (is : map.get r.parcels it.parcel ≡ Some p) where
   put : map_list (λ e. e.1.outline) (subdivision_change r source it).put.parcels ≡ outlines_of (all_parts it)
   put = outlines_made (origin_of r source it) r.next (all_parts it)

@@ -8,7 +8,7 @@ use Rattle.std.proofs.lemmas.Bool.{false≢true}
 use Rattle.std.proofs.lemmas.Bool.Decides.{nat_tests}
 use Rattle.std.proofs.lemmas.List.{length-map, map-append}
 use Rattle.std.proofs.lemmas.List.Folds.{list_any-append}
-use Rattle.land_acts.specs.Mutations.Numbering.{numbered}
+use Rattle.land_acts.specs.Mutations.Numbering.{with_numbers_from}
 use Rattle.land_acts.specs.Mutations.Subdividing.{Origin, all_parts, copies_made, entries_made, has_parcel_in, in_unit, numbers_for, origin_of, parcel_made, parcels_made, subdivision_change, unit_made, units_made}
 use Rattle.land_core.proofs.SoundRegisters.{are_used, refers, used_bounds, used_from}
 use Rattle.land_core.specs.Changes.{NamesKeysOnce}
@@ -65,7 +65,7 @@ rise_once least (n ∷ ns) others rise below once =
 abbrev keys : {V : Type 0} → List (ℕ × V) → List ℕ
 keys es = map_list (λ e. e.0) es
 
-rise_numbered : {V : Type 0} (first : ℕ) (xs : List V) (ns : List ℕ) → Rise (first + length xs) ns → Rise first (keys (numbered first xs) ++ ns)
+rise_numbered : {V : Type 0} (first : ℕ) (xs : List V) (ns : List ℕ) → Rise (first + length xs) ns → Rise first (keys (with_numbers_from first xs) ++ ns)
 rise_numbered first [] ns rise = rise_from first (first + 0) (omega arith) ns rise
 rise_numbered first (x ∷ xs) ns rise =
     let le : first + 1 + length xs ≤ first + length (x ∷ xs) = omega arith in
@@ -105,8 +105,8 @@ module _ (origin : Origin) where
           let long = length-map origin.entries (in_unit first) in
           let le : first + 2 + length copies ≤ next = omega (arith, long) in
           let risen = rise_numbered (first + 2) copies (keys others) (rise_from (first + 2 + length copies) next le (keys others) (rest next)) in
-          subst (Rise first) (sym (map-append (λ e. e.0) (numbered (first + 2) copies) others))
-          (rise_from first (first + 2) (omega arith) (keys (numbered (first + 2) copies) ++ keys others) risen)
+          subst (Rise first) (sym (map-append (λ e. e.0) (with_numbers_from (first + 2) copies) others))
+          (rise_from first (first + 2) (omega arith) (keys (with_numbers_from (first + 2) copies) ++ keys others) risen)
 
 -- ascending numbers from a bound are not below it
 above_least : {V : Type 0} (least : ℕ) (es : List (ℕ × V)) → Rise least (keys es) → AllByRecursion (λ e. least ≤ e.0) es

@@ -15,8 +15,8 @@ use Rattle.land_acts.proofs.EnteredEntries.{here, there, each_record}
 use Rattle.land_acts.proofs.Growth.{used_grows, unused_grows, ranks_grow, mutations_stay, placed, placed_back}
 use Rattle.land_acts.proofs.NewObjects.{below_next, entries-last}
 use Rattle.land_acts.proofs.Numbers.{one_number, tied_number}
-use Rattle.land_acts.specs.Mutations.Planning.{lacks_numbers}
-use Rattle.land_acts.specs.Mutations.Subdividing.{parcels_beside}
+use Rattle.land_acts.specs.Mutations.Planning.{runs_out_of_numbers}
+use Rattle.land_acts.specs.Mutations.Subdividing.{count_other_parcels}
 use Rattle.land_core.proofs.Booleans.{and_false, or_nothing}
 use Rattle.land_core.proofs.Reflection.{none_passes, none_at, some_passes, some_at}
 use Rattle.land_core.proofs.SoundRegisters.{refers, refers_back, are_used, are_used_back, used_from, unused_from, used_bounds, next_above_zero}
@@ -98,7 +98,7 @@ module _ (r : Register) (sound : IsSound r) (left : FinMap nat_cmp ParcelRecord)
       apart : (a unit : ℕ) → nat_eq a unit ≡ true → nat_eq parcel.unit unit ≡ false → nat_eq a parcel.unit ≡ false
       apart a unit same other = grind (arith, nat_tests)
 
-  pub parcelled_is_sound : has r.units parcel.unit ≡ true → has r.sources parcel.source ≡ true → lacks_numbers r 1 ≡ false → parcels_in left parcel.unit + 1 ≤ 256 → IsSound (parcelled r left parcel)
+  pub parcelled_is_sound : has r.units parcel.unit ≡ true → has r.sources parcel.source ≡ true → runs_out_of_numbers r 1 ≡ false → parcels_in left parcel.unit + 1 ≤ 256 → IsSound (parcelled r left parcel)
   parcelled_is_sound unit source room fits Memory = refl
   parcelled_is_sound unit source room fits Shares = sound Shares
   parcelled_is_sound unit source room fits Group = sound Group
@@ -159,7 +159,7 @@ filter-filter {X} p q both is (x ∷ xs) =
 
 module _ (r : Register) (unit ended : ℕ) where
   -- the remaining parcels are all except the one that ends
-  pub left_beside : parcels_in (map.remove r.parcels ended) unit ≡ parcels_beside r unit (ended ∷ [])
+  pub left_beside : parcels_in (map.remove r.parcels ended) unit ≡ count_other_parcels r unit (ended ∷ [])
   left_beside =
       ap (λ (es : List (ℕ × ParcelRecord)). length (filter (λ e. nat_eq e.1.unit unit) es)) (entries_removed r.parcels ended)
       ∙ ap length (filter-filter (λ (e : ℕ × ParcelRecord). nat_eq e.1.unit unit) (λ e. not (eq_by_cmp nat_cmp ended e.0)) (λ e. nat_eq e.1.unit unit && not (lists_number (ended ∷ []) e.0))

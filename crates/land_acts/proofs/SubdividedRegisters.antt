@@ -8,9 +8,9 @@ use Rattle.std.specs.FinMap.{FinMap}
 use Rattle.std.proofs.lemmas.Bool.{false≢true, le-ltb, ltb-false}
 use Rattle.land_acts.proofs.SubdividedParcels.{AreLeft, all_left, left_beside, one_ends, one_more, parcelled, parcelled_is_sound, parcels_in}
 use Rattle.land_acts.proofs.SubdividedUnits.{IsCopy, copied, copied_is_sound, count_stays, entries_stay, stands_apart, unit_stays}
-use Rattle.land_acts.specs.Mutations.Numbering.{numbered}
-use Rattle.land_acts.specs.Mutations.Planning.{lacks_numbers}
-use Rattle.land_acts.specs.Mutations.Subdividing.{Origin, all_parts, copies_made, count_for, entries_made, entries_of, has_parcel_in, in_unit, next_after, numbers_for, origin_of, parcel_in, parcel_made, parcels_beside, parcels_made, staying, subdivision_change, subdivision_count, unit_made, units_made, would_have_many_parcels}
+use Rattle.land_acts.specs.Mutations.Numbering.{with_numbers_from}
+use Rattle.land_acts.specs.Mutations.Planning.{runs_out_of_numbers}
+use Rattle.land_acts.specs.Mutations.Subdividing.{Origin, all_parts, copies_made, count_for, entries_made, list_entries_of, has_parcel_in, in_unit, next_after, numbers_for, origin_of, parcel_in, parcel_made, count_other_parcels, parcels_made, count_staying, subdivision_change, subdivision_count, unit_made, units_made, would_have_many_parcels}
 use Rattle.land_core.specs.Changes.{after}
 use Rattle.land_core.specs.Entries.{has, with_entries}
 use Rattle.land_core.specs.Soundness.{IsSound}
@@ -70,7 +70,7 @@ with_entries-append m [] ys = refl
 with_entries-append m (x ∷ xs) ys = with_entries-append (map.insert m x.0 x.1) xs ys
 
 -- the objects of some parts are those of the first one, and then of the others
-parted_first : (origin : Origin) (part : Part) (parts : List Part) (r : Register) → entries_of r origin.unit ≡ origin.entries → parted origin (part ∷ parts) r ≡ parted origin parts (with_part origin part part.unit r)
+parted_first : (origin : Origin) (part : Part) (parts : List Part) (r : Register) → list_entries_of r origin.unit ≡ origin.entries → parted origin (part ∷ parts) r ≡ parted origin parts (with_part origin part part.unit r)
 parted_first origin part parts r entries = by_unit part.unit
   where
     by_unit : (o : Option (List ℕ)) → record r {
@@ -86,11 +86,11 @@ parted_first origin part parts r entries = by_unit part.unit
           parcels = with_entries r.parcels (parcels_made origin r.next (record part { unit = Some name } ∷ parts));
           rrrs = rrrs;
           next = next_after origin (r.next + (2 + length origin.entries)) parts;
-        }) (with_entries-append r.rrrs (numbered (r.next + 2) (map_list (in_unit r.next) origin.entries)) (copies_made origin (r.next + (2 + length origin.entries)) parts))
+        }) (with_entries-append r.rrrs (with_numbers_from (r.next + 2) (map_list (in_unit r.next) origin.entries)) (copies_made origin (r.next + (2 + length origin.entries)) parts))
         ∙ ap (λ (es : List RrrRecord). parted origin parts (record r {
           units = map.insert r.units r.next (record { name = name; checked = origin.checked });
           parcels = map.insert r.parcels (r.next + 1) (parcel_in origin r.next part);
-          rrrs = with_entries r.rrrs (numbered (r.next + 2) (map_list (in_unit r.next) es));
+          rrrs = with_entries r.rrrs (with_numbers_from (r.next + 2) (map_list (in_unit r.next) es));
           next = r.next + (2 + length es);
         })) (sym entries)
 
@@ -100,9 +100,9 @@ record IsReady (origin : Origin) (parts : List Part) (r : Register) : Type 0 whe
   original : UnitRecord
   stands : map.get r.units origin.unit ≡ Some original
   marked : origin.checked ≡ original.checked
-  entries : entries_of r origin.unit ≡ origin.entries
+  entries : list_entries_of r origin.unit ≡ origin.entries
   source : has r.sources origin.source ≡ true
-  few : parcel_count r origin.unit + staying parts ≤ 256
+  few : parcel_count r origin.unit + count_staying parts ≤ 256
   room : next_after origin r.next parts ≤ 1000000001
 
 -- it holds before the others if it holds before the first
@@ -129,14 +129,14 @@ ready_next origin part parts r ready = by_unit part.unit ready.few ready.room
         let new : UnitRecord = record { name = name; checked = origin.checked } in
         let parcel = parcel_in origin r.next part in
         let after_this = next_grows origin (r.next + (2 + length origin.entries)) parts in
-        let long : length (entries_of r origin.unit) ≡ length origin.entries = ap length ready.entries in
+        let long : length (list_entries_of r origin.unit) ≡ length origin.entries = ap length ready.entries in
         let copy : IsCopy r origin.unit new parcel = record {
           original = ready.original;
           stands = ready.stands;
           marked = ready.marked;
           in_new = refl;
           source = ready.source;
-          room = le-ltb 1000000001 (r.next + (2 + length (entries_of r origin.unit))) (omega (arith, after_this, room, long));
+          room = le-ltb 1000000001 (r.next + (2 + length (list_entries_of r origin.unit))) (omega (arith, after_this, room, long));
         } in
         let apart = stands_apart r ready.sound origin.unit new parcel copy origin.unit ready.original ready.stands in
         let same = count_stays r ready.sound origin.unit new parcel copy origin.unit apart in
@@ -160,7 +160,7 @@ parted_is_sound origin (part ∷ parts) r ready =
 
 -- a subdivision whose parcel is in its unit, which has space for the parts, keeps a register sound
 pub subdivided_is_sound : (r : Register) (source : ℕ) (it : Subdivision) → IsSound r → has r.sources source ≡ true → has r.units it.unit ≡ true → has_parcel_in r it.unit it.parcel ≡ true
-    → lacks_numbers r (subdivision_count r it) ≡ false → would_have_many_parcels r it ≡ false → IsSound (after (subdivision_change r source it) r)
+    → runs_out_of_numbers r (subdivision_count r it) ≡ false → would_have_many_parcels r it ≡ false → IsSound (after (subdivision_change r source it) r)
 subdivided_is_sound r source it sound from unit parcel numbers few = found (map.get r.units it.unit) refl unit (map.get r.parcels it.parcel) refl parcel
   where
     origin : Origin
@@ -178,8 +178,8 @@ subdivided_is_sound r source it sound from unit parcel numbers few = found (map.
     found (Some u) e h None at here = absurd (false≢true here)
     found (Some u) e h (Some p) at here =
         let ends : AreLeft r it.unit left = one_ends r it.unit it.parcel p at here in
-        let beside : parcels_in left it.unit ≡ parcels_beside r it.unit (it.parcel ∷ []) = left_beside r it.unit it.parcel in
-        let fits : parcels_beside r it.unit (it.parcel ∷ []) + staying (all_parts it) ≤ 256 = ltb-false 256 (parcels_beside r it.unit (it.parcel ∷ []) + staying (all_parts it)) few in
+        let beside : parcels_in left it.unit ≡ count_other_parcels r it.unit (it.parcel ∷ []) = left_beside r it.unit it.parcel in
+        let fits : count_other_parcels r it.unit (it.parcel ∷ []) + count_staying (all_parts it) ≤ 256 = ltb-false 256 (count_other_parcels r it.unit (it.parcel ∷ []) + count_staying (all_parts it)) few in
         let last : r.next + subdivision_count r it ≤ 1000000001 = ltb-false 1000000001 (r.next + subdivision_count r it) numbers in
         let counted : next_after origin (r.next + 1) it.rest ≡ r.next + subdivision_count r it = subdivided_next r source it in
         let after_first : r.next + 1 ≤ next_after origin (r.next + 1) it.rest = next_grows origin (r.next + 1) it.rest in

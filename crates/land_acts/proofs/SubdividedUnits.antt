@@ -14,16 +14,16 @@ use Rattle.std.proofs.lemmas.List.Folds.{list_any-append}
 use Rattle.std.proofs.lemmas.Cmp.{nat_eq_equiv}
 use Rattle.land_acts.proofs.EnteredEntries.{here, there, each_record}
 use Rattle.land_acts.proofs.Growth.{used_grows, unused_grows, ranks_grow, has_stays, mutations_stay, anchored, placed, placed_back}
-use Rattle.land_acts.proofs.NewObjects.{below_later, below_next, entries-last, entries-numbered}
+use Rattle.land_acts.proofs.NewObjects.{below_later, below_next, entries-last, entries-with_numbers_from}
 use Rattle.land_acts.proofs.Numbers.{turned_number}
 use Rattle.land_acts.proofs.SubdividedEntries.{Stood, all_stood, are_shares_whole, copies_apart, count_among, has_right_among, listed-append, listed_copies, listed_in, no_pair-append, none_copied, none_listed, none_made, other_apart, owner_among, right_copied, whole_among, whole_copied}
-use Rattle.land_acts.specs.Mutations.Numbering.{numbered}
-use Rattle.land_acts.specs.Mutations.Subdividing.{entries_of, in_unit}
+use Rattle.land_acts.specs.Mutations.Numbering.{with_numbers_from}
+use Rattle.land_acts.specs.Mutations.Subdividing.{list_entries_of, in_unit}
 use Rattle.land_core.proofs.Pairs.{some_pair, later_pairs}
 use Rattle.land_core.proofs.Reflection.{each_there, none_passes, none_at, some_passes, some_at}
 use Rattle.land_core.proofs.SoundRegisters.{refers, refers_back, are_used, are_used_back, used_from, unused_from, used_bounds, next_above_zero}
 use Rattle.land_core.specs.Entries.{has, with_entries}
-use Rattle.land_core.specs.Soundness.{IsSound, is_used, is_loose_rank}
+use Rattle.land_core.specs.Soundness.{IsSound, is_used, is_rank_out_of_range}
 use Rattle.land_core.specs.Units.{do_clash, rank_of, has_parcel, has_owner, parcel_count, rrr_count, has_whole_shares}
 use Rattle.land_core.specs.declared.parcel.ParcelRecord.{ParcelRecord}
 use Rattle.land_core.specs.declared.register.Register.{Register}
@@ -37,8 +37,8 @@ abbrev pub copied : Register → (unit : ℕ) → UnitRecord → ParcelRecord �
 copied r unit new parcel = record r {
   units = map.insert r.units r.next new;
   parcels = map.insert r.parcels (r.next + 1) parcel;
-  rrrs = with_entries r.rrrs (numbered (r.next + 2) (map_list (in_unit r.next) (entries_of r unit)));
-  next = r.next + (2 + length (entries_of r unit));
+  rrrs = with_entries r.rrrs (with_numbers_from (r.next + 2) (map_list (in_unit r.next) (list_entries_of r unit)));
+  next = r.next + (2 + length (list_entries_of r unit));
 }
 
 -- the conditions on the new unit: it is checked exactly if the other one is, the parcel is in it, and there
@@ -49,14 +49,14 @@ pub record IsCopy (r : Register) (unit : ℕ) (new : UnitRecord) (parcel : Parce
   pub marked : new.checked ≡ original.checked
   pub in_new : parcel.unit ≡ r.next
   pub source : has r.sources parcel.source ≡ true
-  pub room : nat_lt 1000000001 (r.next + (2 + length (entries_of r unit))) ≡ false
+  pub room : nat_lt 1000000001 (r.next + (2 + length (list_entries_of r unit))) ≡ false
 
 module _ (r : Register) (sound : IsSound r) (unit : ℕ) (new : UnitRecord) (parcel : ParcelRecord) (copy : IsCopy r unit new parcel) where
   abbrev more : Register
   more = copied r unit new parcel
 
   abbrev made : List (ℕ × RrrRecord)
-  made = numbered (r.next + 2) (map_list (in_unit r.next) (entries_of r unit))
+  made = with_numbers_from (r.next + 2) (map_list (in_unit r.next) (list_entries_of r unit))
 
   grows : r.next ≤ more.next
   grows = omega arith
@@ -65,7 +65,7 @@ module _ (r : Register) (sound : IsSound r) (unit : ℕ) (new : UnitRecord) (par
 
   rrr_entries : map.entries more.rrrs ≡ map.entries r.rrrs ++ made
   rrr_entries =
-      entries-numbered r.rrrs (r.next + 2) (map_list (in_unit r.next) (entries_of r unit))
+      entries-with_numbers_from r.rrrs (r.next + 2) (map_list (in_unit r.next) (list_entries_of r unit))
       (below_later r.next (r.next + 2) (omega arith) (map.entries r.rrrs) (below_next r r.rrrs (are_used r (refers r (sound Reference)).numbers).rrrs))
 
   parcel_entries : map.entries more.parcels ≡ map.entries r.parcels ++ (r.next + 1, parcel) ∷ []
@@ -122,19 +122,19 @@ module _ (r : Register) (sound : IsSound r) (unit : ℕ) (new : UnitRecord) (par
       (λ n e is. other_unit e.unit (anchored r (refers r (sound Reference)).rrrs n e is).unit)
 
   -- the new unit has the copies, and every other one has its entries
-  entries_new : entries_of more r.next ≡ map_list (in_unit r.next) (entries_of r unit)
+  entries_new : list_entries_of more r.next ≡ map_list (in_unit r.next) (list_entries_of r unit)
   entries_new =
       ap (listed_in r.next) rrr_entries
       ∙ listed-append r.next (map.entries r.rrrs) made
       ∙ ap (λ (es : List RrrRecord). es ++ listed_in r.next made) (none_listed r.next (map.entries r.rrrs) no_old_rrr)
-      ∙ listed_copies r.next (r.next + 2) (entries_of r unit)
+      ∙ listed_copies r.next (r.next + 2) (list_entries_of r unit)
 
-  pub entries_stay : (n : ℕ) → nat_eq r.next n ≡ false → entries_of (copied r unit new parcel) n ≡ entries_of r n
+  pub entries_stay : (n : ℕ) → nat_eq r.next n ≡ false → list_entries_of (copied r unit new parcel) n ≡ list_entries_of r n
   entries_stay n apart =
       ap (listed_in n) rrr_entries
       ∙ listed-append n (map.entries r.rrrs) made
-      ∙ ap (λ (es : List RrrRecord). entries_of r n ++ es) (none_copied r.next n (r.next + 2) apart (entries_of r unit))
-      ∙ append-nil (entries_of r n)
+      ∙ ap (λ (es : List RrrRecord). list_entries_of r n ++ es) (none_copied r.next n (r.next + 2) apart (list_entries_of r unit))
+      ∙ append-nil (list_entries_of r n)
 
   -- ---- the parcels of each unit
 
@@ -177,13 +177,13 @@ module _ (r : Register) (sound : IsSound r) (unit : ℕ) (new : UnitRecord) (par
 
   -- a property of the entries of the other unit is a property of those of the new one
   new_whole : has_whole_shares more r.next ≡ has_whole_shares r unit
-  new_whole = whole_among more r.next ∙ ap are_shares_whole entries_new ∙ whole_copied r.next (entries_of r unit) ∙ sym (whole_among r unit)
+  new_whole = whole_among more r.next ∙ ap are_shares_whole entries_new ∙ whole_copied r.next (list_entries_of r unit) ∙ sym (whole_among r unit)
 
   new_owner : has_owner more r.next ≡ has_owner r unit
-  new_owner = owner_among more r.next ∙ ap (has_right_among Ownership) entries_new ∙ right_copied r.next Ownership (entries_of r unit) ∙ sym (owner_among r unit)
+  new_owner = owner_among more r.next ∙ ap (has_right_among Ownership) entries_new ∙ right_copied r.next Ownership (list_entries_of r unit) ∙ sym (owner_among r unit)
 
   new_count : rrr_count more r.next ≡ rrr_count r unit
-  new_count = count_among more r.next ∙ ap length entries_new ∙ length-map (entries_of r unit) (in_unit r.next) ∙ sym (count_among r unit)
+  new_count = count_among more r.next ∙ ap length entries_new ∙ length-map (list_entries_of r unit) (in_unit r.next) ∙ sym (count_among r unit)
 
   whole_stays : (n : ℕ) → nat_eq r.next n ≡ false → has_whole_shares more n ≡ has_whole_shares r n
   whole_stays n apart = whole_among more n ∙ ap are_shares_whole (entries_stay n apart) ∙ sym (whole_among r n)
@@ -201,11 +201,11 @@ module _ (r : Register) (sound : IsSound r) (unit : ℕ) (new : UnitRecord) (par
 
   -- no copy satisfies a condition that no earlier entry satisfies
   no_copy : (p : ℕ → RrrRecord → Bool) → ((n : ℕ) (e : RrrRecord) → Stood r e → r.next + 2 ≤ n → n < more.next → p n (in_unit r.next e) ≡ false) → list_any (λ e. p e.0 e.1) made ≡ false
-  no_copy p h = none_made r.next p (r.next + 2) more.next h (entries_of r unit) (all_stood r unit) (omega arith)
+  no_copy p h = none_made r.next p (r.next + 2) more.next h (list_entries_of r unit) (all_stood r unit) (omega arith)
 
   across : (es : List (ℕ × RrrRecord)) → AllByRecursion (λ e. map.get r.rrrs e.0 ≡ Some e.1) es → AllByRecursion (λ e. list_any (λ f. do_clash e.1 f.1) made ≡ false) es
   across [] h = tt
-  across (e ∷ es) h = (other_apart r.next e.1 (other_unit e.1.unit (anchored r (refers r (sound Reference)).rrrs e.0 e.1 h.0).unit) (r.next + 2) (entries_of r unit), across es h.1)
+  across (e ∷ es) h = (other_apart r.next e.1 (other_unit e.1.unit (anchored r (refers r (sound Reference)).rrrs e.0 e.1 h.0).unit) (r.next + 2) (list_entries_of r unit), across es h.1)
 
   pub copied_is_sound : IsSound (copied r unit new parcel)
   copied_is_sound Memory = refl
@@ -214,9 +214,9 @@ module _ (r : Register) (sound : IsSound r) (unit : ℕ) (new : UnitRecord) (par
   copied_is_sound Administrator = sound Administrator
   copied_is_sound Rank =
       let still = ranks_grow r more grows r.rrrs (sound Rank) in
-      no_rrr (λ e. is_loose_rank more (rank_of e.1.class)) still
-      (no_copy (λ n e. is_loose_rank more (rank_of e.class)) (λ n e stood low high.
-      none_at nat_cmp_total nat_cmp-IsAntisymmetric (λ n e. is_loose_rank more (rank_of e.class)) r.rrrs stood.number e still stood.there))
+      no_rrr (λ e. is_rank_out_of_range more (rank_of e.1.class)) still
+      (no_copy (λ n e. is_rank_out_of_range more (rank_of e.class)) (λ n e stood low high.
+      none_at nat_cmp_total nat_cmp-IsAntisymmetric (λ n e. is_rank_out_of_range more (rank_of e.class)) r.rrrs stood.number e still stood.there))
   copied_is_sound Twice =
       let before = sym (later_pairs do_clash r.rrrs) ∙ sound Twice in
       later_pairs do_clash more.rrrs

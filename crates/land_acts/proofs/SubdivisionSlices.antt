@@ -13,13 +13,13 @@ use Rattle.land_acts.proofs.NumberTests.{at_kept}
 use Rattle.land_acts.specs.Mutations.Areas.{outlines_at}
 use Rattle.land_acts.specs.Mutations.Grounds.{are_same_ground}
 use Rattle.land_acts.specs.Mutations.Numbering.{numbers_from}
-use Rattle.land_acts.specs.Mutations.Planning.{first_that_holds, lacks_numbers}
-use Rattle.land_acts.specs.Mutations.Subdividing.{all_parts, count_for, cut_change, entries_of, has_parcel_in, origin_of, outlines_of, parcels_beside, staying, subdivision_change, subdivision_count, subdivision_made, subdivision_refusals, would_have_many_parcels}
+use Rattle.land_acts.specs.Mutations.Planning.{first_refusal_of, runs_out_of_numbers}
+use Rattle.land_acts.specs.Mutations.Subdividing.{all_parts, count_for, cut_change, list_entries_of, has_parcel_in, origin_of, outlines_of, count_other_parcels, count_staying, subdivision_change, subdivision_count, subdivision_made, subdivision_refusals, would_have_many_parcels}
 use Rattle.land_acts.specs.Mutations.Transferring.{is_checked}
 use Rattle.land_acts.specs.declared.mutations.refusal.Refusal.{Refusal}
 use Rattle.land_acts.specs.declared.mutations.refusal.Refusal.TheVariants.{NoSuchUnit, NoSuchParcel, TooMany, ClockOut, NotMatched}
-use Rattle.land_core.proofs.Reflection.{entries-only}
-use Rattle.land_core.specs.Entries.{has, only}
+use Rattle.land_core.proofs.Reflection.{entries-entries_where}
+use Rattle.land_core.specs.Entries.{has, entries_where}
 use Rattle.land_core.specs.Mergers.{lists_number}
 use Rattle.land_core.specs.declared.parcel.ParcelRecord.{ParcelRecord}
 use Rattle.land_core.specs.declared.register.Register.{Register}
@@ -31,16 +31,16 @@ use Rattle.land_core.specs.declared.subdivision.Subdivision.{Subdivision}
 pub record AgreeOnUnits (s r : Register) (named : ℕ → Bool) : Type 0 where
   pub units : (n : ℕ) → named n ≡ true → map.get s.units n ≡ map.get r.units n
   pub kept_parcels : ℕ → ParcelRecord → Bool
-  pub parcels : s.parcels ≡ only kept_parcels r.parcels
+  pub parcels : s.parcels ≡ entries_where kept_parcels r.parcels
   pub keeps_parcels : (n : ℕ) (p : ParcelRecord) → named p.unit ≡ true → kept_parcels n p ≡ true
   pub kept_entries : ℕ → RrrRecord → Bool
-  pub entries : s.rrrs ≡ only kept_entries r.rrrs
+  pub entries : s.rrrs ≡ entries_where kept_entries r.rrrs
   pub keeps_entries : (n : ℕ) (e : RrrRecord) → named e.unit ≡ true → kept_entries n e ≡ true
   pub next : s.next ≡ r.next
 
 -- refusals after another are read only if the condition of that one is false
-pub later_lines : (refusal : Refusal) (b : Bool) (lines others : List (Refusal × Bool)) → (b ≡ false → first_that_holds lines ≡ first_that_holds others)
-    → first_that_holds ((refusal, b) ∷ lines) ≡ first_that_holds ((refusal, b) ∷ others)
+pub later_lines : (refusal : Refusal) (b : Bool) (lines others : List (Refusal × Bool)) → (b ≡ false → first_refusal_of lines ≡ first_refusal_of others)
+    → first_refusal_of ((refusal, b) ∷ lines) ≡ first_refusal_of ((refusal, b) ∷ others)
 later_lines refusal true lines others same = refl
 later_lines refusal false lines others same = same refl
 
@@ -57,21 +57,21 @@ module _ (s r : Register) (named : ℕ → Bool) (agree : AgreeOnUnits s r named
   pub entries_passing_agree : (test : ℕ × RrrRecord → Bool) → ((e : ℕ × RrrRecord) → test e ≡ true → named e.1.unit ≡ true) → filter test (map.entries s.rrrs) ≡ filter test (map.entries r.rrrs)
   entries_passing_agree test names =
       ap (λ m. filter test (map.entries m)) agree.entries
-      ∙ ap (filter test) (entries-only nat_cmp_total nat_cmp-IsAntisymmetric agree.kept_entries r.rrrs)
+      ∙ ap (filter test) (entries-entries_where nat_cmp_total nat_cmp-IsAntisymmetric agree.kept_entries r.rrrs)
       ∙ filter_within test (λ e. agree.kept_entries e.0 e.1) (λ e passes. agree.keeps_entries e.0 e.1 (names e passes)) (map.entries r.rrrs)
 
   named_as : (unit n : ℕ) → named unit ≡ true → nat_eq n unit ≡ true → named n ≡ true
   named_as unit n names same = ap named (eqb-true n unit same) ∙ names
 
-  pub entries_agree : (unit : ℕ) → named unit ≡ true → entries_of s unit ≡ entries_of r unit
+  pub entries_agree : (unit : ℕ) → named unit ≡ true → list_entries_of s unit ≡ list_entries_of r unit
   entries_agree unit names = ap (map_list (λ e. e.1)) (entries_passing_agree (λ e. nat_eq e.1.unit unit) (λ e here. named_as unit e.1.unit names here))
 
   -- ---- parcels
 
-  pub beside_agrees : (unit : ℕ) → named unit ≡ true → (ended : List ℕ) → parcels_beside s unit ended ≡ parcels_beside r unit ended
+  pub beside_agrees : (unit : ℕ) → named unit ≡ true → (ended : List ℕ) → count_other_parcels s unit ended ≡ count_other_parcels r unit ended
   beside_agrees unit names ended =
       ap (λ m. length (filter (λ e. nat_eq e.1.unit unit && not (lists_number ended e.0)) (map.entries m))) agree.parcels
-      ∙ ap (λ es. length (filter (λ e. nat_eq e.1.unit unit && not (lists_number ended e.0)) es)) (entries-only nat_cmp_total nat_cmp-IsAntisymmetric agree.kept_parcels r.parcels)
+      ∙ ap (λ es. length (filter (λ e. nat_eq e.1.unit unit && not (lists_number ended e.0)) es)) (entries-entries_where nat_cmp_total nat_cmp-IsAntisymmetric agree.kept_parcels r.parcels)
       ∙ ap length (filter_within (λ e. nat_eq e.1.unit unit && not (lists_number ended e.0)) (λ e. agree.kept_parcels e.0 e.1) (λ e passes. keeps e.0 e.1 passes) (map.entries r.parcels))
     where
       keeps : (n : ℕ) (p : ParcelRecord) → (nat_eq p.unit unit && not (lists_number ended n)) ≡ true → agree.kept_parcels n p ≡ true
@@ -123,13 +123,13 @@ module _ (s r : Register) (it : Subdivision) (named : ℕ → Bool) (agree : Agr
   is_lost at = not (are_same_ground (outlines_at at (it.parcel ∷ [])) (outlines_of (all_parts it)))
 
   abbrev is_many : Register → Bool
-  is_many at = lacks_numbers at (subdivision_count at it) || would_have_many_parcels at it
+  is_many at = runs_out_of_numbers at (subdivision_count at it) || would_have_many_parcels at it
 
   many_agrees : is_many s ≡ is_many r
   many_agrees =
       ap (λ next. nat_lt 1000000001 (next + subdivision_count s it) || would_have_many_parcels s it) agree.next
       ∙ ap (λ count. nat_lt 1000000001 (r.next + count) || would_have_many_parcels s it) count_agrees
-      ∙ ap (λ beside. lacks_numbers r (subdivision_count r it) || nat_lt 256 (beside + staying (all_parts it))) (beside_agrees s r named agree it.unit names (it.parcel ∷ []))
+      ∙ ap (λ beside. runs_out_of_numbers r (subdivision_count r it) || nat_lt 256 (beside + count_staying (all_parts it))) (beside_agrees s r named agree it.unit names (it.parcel ∷ []))
 
   lost_agrees : has_parcel_in r it.unit it.parcel ≡ true → is_lost s ≡ is_lost r
   lost_agrees there =
@@ -138,9 +138,9 @@ module _ (s r : Register) (it : Subdivision) (named : ℕ → Bool) (agree : Agr
 
   -- if the parcel belongs to another unit, its outline may be in only one of the two registers; an earlier
   -- refusal applies then
-  pub subdivision_refusal_agrees : (stamp : Option ℤ) → first_that_holds (subdivision_refusals s it stamp) ≡ first_that_holds (subdivision_refusals r it stamp)
+  pub subdivision_refusal_agrees : (stamp : Option ℤ) → first_refusal_of (subdivision_refusals s it stamp) ≡ first_refusal_of (subdivision_refusals r it stamp)
   subdivision_refusal_agrees stamp =
-      ap (λ b. cond (not b) (Some NoSuchUnit) (first_that_holds ((NoSuchParcel, not (has_parcel_in s it.unit it.parcel)) ∷ of_slice))) (stands_agrees s r named agree it.unit names)
+      ap (λ b. cond (not b) (Some NoSuchUnit) (first_refusal_of ((NoSuchParcel, not (has_parcel_in s it.unit it.parcel)) ∷ of_slice))) (stands_agrees s r named agree it.unit names)
       ∙ ap (cond (not (has r.units it.unit)) (Some NoSuchUnit)) parcel
     where
       of_slice : List (Refusal × Bool)
@@ -149,14 +149,14 @@ module _ (s r : Register) (it : Subdivision) (named : ℕ → Bool) (agree : Agr
       of_register : List (Refusal × Bool)
       of_register = (TooMany, is_many r) ∷ (ClockOut, is_none stamp) ∷ (NotMatched, is_lost r) ∷ []
 
-      rest : not (has_parcel_in r it.unit it.parcel) ≡ false → first_that_holds of_slice ≡ first_that_holds of_register
+      rest : not (has_parcel_in r it.unit it.parcel) ≡ false → first_refusal_of of_slice ≡ first_refusal_of of_register
       rest there =
-          ap (λ b. first_that_holds ((TooMany, b) ∷ (ClockOut, is_none stamp) ∷ (NotMatched, is_lost s) ∷ [])) many_agrees
-          ∙ ap (λ b. first_that_holds ((TooMany, is_many r) ∷ (ClockOut, is_none stamp) ∷ (NotMatched, b) ∷ [])) (lost_agrees (not-false _ there))
+          ap (λ b. first_refusal_of ((TooMany, b) ∷ (ClockOut, is_none stamp) ∷ (NotMatched, is_lost s) ∷ [])) many_agrees
+          ∙ ap (λ b. first_refusal_of ((TooMany, is_many r) ∷ (ClockOut, is_none stamp) ∷ (NotMatched, b) ∷ [])) (lost_agrees (not-false _ there))
 
-      parcel : first_that_holds ((NoSuchParcel, not (has_parcel_in s it.unit it.parcel)) ∷ of_slice) ≡ first_that_holds ((NoSuchParcel, not (has_parcel_in r it.unit it.parcel)) ∷ of_register)
+      parcel : first_refusal_of ((NoSuchParcel, not (has_parcel_in s it.unit it.parcel)) ∷ of_slice) ≡ first_refusal_of ((NoSuchParcel, not (has_parcel_in r it.unit it.parcel)) ∷ of_register)
       parcel =
-          ap (λ b. first_that_holds ((NoSuchParcel, not b) ∷ of_slice)) has_parcel_agrees
+          ap (λ b. first_refusal_of ((NoSuchParcel, not b) ∷ of_slice)) has_parcel_agrees
           ∙ later_lines NoSuchParcel (not (has_parcel_in r it.unit it.parcel)) of_slice of_register rest
 
   pub subdivision_change_agrees : (source : ℕ) → subdivision_change s source it ≡ subdivision_change r source it

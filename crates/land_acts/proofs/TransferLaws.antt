@@ -4,10 +4,10 @@ use Rattle.std.specs.Prelude.{ℤ}
 use Rattle.land_acts.proofs.TransferShares.{same_some}
 use Rattle.land_acts.proofs.Transfers.{receiver_has_one_right, transferred_keeps_sum}
 use Rattle.land_acts.proofs.UnrefusedContents.{IsUnrefusedMove, unrefused_move}
-use Rattle.land_acts.specs.Mutations.Planning.{first_that_holds}
+use Rattle.land_acts.specs.Mutations.Planning.{first_refusal_of}
 use Rattle.land_acts.specs.Mutations.TransferLaws.{ReceiversHaveOneRight, TransfersKeepSums}
-use Rattle.land_acts.specs.Mutations.Transferring.{are_too_fine, held_at, is_itself, is_too_large, transfer_refusals}
-use Rattle.land_acts.specs.declared.mutations.transfer.Held.{Held}
+use Rattle.land_acts.specs.Mutations.Transferring.{are_too_fine, right_at, gives_to_itself, is_too_large, transfer_refusals}
+use Rattle.land_acts.specs.declared.mutations.transfer.HeldRight.{HeldRight}
 use Rattle.land_core.specs.declared.content.Transfer.{Transfer}
 use Rattle.land_core.specs.declared.register.Register.{Register}
 use Rattle.land_fraction.proofs.Wholes.{the_wholeness, wholeness-is}
@@ -18,12 +18,12 @@ use Rattle.land_fraction.specs.declared.lists.Whole.{Whole}
 pub whole_law : WholenessLaw
 whole_law shares whole = (the_wholeness shares whole, λ e. subst (λ (w : Whole). IsWholeness shares w) (sym e) (wholeness-is shares))
 
-module _ (r : Register) (it : Transfer) (from : Held) (stamp : ℤ) (none : first_that_holds (transfer_refusals r it (Some stamp)) ≡ None) (held : held_at r it.unit it.right ≡ Some from) where
+module _ (r : Register) (it : Transfer) (from : HeldRight) (stamp : ℤ) (none : first_refusal_of (transfer_refusals r it (Some stamp)) ≡ None) (held : right_at r it.unit it.right ≡ Some from) where
   move : IsUnrefusedMove r it
   move = unrefused_move r it (Some stamp) none
 
   -- a condition on the right that the transfer finds is a condition on this one
-  of_right : (P : Held → Type 0) → P move.from → P from
+  of_right : (P : HeldRight → Type 0) → P move.from → P from
   of_right P = subst P (same_some (sym move.held ∙ held))
 
   not_large : is_too_large r it from ≡ false
@@ -32,8 +32,8 @@ module _ (r : Register) (it : Transfer) (from : Held) (stamp : ℤ) (none : firs
   not_fine : are_too_fine r it from ≡ false
   not_fine = of_right (λ h. are_too_fine r it h ≡ false) move.not_fine
 
-  other : is_itself it from ≡ false
-  other = of_right (λ h. is_itself it h ≡ false) move.other
+  other : gives_to_itself it from ≡ false
+  other = of_right (λ h. gives_to_itself it h ≡ false) move.other
 
 pub transfers_keep_sums : TransfersKeepSums
 transfers_keep_sums r source it from stamp parts sound none held =

@@ -11,11 +11,11 @@ use Rattle.land_acts.proofs.TransferMoves.{IsBefore, IsMoved, each_entry, moved_
 use Rattle.land_acts.proofs.TransferShares.{same_some}
 use Rattle.land_acts.proofs.TransferSums.{apart_from, length-filter, weigh_map, weight_of}
 use Rattle.land_acts.specs.Mutations.Transferring.{right_entry}
-use Rattle.land_acts.specs.declared.mutations.transfer.Held.{Held}
+use Rattle.land_acts.specs.declared.mutations.transfer.HeldRight.{HeldRight}
 use Rattle.land_core.proofs.FiniteMaps.{none_is_not_some}
-use Rattle.land_core.proofs.LookUps.{one_type}
+use Rattle.land_core.proofs.RecordLookups.{one_type}
 use Rattle.land_core.specs.Entries.{has}
-use Rattle.land_core.specs.Laws.{EntryRefers, GoTogether, HasOwner, IsInUse, IsSoundByLookUps, IsSoundUnit}
+use Rattle.land_core.specs.Laws.{EntryRefers, GoTogether, HasOwner, IsInUse, IsSoundByNumber, IsSoundUnit}
 use Rattle.land_core.specs.Units.{is_type, rank_of, rrr_count, type_of, type_shares}
 use Rattle.land_core.specs.declared.register.Register.{Register}
 use Rattle.land_core.specs.declared.rrr.Class.{Class}
@@ -54,7 +54,7 @@ turned e f h = record {
 right_is : (it : Class) (type : RightType) (share : Ratio) → it ≡ class.Right type share → (type_of it ≡ Some type) × (rank_of it ≡ None)
 right_is it type share is = (ap type_of is, ap rank_of is)
 
-module _ (r : Register) (rrrs : FinMap nat_cmp RrrRecord) (unit receiver source : ℕ) (from : Held) (left : Option Ratio) (number : ℕ) (share : Ratio) (to : Option Held)
+module _ (r : Register) (rrrs : FinMap nat_cmp RrrRecord) (unit receiver source : ℕ) (from : HeldRight) (left : Option Ratio) (number : ℕ) (share : Ratio) (to : Option HeldRight)
     (moved : IsMoved r rrrs unit receiver source from left number share to) where
   -- the earlier entry in the place of a current one
   record Follows (n : ℕ) (e : RrrRecord) : Type 0 where
@@ -87,7 +87,7 @@ module _ (r : Register) (rrrs : FinMap nat_cmp RrrRecord) (unit receiver source 
             like = record { unit = sym moved.first.in_unit; party = sym moved.first.party; type = sym is.0; rank = sym is.1 };
           }
 
-      second : (o : Option Held) → IsBefore r unit receiver from.right_type number o
+      second : (o : Option HeldRight) → IsBefore r unit receiver from.right_type number o
           → Follows number (right_entry unit receiver from.right_type share source) ⊎ IsNew number (right_entry unit receiver from.right_type share source)
       second None h = inr (record { number_is = refl; unit_is = refl; party_is = refl; type_is = refl; rank_is = refl; alone = h.1 })
       second (Some held) h =
@@ -155,7 +155,7 @@ module _ (r : Register) (rrrs : FinMap nat_cmp RrrRecord) (unit receiver source 
         receives : unit ≡ n → Some from.right_type ≡ Some Ownership → HasOwner new n
         receives in_unit owns = record { number = number; entry = right_entry unit receiver from.right_type share source; there = moved.at_second; in_unit = in_unit; owns = owns }
 
-        grows : map.get r.rrrs number ≡ Some h.entry → (o : Option Held) → IsBefore r unit receiver from.right_type number o → HasOwner new n
+        grows : map.get r.rrrs number ≡ Some h.entry → (o : Option HeldRight) → IsBefore r unit receiver from.right_type number o → HasOwner new n
         grows there None before = absurd (none_is_not_some (sym before.0 ∙ there))
         grows there (Some held) before =
             let right = before.0.held_right in
@@ -178,8 +178,8 @@ module _ (r : Register) (rrrs : FinMap nat_cmp RrrRecord) (unit receiver source 
         not_more c None = omega arith
         not_more c (Some s) = omega arith
 
-        by_before : (o : Option Held) → to ≡ o → (unit ≡ n) ⊎ ◌≡◌ {A = ℕ} (cond (nat_eq unit n) 1 0) 0
-            → weigh_map (λ e. cond (nat_eq e.unit n) 1 0) rrrs + (cond (nat_eq unit n) 1 0 + weight_of (λ (held : Held). cond (nat_eq unit n) 1 0) o)
+        by_before : (o : Option HeldRight) → to ≡ o → (unit ≡ n) ⊎ ◌≡◌ {A = ℕ} (cond (nat_eq unit n) 1 0) 0
+            → weigh_map (λ e. cond (nat_eq e.unit n) 1 0) rrrs + (cond (nat_eq unit n) 1 0 + weight_of (λ (held : HeldRight). cond (nat_eq unit n) 1 0) o)
             ≡ weigh_map (λ e. cond (nat_eq e.unit n) 1 0) r.rrrs + (weight_of (λ (s : Ratio). cond (nat_eq unit n) 1 0) left + cond (nat_eq unit n) 1 0)
             → rrr_count new n ≡ weigh_map (λ e. cond (nat_eq e.unit n) 1 0) rrrs → rrr_count r n ≡ weigh_map (λ e. cond (nat_eq e.unit n) 1 0) r.rrrs
             → weight_of (λ (s : Ratio). cond (nat_eq unit n) 1 0) left ≤ cond (nat_eq unit n) 1 0 → rrr_count new n ≤ 256
@@ -203,8 +203,8 @@ module _ (r : Register) (rrrs : FinMap nat_cmp RrrRecord) (unit receiver source 
               (before.whole checked t (λ none. some (none_other r rrrs unit receiver source from left number share to moved n t other none)))
         ] refl
 
-    pub moved_is_sound : IsSoundByLookUps r → r.next ≤ next → next ≤ 1000000001 → 0 < number → number < next → has r.sources source ≡ true → has r.parties receiver ≡ true
-        → (to ≡ None → rrr_count new unit ≤ 256) → ((u : UnitRecord) → map.get r.units unit ≡ Some u → u.checked ≡ true → IsWhole (type_shares new unit from.right_type)) → IsSoundByLookUps new
+    pub moved_is_sound : IsSoundByNumber r → r.next ≤ next → next ≤ 1000000001 → 0 < number → number < next → has r.sources source ≡ true → has r.parties receiver ≡ true
+        → (to ≡ None → rrr_count new unit ≤ 256) → ((u : UnitRecord) → map.get r.units unit ≡ Some u → u.checked ≡ true → IsWhole (type_shares new unit from.right_type)) → IsSoundByNumber new
     moved_is_sound before grows room above below has_source has_receiver few whole = record {
       room = room;
       numbers_of_parties = λ n party is. still (before.numbers_of_parties n party is);

@@ -10,7 +10,7 @@ use Rattle.land_acts.proofs.Numbers.{one_number}
 use Rattle.land_acts.proofs.TransferShares.{IsHeldAt, IsHeldBy, multiple_at, multiple_from, same_some}
 use Rattle.land_acts.proofs.TransferSums.{DifferAt, apart_from, length-weighed, part_of, parts-weighed, weigh, weigh-filter_map, weigh_map, weighed, weight_of}
 use Rattle.land_acts.specs.Mutations.Transferring.{right_entry}
-use Rattle.land_acts.specs.declared.mutations.transfer.Held.{Held}
+use Rattle.land_acts.specs.declared.mutations.transfer.HeldRight.{HeldRight}
 use Rattle.land_core.proofs.FiniteMaps.{none_is_not_some, nothing_from_length}
 use Rattle.land_core.specs.Units.{is_type, share_in, share_of, type_of}
 use Rattle.land_core.specs.declared.register.Register.{Register}
@@ -27,13 +27,13 @@ right_left unit party type source None = None
 right_left unit party type source (Some share) = Some (right_entry unit party type share source)
 
 -- the receiver's right before: either none at the number and none of the type, or this one
-abbrev pub IsBefore : Register → (unit receiver : ℕ) → RightType → (number : ℕ) → Option Held → Type 0
+abbrev pub IsBefore : Register → (unit receiver : ℕ) → RightType → (number : ℕ) → Option HeldRight → Type 0
 IsBefore r unit receiver type number None =
     (map.get r.rrrs number ≡ None) × ((n : ℕ) (e : RrrRecord) → map.get r.rrrs n ≡ Some e → e.unit ≡ unit → e.party ≡ receiver → type_of e.class ≢ Some type)
 IsBefore r unit receiver type number (Some to) = IsHeldBy r.rrrs unit receiver type to × (to.number ≡ number)
 
 -- the entries after the transfer
-pub record IsMoved (r : Register) (rrrs : FinMap nat_cmp RrrRecord) (unit receiver source : ℕ) (from : Held) (left : Option Ratio) (number : ℕ) (share : Ratio) (to : Option Held) : Type 0 where
+pub record IsMoved (r : Register) (rrrs : FinMap nat_cmp RrrRecord) (unit receiver source : ℕ) (from : HeldRight) (left : Option Ratio) (number : ℕ) (share : Ratio) (to : Option HeldRight) : Type 0 where
   pub first : IsHeldAt r.rrrs unit from
   pub differ : DifferAt r.rrrs rrrs from.number number
   pub at_first : map.get rrrs from.number ≡ right_left unit from.party from.right_type source left
@@ -60,7 +60,7 @@ no_weight : {X : Type 0} (o : Option X) → weight_of (λ x. 0) o ≡ 0
 no_weight None = refl
 no_weight (Some x) = refl
 
-module _ (r : Register) (rrrs : FinMap nat_cmp RrrRecord) (unit receiver source : ℕ) (from : Held) (left : Option Ratio) (number : ℕ) (share : Ratio) (to : Option Held)
+module _ (r : Register) (rrrs : FinMap nat_cmp RrrRecord) (unit receiver source : ℕ) (from : HeldRight) (left : Option Ratio) (number : ℕ) (share : Ratio) (to : Option HeldRight)
     (moved : IsMoved r rrrs unit receiver source from left number share to) where
   -- properties of the changed entries and of the others
   pub each_entry : (P : ℕ → RrrRecord → Type 0) → ((s : Ratio) → left ≡ Some s → P from.number (right_entry unit from.party from.right_type s source))
@@ -97,7 +97,7 @@ module _ (r : Register) (rrrs : FinMap nat_cmp RrrRecord) (unit receiver source 
       let second_after : weight_of w (map.get rrrs number) ≡ value share = ap (weight_of w) moved.at_second ∙ says (right_entry unit receiver from.right_type share source) share refl refl in
       omega (arith, sum, first_before, second_before, first_after, second_after)
     where
-      before : (o : Option Held) → IsBefore r unit receiver from.right_type number o → weight_of w (map.get r.rrrs number) ≡ weight_of (λ held. value held.share) o
+      before : (o : Option HeldRight) → IsBefore r unit receiver from.right_type number o → weight_of w (map.get r.rrrs number) ≡ weight_of (λ held. value held.share) o
       before None h = ap (weight_of w) h.0
       before (Some held) h =
           ap (weight_of w) (ap (map.get r.rrrs) (sym h.1) ∙ h.0.held_right.there)
@@ -112,7 +112,7 @@ module _ (r : Register) (rrrs : FinMap nat_cmp RrrRecord) (unit receiver source 
   shares_in m n t = filter_map (λ e. share_in n t e.1) (map.entries m)
 
   pub moved_sum : (value : Ratio → ℕ) (n : ℕ) (t : RightType) (b : Bool) → (nat_eq unit n && is_type from.right_type t) ≡ b
-      → weigh value (shares_in rrrs n t) + (cond b (value from.share) 0 + weight_of (λ (held : Held). cond b (value held.share) 0) to)
+      → weigh value (shares_in rrrs n t) + (cond b (value from.share) 0 + weight_of (λ (held : HeldRight). cond b (value held.share) 0) to)
       ≡ weigh value (shares_in r.rrrs n t) + (weight_of (λ s. cond b (value s) 0) left + cond b (value share) 0)
   moved_sum value n t b test =
       let all = measured (λ e. weight_of value (share_in n t e)) (λ s. cond b (value s) 0) says in
@@ -126,7 +126,7 @@ module _ (r : Register) (rrrs : FinMap nat_cmp RrrRecord) (unit receiver source 
 
   -- the number of entries of a unit
   pub moved_count : (n : ℕ)
-      → weigh_map (λ e. cond (nat_eq e.unit n) 1 0) rrrs + (cond (nat_eq unit n) 1 0 + weight_of (λ (held : Held). cond (nat_eq unit n) 1 0) to)
+      → weigh_map (λ e. cond (nat_eq e.unit n) 1 0) rrrs + (cond (nat_eq unit n) 1 0 + weight_of (λ (held : HeldRight). cond (nat_eq unit n) 1 0) to)
       ≡ weigh_map (λ e. cond (nat_eq e.unit n) 1 0) r.rrrs + (weight_of (λ (s : Ratio). cond (nat_eq unit n) 1 0) left + cond (nat_eq unit n) 1 0)
   moved_count n = measured (λ e. cond (nat_eq e.unit n) 1 0) (λ s. cond (nat_eq unit n) 1 0) (λ e s in_unit is. ap (λ (u : ℕ). cond (nat_eq u n) 1 0) in_unit)
 

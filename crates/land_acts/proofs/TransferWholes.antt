@@ -15,9 +15,9 @@ use Rattle.std.proofs.lemmas.Cmp.{nat_eq_equiv}
 use Rattle.land_acts.proofs.TransferMoves.{IsBefore, IsMoved, each_entry, moved_sum, right_left, share_at}
 use Rattle.land_acts.proofs.TransferShares.{each_share, multiple_at, multiple_from}
 use Rattle.land_acts.proofs.TransferSums.{part_of, parts-weighed, weigh, weigh-filter_map, weigh_map, weight_of, without_one}
-use Rattle.land_acts.specs.Mutations.Transferring.{is_above, is_too_fine, right_entry, share_grown, share_left}
-use Rattle.land_acts.specs.declared.mutations.transfer.Held.{Held}
-use Rattle.land_core.proofs.LookUps.{type_itself}
+use Rattle.land_acts.specs.Mutations.Transferring.{is_above, is_too_fine, right_entry, increased_share, remaining_share}
+use Rattle.land_acts.specs.declared.mutations.transfer.HeldRight.{HeldRight}
+use Rattle.land_core.proofs.RecordLookups.{type_itself}
 use Rattle.land_core.specs.Units.{is_type, share_in}
 use Rattle.land_core.specs.declared.content.Transfer.{Transfer}
 use Rattle.land_core.specs.declared.register.Register.{Register}
@@ -28,8 +28,8 @@ use Rattle.land_fraction.proofs.Fractions.{answered, denominator_pos, pos_first}
 use Rattle.land_fraction.proofs.Moves.{parts-difference, parts-sum, sum_answer, wholeness-kept}
 use Rattle.land_fraction.proofs.Multiples.{parts_of-times}
 use Rattle.land_fraction.proofs.Wholes.{the_wholeness, wholeness-is}
-use Rattle.land_fraction.specs.Answer.{IsAnswer, fraction_of}
-use Rattle.land_fraction.specs.Ratio.{Ratio, difference_of, sum_of, finest}
+use Rattle.land_fraction.specs.Answer.{IsFractionOrFault, fraction_of}
+use Rattle.land_fraction.specs.Ratio.{Ratio, difference_of, sum_of, max_denominator}
 use Rattle.land_fraction.specs.Wholeness.{IsCommonMultiple, IsTooFine, IsWhole, IsWholeness, parts_of, wholeness}
 use Rattle.land_fraction.specs.declared.fault.FractionFault.{FractionFault}
 use Rattle.land_fraction.specs.declared.fault.FractionFault.TheVariants.{Zero, AboveOne, TooFine}
@@ -68,7 +68,7 @@ Each P (Some x) = P x
 
 -- no share remains if all of it was transferred
 all_gone : (m : ℕ) (a share : Ratio) → 0 < m → a.denominator ∣ m → share.denominator ∣ m → share.numerator * a.denominator ≤ a.numerator * share.denominator
-    → IsAnswer (difference_of a share) (Err Zero) → part_of m share ≡ part_of m a
+    → IsFractionOrFault (difference_of a share) (Err Zero) → part_of m share ≡ part_of m a
 all_gone m a share above ha hs upto (inl none) =
     let gone : a.numerator * share.denominator - share.numerator * a.denominator ≡ 0 = none in
     let same : share.numerator * a.denominator ≡ a.numerator * share.denominator = omega arith in
@@ -78,7 +78,7 @@ all_gone m a share above ha hs upto (inr none) =
     let pos = mul-pos (pos_of_dvd_of_pos ha above) (pos_of_dvd_of_pos hs above) in
     absurd (omega (arith, gone, pos))
 
-not_more_left : (a share : Ratio) → a.numerator ≤ a.denominator → IsAnswer (difference_of a share) (Err AboveOne) → ⊥
+not_more_left : (a share : Ratio) → a.numerator ≤ a.denominator → IsFractionOrFault (difference_of a share) (Err AboveOne) → ⊥
 not_more_left a share upto h =
     let more : a.denominator * share.denominator < a.numerator * share.denominator - share.numerator * a.denominator = h.2 in
     let whole : a.numerator * share.denominator ≤ a.denominator * share.denominator = mul-le-mul_right share.denominator upto in
@@ -91,26 +91,26 @@ left_parts m a share (Ok left) e coarse upto above ha hs hl one =
     let same : 0 + part_of m left + part_of m share ≡ 0 + part_of m a = parts-difference m a share left e above ha hs hl in
     omega (arith, same)
 left_parts m a share (Err Zero) e coarse upto above ha hs hl one =
-    let gone = all_gone m a share above ha hs upto (subst (λ (o : Result Ratio FractionFault). IsAnswer (difference_of a share) o) e (answered (difference_of a share))) in
+    let gone = all_gone m a share above ha hs upto (subst (λ (o : Result Ratio FractionFault). IsFractionOrFault (difference_of a share) o) e (answered (difference_of a share))) in
     omega (arith, gone)
 left_parts m a share (Err AboveOne) e coarse upto above ha hs hl one =
-    absurd (not_more_left a share one (subst (λ (o : Result Ratio FractionFault). IsAnswer (difference_of a share) o) e (answered (difference_of a share))))
+    absurd (not_more_left a share one (subst (λ (o : Result Ratio FractionFault). IsFractionOrFault (difference_of a share) o) e (answered (difference_of a share))))
 left_parts m a share (Err TooFine) e coarse upto above ha hs hl one = absurd (false≢true (sym coarse))
 
 -- the receiver's share afterwards: the transferred share, or its sum with the earlier one
-abbrev pub IsGrown : Transfer → (share : Ratio) → Option Held → Type 0
+abbrev pub IsGrown : Transfer → (share : Ratio) → Option HeldRight → Type 0
 IsGrown it share None = share ≡ it.share
-IsGrown it share (Some held) = share_grown it held ≡ Ok share
+IsGrown it share (Some held) = increased_share it held ≡ Ok share
 
-grown_parts : (m : ℕ) (it : Transfer) (share : Ratio) (to : Option Held) → IsGrown it share to → 0 < m → it.share.denominator ∣ m → share.denominator ∣ m → Each (λ (held : Held). held.share.denominator ∣ m) to
-    → part_of m share ≡ part_of m it.share + weight_of (λ (held : Held). part_of m held.share) to
+grown_parts : (m : ℕ) (it : Transfer) (share : Ratio) (to : Option HeldRight) → IsGrown it share to → 0 < m → it.share.denominator ∣ m → share.denominator ∣ m → Each (λ (held : HeldRight). held.share.denominator ∣ m) to
+    → part_of m share ≡ part_of m it.share + weight_of (λ (held : HeldRight). part_of m held.share) to
 grown_parts m it share None e above hs hg ht = let same : part_of m share ≡ part_of m it.share = ap (part_of m) e in omega (arith, same)
 grown_parts m it share (Some held) e above hs hg ht =
     let same : 0 + part_of m held.share + part_of m it.share ≡ 0 + part_of m share = parts-sum m held.share it.share share e above ht hs hg in
     omega (arith, same)
 
 -- the denominator of the transferred share is positive if that of the receiver's share is
-moved_pos : (it : Transfer) (share : Ratio) (to : Option Held) → IsGrown it share to → 0 < share.denominator → 0 < it.share.denominator
+moved_pos : (it : Transfer) (share : Ratio) (to : Option HeldRight) → IsGrown it share to → 0 < share.denominator → 0 < it.share.denominator
 moved_pos it share None e above = subst (λ (s : Ratio). 0 < s.denominator) e above
 moved_pos it share (Some held) e above =
     pos_first it.share.denominator held.share.denominator (held.share.denominator * it.share.denominator) (omega arith)
@@ -125,7 +125,7 @@ finer_multiple m many shares above divides h = record {
   of_all = All-weaker (λ (s : Ratio). s.denominator ∣ m) (λ (s : Ratio). s.denominator ∣ many) (λ s p. dvd_trans s.denominator p divides) shares h.of_all;
 }
 
-module _ (r : Register) (rrrs : FinMap nat_cmp RrrRecord) (unit receiver source : ℕ) (from : Held) (left : Option Ratio) (number : ℕ) (share : Ratio) (to : Option Held)
+module _ (r : Register) (rrrs : FinMap nat_cmp RrrRecord) (unit receiver source : ℕ) (from : HeldRight) (left : Option Ratio) (number : ℕ) (share : Ratio) (to : Option HeldRight)
     (moved : IsMoved r rrrs unit receiver source from left number share to) where
   abbrev type : RightType
   type = from.right_type
@@ -146,7 +146,7 @@ module _ (r : Register) (rrrs : FinMap nat_cmp RrrRecord) (unit receiver source 
   from_divides : (m : ℕ) → IsCommonMultiple m old_shares → from.share.denominator ∣ m
   from_divides m h = multiple_at r.rrrs unit type m h from.number moved.first.entry from.share moved.first.there (share_here moved.first.entry from.share moved.first.in_unit moved.first.class)
 
-  to_divides : (m : ℕ) → IsCommonMultiple m old_shares → (o : Option Held) → IsBefore r unit receiver type number o → Each (λ (held : Held). held.share.denominator ∣ m) o
+  to_divides : (m : ℕ) → IsCommonMultiple m old_shares → (o : Option HeldRight) → IsBefore r unit receiver type number o → Each (λ (held : HeldRight). held.share.denominator ∣ m) o
   to_divides m h None before = tt
   to_divides m h (Some held) before =
       let right = before.0.held_right in
@@ -192,42 +192,42 @@ module _ (r : Register) (rrrs : FinMap nat_cmp RrrRecord) (unit receiver source 
 
   -- the sum of the shares is preserved, in parts whose count is a multiple of the denominator of the
   -- transferred share
-  even_sum : (it : Transfer) (o : Result Ratio FractionFault) → share_left it from ≡ o → left ≡ left_of o → is_too_fine o ≡ false → is_above it from ≡ false → IsGrown it share to
+  even_sum : (it : Transfer) (o : Result Ratio FractionFault) → remaining_share it from ≡ o → left ≡ left_of o → is_too_fine o ≡ false → is_above it from ≡ false → IsGrown it share to
       → from.share.numerator ≤ from.share.denominator → (parts : ℕ) → IsCommonMultiple parts old_shares → IsCommonMultiple parts new_shares → it.share.denominator ∣ parts
       → parts_of parts new_shares ≡ parts_of parts old_shares
-  even_sum it o is_left left_is coarse not_above grown one parts first second moves =
+  even_sum it o is_left left_is coarse not_above increased_entry one parts first second moves =
       let upto : it.share.numerator * from.share.denominator ≤ from.share.numerator * it.share.denominator = ltb-false (from.share.numerator * it.share.denominator) (it.share.numerator * from.share.denominator) not_above in
       let kept : weight_of (part_of parts) left + part_of parts it.share ≡ part_of parts from.share =
       ap (λ (l : Option Ratio). weight_of (part_of parts) l + part_of parts it.share) left_is
       ∙ left_parts parts from.share it.share o is_left coarse upto first.positive (from_divides parts first) moves (left_divides parts second (left_of o) left_is) one in
-      let added = grown_parts parts it share to grown first.positive moves (share_divides parts second) (to_divides parts first to moved.second) in
-      let sum : weigh (part_of parts) new_shares + (part_of parts from.share + weight_of (λ (held : Held). part_of parts held.share) to)
+      let added = grown_parts parts it share to increased_entry first.positive moves (share_divides parts second) (to_divides parts first to moved.second) in
+      let sum : weigh (part_of parts) new_shares + (part_of parts from.share + weight_of (λ (held : HeldRight). part_of parts held.share) to)
       ≡ weigh (part_of parts) old_shares + (weight_of (part_of parts) left + part_of parts share) = moved_sum r rrrs unit receiver source from left number share to moved (part_of parts) unit type true is_here in
       let before = parts-weighed parts old_shares in
       let after = parts-weighed parts new_shares in
       omega (arith, kept, added, sum, before, after)
 
   -- and so for each common multiple of the shares before and after
-  pub sum_kept : (it : Transfer) (o : Result Ratio FractionFault) → share_left it from ≡ o → left ≡ left_of o → is_too_fine o ≡ false → is_above it from ≡ false → IsGrown it share to
+  pub sum_kept : (it : Transfer) (o : Result Ratio FractionFault) → remaining_share it from ≡ o → left ≡ left_of o → is_too_fine o ≡ false → is_above it from ≡ false → IsGrown it share to
       → from.share.numerator ≤ from.share.denominator → (parts : ℕ) → IsCommonMultiple parts old_shares → IsCommonMultiple parts new_shares → parts_of parts new_shares ≡ parts_of parts old_shares
-  sum_kept it o is_left left_is coarse not_above grown one parts first second =
+  sum_kept it o is_left left_is coarse not_above increased_entry one parts first second =
       let extra : ℕ = it.share.denominator in
-      let extra_pos : 0 < extra = moved_pos it share to grown (pos_of_dvd_of_pos (share_divides parts second) second.positive) in
+      let extra_pos : 0 < extra = moved_pos it share to increased_entry (pos_of_dvd_of_pos (share_divides parts second) second.positive) in
       let above : 0 < extra * parts = mul-pos extra_pos first.positive in
       let finer = dvd-mul_left parts extra in
-      let same = even_sum it o is_left left_is coarse not_above grown one (extra * parts) (finer_multiple parts (extra * parts) old_shares above finer first) (finer_multiple parts (extra * parts) new_shares above finer second)
+      let same = even_sum it o is_left left_is coarse not_above increased_entry one (extra * parts) (finer_multiple parts (extra * parts) old_shares above finer first) (finer_multiple parts (extra * parts) new_shares above finer second)
       (dvd-mul_right extra parts) in
       eq_of_mul-eq-mul_left extra extra_pos (parts_of parts new_shares) (parts_of parts old_shares)
       (sym (parts_of-times extra parts new_shares second.of_all) ∙ same ∙ parts_of-times extra parts old_shares first.of_all)
 
-  pub whole_kept : (it : Transfer) (o : Result Ratio FractionFault) → share_left it from ≡ o → left ≡ left_of o → is_too_fine o ≡ false → is_above it from ≡ false → IsGrown it share to
-      → (m : ℕ) → m ≤ finest → IsCommonMultiple m new_shares → IsWhole old_shares → IsWhole new_shares
-  whole_kept it o is_left left_is coarse not_above grown m fits multiple was =
+  pub whole_kept : (it : Transfer) (o : Result Ratio FractionFault) → remaining_share it from ≡ o → left ≡ left_of o → is_too_fine o ≡ false → is_above it from ≡ false → IsGrown it share to
+      → (m : ℕ) → m ≤ max_denominator → IsCommonMultiple m new_shares → IsWhole old_shares → IsWhole new_shares
+  whole_kept it o is_left left_is coarse not_above increased_entry m fits multiple was =
       let many : ℕ = was.0 * m in
       let above : 0 < many = mul-pos was.2.positive multiple.positive in
       let first : IsCommonMultiple many old_shares = finer_multiple was.0 many old_shares above (dvd-mul_right was.0 m) was.2 in
       let second : IsCommonMultiple many new_shares = finer_multiple m many new_shares above (dvd-mul_left m was.0) multiple in
-      let same = sum_kept it o is_left left_is coarse not_above grown (from_at_most_one was) many first second in
+      let same = sum_kept it o is_left left_is coarse not_above increased_entry (from_at_most_one was) many first second in
       let yes = wholeness-kept old_shares new_shares (record { parts = many; first = first; second = second; same = sym same }) (sym (the_wholeness old_shares whole.Yes was))
       (λ fine. let more = too_fine fine m multiple in omega (arith, more, fits)) in
       subst (λ (w : Whole). IsWholeness new_shares w) yes (wholeness-is new_shares)

@@ -14,16 +14,16 @@ use Rattle.land_acts.proofs.TransferMoves.{IsBefore, IsMoved, moved_count, right
 use Rattle.land_acts.proofs.TransferShares.{IsHeldAt, IsHeldBy, held_there, held_by_there, none_held_by, same_some}
 use Rattle.land_acts.proofs.TransferSums.{apart_to, length-filter}
 use Rattle.land_acts.proofs.TransferWholes.{IsGrown, any_source, from_at_most_one, had_some, left_of, sum_kept, whole_kept}
-use Rattle.land_acts.specs.Mutations.Planning.{lacks_numbers}
+use Rattle.land_acts.specs.Mutations.Planning.{runs_out_of_numbers}
 use Rattle.land_acts.specs.Mutations.TransferLaws.{HasOneRight, IsRightOf}
-use Rattle.land_acts.specs.Mutations.Transferring.{are_too_fine, are_too_many, given_up, grown, grows_at, held_at, is_above, is_above_one, is_checked, is_itself, is_too_fine, is_too_large, kept, move_change, number_after, received, right_entry, share_grown, share_left}
-use Rattle.land_acts.specs.declared.mutations.transfer.Held.{Held}
+use Rattle.land_acts.specs.Mutations.Transferring.{are_too_fine, are_too_many, ended_rights, increased_entry, right_of_receiver, right_at, is_above, is_above_one, is_checked, gives_to_itself, is_too_fine, is_too_large, kept, move_change, number_after, entries_of_receiver, right_entry, increased_share, remaining_share}
+use Rattle.land_acts.specs.declared.mutations.transfer.HeldRight.{HeldRight}
 use Rattle.land_core.proofs.FiniteMaps.{none_is_not_some}
-use Rattle.land_core.proofs.LookUps.{by_look_ups}
+use Rattle.land_core.proofs.RecordLookups.{by_look_ups}
 use Rattle.land_core.proofs.SoundRegisters.{are_used, refers, used_bounds, used_from}
 use Rattle.land_core.specs.Changes.{after, NamesKeysOnce}
-use Rattle.land_core.specs.Entries.{has, updated, are_distinct}
-use Rattle.land_core.specs.Laws.{IsSoundByLookUps}
+use Rattle.land_core.specs.Entries.{has, with_changes, are_distinct}
+use Rattle.land_core.specs.Laws.{IsSoundByNumber}
 use Rattle.land_core.specs.Soundness.{IsSound}
 use Rattle.land_core.specs.Units.{rrr_count, type_shares}
 use Rattle.land_core.specs.declared.content.Transfer.{Transfer}
@@ -52,20 +52,20 @@ module _ (m : FinMap nat_cmp RrrRecord) (k : ℕ) where
   removed_else n apart = map.get-remove nat_cmp_total m k n ∙ ap (λ b. cond b None (map.get m n)) (apart_to n k apart)
 
 -- the number of the receiver's right
-abbrev pub number_of_right : Register → Option Held → ℕ
+abbrev pub number_of_right : Register → Option HeldRight → ℕ
 number_of_right r None = r.next
 number_of_right r (Some held) = held.number
 
-module _ (r : Register) (it : Transfer) (from : Held) where
+module _ (r : Register) (it : Transfer) (from : HeldRight) where
   -- the entries after the transfer, from the remaining share and the receiver's earlier right
-  abbrev entries_after : (source : ℕ) → Result Ratio FractionFault → Option Held → FinMap nat_cmp RrrRecord
-  entries_after source left to = updated r.rrrs (kept source it from left ++ received r source it from to) (given_up from left)
+  abbrev entries_after : (source : ℕ) → Result Ratio FractionFault → Option HeldRight → FinMap nat_cmp RrrRecord
+  entries_after source left to = with_changes r.rrrs (kept source it from left ++ entries_of_receiver r source it from to) (ended_rights from left)
 
-  abbrev register_after : (source : ℕ) → Option Held → Register
-  register_after source to = record r { rrrs = entries_after source (share_left it from) to; next = number_after r to }
+  abbrev register_after : (source : ℕ) → Option HeldRight → Register
+  register_after source to = record r { rrrs = entries_after source (remaining_share it from) to; next = number_after r to }
 
-  module _ (source number : ℕ) (share : Ratio) (to : Option Held) (first : IsHeldAt r.rrrs it.unit from) (apart : from.number ≢ number)
-      (got : received r source it from to ≡ (number, right_entry it.unit it.receiver from.right_type share source) ∷ []) (second : IsBefore r it.unit it.receiver from.right_type number to) where
+  module _ (source number : ℕ) (share : Ratio) (to : Option HeldRight) (first : IsHeldAt r.rrrs it.unit from) (apart : from.number ≢ number)
+      (got : entries_of_receiver r source it from to ≡ (number, right_entry it.unit it.receiver from.right_type share source) ∷ []) (second : IsBefore r it.unit it.receiver from.right_type number to) where
     moved : (left : Result Ratio FractionFault) → IsMoved r (entries_after source left to) it.unit it.receiver source from (left_of left) number share to
     moved left = record {
       first = first;
@@ -85,9 +85,9 @@ module _ (r : Register) (it : Transfer) (from : Held) where
 
         both_changed : (left : Result Ratio FractionFault) → entries_after source left to ≡ map.insert (one_changed left) number entry
         both_changed (Ok s) =
-            ap (λ (put : List (ℕ × RrrRecord)). updated r.rrrs (kept source it from (Ok s) ++ put) []) got
+            ap (λ (put : List (ℕ × RrrRecord)). with_changes r.rrrs (kept source it from (Ok s) ++ put) []) got
         both_changed (Err fault) =
-            ap (λ (put : List (ℕ × RrrRecord)). updated r.rrrs put (from.number ∷ [])) got
+            ap (λ (put : List (ℕ × RrrRecord)). with_changes r.rrrs put (from.number ∷ [])) got
 
         at_first : (left : Result Ratio FractionFault) → map.get (entries_after source left to) from.number ≡ right_left it.unit from.party from.right_type source (left_of left)
         at_first left = ap (λ (m : FinMap nat_cmp RrrRecord). map.get m from.number) (both_changed left) ∙ inserted_else (one_changed left) number entry from.number apart ∙ one left
@@ -108,75 +108,75 @@ module _ (r : Register) (it : Transfer) (from : Held) where
 
   -- ---- if no refusal applies
 
-  abbrev too_large : Option Held → Bool
-  too_large to = is_above it from || not (is_itself it from) && option_map_or (λ held. is_above_one (share_grown it held)) to false
+  abbrev too_large : Option HeldRight → Bool
+  too_large to = is_above it from || not (gives_to_itself it from) && option_map_or (λ held. is_above_one (increased_share it held)) to false
 
-  abbrev too_fine : Option Held → Bool
+  abbrev too_fine : Option HeldRight → Bool
   too_fine to =
-      not (is_itself it from)
-      && (is_too_fine (share_left it from) || option_map_or (λ held. is_too_fine (share_grown it held)) to false
+      not (gives_to_itself it from)
+      && (is_too_fine (remaining_share it from) || option_map_or (λ held. is_too_fine (increased_share it held)) to false
       || is_checked r it.unit && is_none (common_of (type_shares (register_after 0 to) it.unit from.right_type)))
 
-  abbrev too_many : Option Held → Bool
-  too_many to = is_none to && (lacks_numbers r 1 || nat_lt 256 (rrr_count (register_after 0 to) it.unit))
+  abbrev too_many : Option HeldRight → Bool
+  too_many to = is_none to && (runs_out_of_numbers r 1 || nat_lt 256 (rrr_count (register_after 0 to) it.unit))
 
-  record IsAllowed (to : Option Held) : Type 0 where
+  record IsAllowed (to : Option HeldRight) : Type 0 where
     not_above : is_above it from ≡ false
-    within_one : option_map_or (λ held. is_above_one (share_grown it held)) to false ≡ false
-    left_coarse : is_too_fine (share_left it from) ≡ false
-    grown_coarse : option_map_or (λ held. is_too_fine (share_grown it held)) to false ≡ false
+    within_one : option_map_or (λ held. is_above_one (increased_share it held)) to false ≡ false
+    left_coarse : is_too_fine (remaining_share it from) ≡ false
+    grown_coarse : option_map_or (λ held. is_too_fine (increased_share it held)) to false ≡ false
     shares_coarse : is_checked r it.unit ≡ true → is_none (common_of (type_shares (register_after 0 to) it.unit from.right_type)) ≡ false
 
-  allowed : (to : Option Held) → is_itself it from ≡ false → too_large to ≡ false → too_fine to ≡ false → IsAllowed to
+  allowed : (to : Option HeldRight) → gives_to_itself it from ≡ false → too_large to ≡ false → too_fine to ≡ false → IsAllowed to
   allowed to other large fine =
-      let sizes = or_parts (is_above it from) (not (is_itself it from) && option_map_or (λ held. is_above_one (share_grown it held)) to false) large in
+      let sizes = or_parts (is_above it from) (not (gives_to_itself it from) && option_map_or (λ held. is_above_one (increased_share it held)) to false) large in
       let all = sym (ap (λ b. not b
-      && (is_too_fine (share_left it from) || option_map_or (λ held. is_too_fine (share_grown it held)) to false
+      && (is_too_fine (remaining_share it from) || option_map_or (λ held. is_too_fine (increased_share it held)) to false
       || is_checked r it.unit && is_none (common_of (type_shares (register_after 0 to) it.unit from.right_type)))) other) ∙ fine in
-      let parts = or_parts (is_too_fine (share_left it from) || option_map_or (λ held. is_too_fine (share_grown it held)) to false)
+      let parts = or_parts (is_too_fine (remaining_share it from) || option_map_or (λ held. is_too_fine (increased_share it held)) to false)
       (is_checked r it.unit && is_none (common_of (type_shares (register_after 0 to) it.unit from.right_type))) all in
-      let changed = or_parts (is_too_fine (share_left it from)) (option_map_or (λ held. is_too_fine (share_grown it held)) to false) parts.0 in
+      let changed = or_parts (is_too_fine (remaining_share it from)) (option_map_or (λ held. is_too_fine (increased_share it held)) to false) parts.0 in
       record {
         not_above = sizes.0;
-        within_one = sym (ap (λ b. not b && option_map_or (λ held. is_above_one (share_grown it held)) to false) other) ∙ sizes.1;
+        within_one = sym (ap (λ b. not b && option_map_or (λ held. is_above_one (increased_share it held)) to false) other) ∙ sizes.1;
         left_coarse = changed.0;
         grown_coarse = changed.1;
         shares_coarse = λ checked. sym (ap (λ b. b && is_none (common_of (type_shares (register_after 0 to) it.unit from.right_type))) checked) ∙ parts.1;
       }
 
   -- the receiver's right is not the giver's
-  two_rights : {held : Held} → IsHeldAt r.rrrs it.unit from → IsHeldBy r.rrrs it.unit it.receiver from.right_type held → is_itself it from ≡ false → from.number ≢ held.number
+  two_rights : {held : HeldRight} → IsHeldAt r.rrrs it.unit from → IsHeldBy r.rrrs it.unit it.receiver from.right_type held → gives_to_itself it from ≡ false → from.number ≢ held.number
   two_rights first right other same =
       let one : first.entry ≡ right.held_right.entry = same_some (sym first.there ∙ ap (map.get r.rrrs) same ∙ right.held_right.there) in
       let party : from.party ≡ it.receiver = sym first.party ∙ ap (λ (e : RrrRecord). e.party) one ∙ right.held_right.party ∙ right.by_party in
       false≢true (sym other ∙ eq-eqb from.party it.receiver party)
 
   -- the change of the entries, for any source
-  record IsTransferred (to : Option Held) : Type 0 where
+  record IsTransferred (to : Option HeldRight) : Type 0 where
     number : ℕ
     share : Ratio
-    moved_by : (source : ℕ) → IsMoved r (entries_after source (share_left it from) to) it.unit it.receiver source from (left_of (share_left it from)) number share to
+    moved_by : (source : ℕ) → IsMoved r (entries_after source (remaining_share it from) to) it.unit it.receiver source from (left_of (remaining_share it from)) number share to
     has_grown : IsGrown it share to
     positive : 0 < number
     below : number < number_after r to
     grows : r.next ≤ number_after r to
 
   module _ (law : WholenessLaw) (sound : IsSound r) (first : IsHeldAt r.rrrs it.unit from) where
-    before : IsSoundByLookUps r
+    before : IsSoundByNumber r
     before = (by_look_ups law r).0 sound
 
     from_in_use : (0 < from.number) × (from.number < r.next)
     from_in_use = let it = before.numbers_of_entries from.number first.entry first.there in (it.positive, it.below)
 
     -- the receiver had no right of the type, and gets one
-    transferred_new : grows_at r it from ≡ None → IsTransferred None
+    transferred_new : right_of_receiver r it from ≡ None → IsTransferred None
     transferred_new none =
         let low = from_in_use.1 in
         let high = from_in_use.0 in
         record {
           number = r.next;
           share = it.share;
-          moved_by = λ source. moved source r.next it.share None first (λ same. fresh_apart same low) refl (next_free, none_held_by r it.unit it.receiver from.right_type none) (share_left it from);
+          moved_by = λ source. moved source r.next it.share None first (λ same. fresh_apart same low) refl (next_free, none_held_by r it.unit it.receiver from.right_type none) (remaining_share it from);
           has_grown = refl;
           positive = omega (arith, low, high);
           below = omega arith;
@@ -194,8 +194,8 @@ module _ (r : Register) (it : Transfer) (from : Held) where
         next_free = free (map.get r.rrrs r.next) refl
 
     -- the receiver had a right of the type, whose share increases
-    transferred_grown : (held : Held) → is_itself it from ≡ false → grows_at r it from ≡ Some held → IsAllowed (Some held) → IsTransferred (Some held)
-    transferred_grown held other some allow = by_sum (share_grown it held) refl allow.within_one allow.grown_coarse
+    transferred_grown : (held : HeldRight) → gives_to_itself it from ≡ false → right_of_receiver r it from ≡ Some held → IsAllowed (Some held) → IsTransferred (Some held)
+    transferred_grown held other some allow = by_sum (increased_share it held) refl allow.within_one allow.grown_coarse
       where
         right : IsHeldBy r.rrrs it.unit it.receiver from.right_type held
         right = held_by_there r it.unit it.receiver from.right_type held some
@@ -206,59 +206,59 @@ module _ (r : Register) (it : Transfer) (from : Held) where
         in_use : (0 < held.number) × (held.number < r.next)
         in_use = let it = before.numbers_of_entries held.number right.held_right.entry right.held_right.there in (it.positive, it.below)
 
-        by_sum : (o : Result Ratio FractionFault) → share_grown it held ≡ o → is_above_one o ≡ false → is_too_fine o ≡ false → IsTransferred (Some held)
+        by_sum : (o : Result Ratio FractionFault) → increased_share it held ≡ o → is_above_one o ≡ false → is_too_fine o ≡ false → IsTransferred (Some held)
         by_sum (Ok share) is within coarse = record {
           number = held.number;
           share = share;
-          moved_by = λ source. moved source held.number share (Some held) first apart (got source) (right, refl) (share_left it from);
+          moved_by = λ source. moved source held.number share (Some held) first apart (got source) (right, refl) (remaining_share it from);
           has_grown = is;
           positive = in_use.0;
           below = in_use.1;
           grows = omega arith;
         }
           where
-            got : (source : ℕ) → received r source it from (Some held) ≡ (held.number, right_entry it.unit it.receiver from.right_type share source) ∷ []
+            got : (source : ℕ) → entries_of_receiver r source it from (Some held) ≡ (held.number, right_entry it.unit it.receiver from.right_type share source) ∷ []
             got source =
-                ap (grown source it held) is
+                ap (increased_entry source it held) is
                 ∙ ap (λ (t : RightType). (held.number, right_entry it.unit it.receiver t share source) ∷ []) right.of_type
         by_sum (Err Zero) is within coarse = absurd (false≢true (sym within))
         by_sum (Err AboveOne) is within coarse = absurd (false≢true (sym within))
         by_sum (Err TooFine) is within coarse = absurd (false≢true (sym coarse))
 
-    transferred : (to : Option Held) → grows_at r it from ≡ to → is_itself it from ≡ false → IsAllowed to → IsTransferred to
+    transferred : (to : Option HeldRight) → right_of_receiver r it from ≡ to → gives_to_itself it from ≡ false → IsAllowed to → IsTransferred to
     transferred None is other allow = transferred_new is
     transferred (Some held) is other allow = transferred_grown held other is allow
 
-    was_whole : (to : Option Held) → IsTransferred to → (u : UnitRecord) → map.get r.units it.unit ≡ Some u → u.checked ≡ true → IsWhole (type_shares r it.unit from.right_type)
+    was_whole : (to : Option HeldRight) → IsTransferred to → (u : UnitRecord) → map.get r.units it.unit ≡ Some u → u.checked ≡ true → IsWhole (type_shares r it.unit from.right_type)
     was_whole to h u is checked =
         (before.units it.unit u is).whole checked from.right_type
-        (had_some r (entries_after 0 (share_left it from) to) it.unit it.receiver 0 from (left_of (share_left it from)) h.number h.share to (h.moved_by 0))
+        (had_some r (entries_after 0 (remaining_share it from) to) it.unit it.receiver 0 from (left_of (remaining_share it from)) h.number h.share to (h.moved_by 0))
 
     -- ---- the sum of the shares
 
     -- in a checked unit no share is above one
-    at_most_one : (to : Option Held) → IsTransferred to → (is_checked r it.unit ≡ false → from.share.numerator ≤ from.share.denominator) → from.share.numerator ≤ from.share.denominator
+    at_most_one : (to : Option HeldRight) → IsTransferred to → (is_checked r it.unit ≡ false → from.share.numerator ≤ from.share.denominator) → from.share.numerator ≤ from.share.denominator
     at_most_one to h unchecked = found (map.get r.units it.unit) refl unchecked
       where
         by_check : (u : UnitRecord) → map.get r.units it.unit ≡ Some u → (b : Bool) → u.checked ≡ b → (b ≡ false → from.share.numerator ≤ from.share.denominator) → from.share.numerator ≤ from.share.denominator
         by_check u is true checked otherwise =
-            from_at_most_one r (entries_after 0 (share_left it from) to) it.unit it.receiver 0 from (left_of (share_left it from)) h.number h.share to (h.moved_by 0) (was_whole to h u is checked)
+            from_at_most_one r (entries_after 0 (remaining_share it from) to) it.unit it.receiver 0 from (left_of (remaining_share it from)) h.number h.share to (h.moved_by 0) (was_whole to h u is checked)
         by_check u is false checked otherwise = otherwise refl
 
         found : (o : Option UnitRecord) → map.get r.units it.unit ≡ o → (option_map_or (λ u. u.checked) o false ≡ false → from.share.numerator ≤ from.share.denominator) → from.share.numerator ≤ from.share.denominator
         found None is otherwise = otherwise refl
         found (Some u) is otherwise = by_check u is u.checked refl otherwise
 
-    same_sum : (to : Option Held) → IsTransferred to → IsAllowed to → (is_checked r it.unit ≡ false → from.share.numerator ≤ from.share.denominator) → (source parts : ℕ)
+    same_sum : (to : Option HeldRight) → IsTransferred to → IsAllowed to → (is_checked r it.unit ≡ false → from.share.numerator ≤ from.share.denominator) → (source parts : ℕ)
         → IsCommonMultiple parts (type_shares r it.unit from.right_type) → IsCommonMultiple parts (type_shares (register_after source to) it.unit from.right_type)
         → parts_of parts (type_shares (register_after source to) it.unit from.right_type) ≡ parts_of parts (type_shares r it.unit from.right_type)
     same_sum to h allow unchecked source parts =
-        sum_kept r (entries_after source (share_left it from) to) it.unit it.receiver source from (left_of (share_left it from)) h.number h.share to (h.moved_by source)
-        it (share_left it from) refl refl allow.left_coarse allow.not_above h.has_grown (at_most_one to h unchecked) parts
+        sum_kept r (entries_after source (remaining_share it from) to) it.unit it.receiver source from (left_of (remaining_share it from)) h.number h.share to (h.moved_by source)
+        it (remaining_share it from) refl refl allow.left_coarse allow.not_above h.has_grown (at_most_one to h unchecked) parts
 
     -- ---- the receiver's right
 
-    one_right : (to : Option Held) → IsTransferred to → (source : ℕ) → HasOneRight (register_after source to) it.unit it.receiver from.right_type
+    one_right : (to : Option HeldRight) → IsTransferred to → (source : ℕ) → HasOneRight (register_after source to) it.unit it.receiver from.right_type
     one_right to h source = record {
       number = h.number;
       entry = entry;
@@ -270,11 +270,11 @@ module _ (r : Register) (it : Transfer) (from : Held) where
         entry : RrrRecord
         entry = right_entry it.unit it.receiver from.right_type h.share source
 
-        alone : (n : ℕ) (other : RrrRecord) → map.get (entries_after source (share_left it from) to) n ≡ Some other → IsRightOf it.unit it.receiver from.right_type other → n ≡ h.number
+        alone : (n : ℕ) (other : RrrRecord) → map.get (entries_after source (remaining_share it from) to) n ≡ Some other → IsRightOf it.unit it.receiver from.right_type other → n ≡ h.number
         alone n other is right =
             elim (nat_eq n h.number) as (λ b. nat_eq n h.number ≡ b → n ≡ h.number) [
               | true ↦ λ same. eqb-true n h.number same
-              | false ↦ λ apart. absurd ((pairs_moved r (entries_after source (share_left it from) to) it.unit it.receiver source from (left_of (share_left it from)) h.number h.share to (h.moved_by source) before.pairs
+              | false ↦ λ apart. absurd ((pairs_moved r (entries_after source (remaining_share it from) to) it.unit it.receiver source from (left_of (remaining_share it from)) h.number h.share to (h.moved_by source) before.pairs
                   n h.number other entry is (h.moved_by source).at_second (λ same. false≢true (sym apart ∙ eq-eqb n h.number same)) right.in_unit).rights from.right_type right.by_party right.of_type refl)
             ] refl
 
@@ -284,76 +284,76 @@ module _ (r : Register) (it : Transfer) (from : Held) where
       checked_at : (u : UnitRecord) → map.get r.units it.unit ≡ Some u → u.checked ≡ true → is_checked r it.unit ≡ true
       checked_at u is checked = ap (λ (o : Option UnitRecord). option_map_or (λ u. u.checked) o false) is ∙ checked
 
-      sound_with : (to : Option Held) → IsTransferred to → IsAllowed to → number_after r to ≤ 1000000001 → (to ≡ None → rrr_count (register_after 0 to) it.unit ≤ 256) → IsSound (register_after source to)
+      sound_with : (to : Option HeldRight) → IsTransferred to → IsAllowed to → number_after r to ≤ 1000000001 → (to ≡ None → rrr_count (register_after 0 to) it.unit ≤ 256) → IsSound (register_after source to)
       sound_with to h allow room few =
           (by_look_ups law (register_after source to)).1
-          (moved_is_sound r (entries_after source (share_left it from) to) it.unit it.receiver source from (left_of (share_left it from)) h.number h.share to (h.moved_by source) (number_after r to)
+          (moved_is_sound r (entries_after source (remaining_share it from) to) it.unit it.receiver source from (left_of (remaining_share it from)) h.number h.share to (h.moved_by source) (number_after r to)
           before h.grows room h.positive h.below has_source has_receiver
           (λ none. subst (λ (n : ℕ). n ≤ 256) same_count (few none))
           (λ u is checked. stays_whole u is checked (common_of (type_shares (register_after 0 to) it.unit from.right_type)) (common_of-is (type_shares (register_after 0 to) it.unit from.right_type)) (allow.shares_coarse (checked_at u is checked))))
         where
           same_count : rrr_count (register_after 0 to) it.unit ≡ rrr_count (register_after source to) it.unit
           same_count =
-              let one = moved_count r (entries_after source (share_left it from) to) it.unit it.receiver source from (left_of (share_left it from)) h.number h.share to (h.moved_by source) it.unit in
-              let other = moved_count r (entries_after 0 (share_left it from) to) it.unit it.receiver 0 from (left_of (share_left it from)) h.number h.share to (h.moved_by 0) it.unit in
-              let counted = length-filter (λ (e : ℕ × RrrRecord). nat_eq e.1.unit it.unit) (map.entries (entries_after source (share_left it from) to)) in
-              let like_counted = length-filter (λ (e : ℕ × RrrRecord). nat_eq e.1.unit it.unit) (map.entries (entries_after 0 (share_left it from) to)) in
+              let one = moved_count r (entries_after source (remaining_share it from) to) it.unit it.receiver source from (left_of (remaining_share it from)) h.number h.share to (h.moved_by source) it.unit in
+              let other = moved_count r (entries_after 0 (remaining_share it from) to) it.unit it.receiver 0 from (left_of (remaining_share it from)) h.number h.share to (h.moved_by 0) it.unit in
+              let counted = length-filter (λ (e : ℕ × RrrRecord). nat_eq e.1.unit it.unit) (map.entries (entries_after source (remaining_share it from) to)) in
+              let like_counted = length-filter (λ (e : ℕ × RrrRecord). nat_eq e.1.unit it.unit) (map.entries (entries_after 0 (remaining_share it from) to)) in
               omega (arith, one, other, counted, like_counted)
 
           stays_whole : (u : UnitRecord) → map.get r.units it.unit ≡ Some u → u.checked ≡ true → (o : Option ℕ) → IsCommon (type_shares (register_after 0 to) it.unit from.right_type) o → is_none o ≡ false
               → IsWhole (type_shares (register_after source to) it.unit from.right_type)
           stays_whole u is checked None common coarse = absurd (false≢true (sym coarse))
           stays_whole u is checked (Some m) common coarse =
-              whole_kept r (entries_after source (share_left it from) to) it.unit it.receiver source from (left_of (share_left it from)) h.number h.share to (h.moved_by source)
-              it (share_left it from) refl refl allow.left_coarse allow.not_above h.has_grown m common.0
-              (any_source r (entries_after source (share_left it from) to) it.unit it.receiver source from (left_of (share_left it from)) h.number h.share to (h.moved_by source)
-              (entries_after 0 (share_left it from) to) 0 (h.moved_by 0) m common.1)
+              whole_kept r (entries_after source (remaining_share it from) to) it.unit it.receiver source from (left_of (remaining_share it from)) h.number h.share to (h.moved_by source)
+              it (remaining_share it from) refl refl allow.left_coarse allow.not_above h.has_grown m common.0
+              (any_source r (entries_after source (remaining_share it from) to) it.unit it.receiver source from (left_of (remaining_share it from)) h.number h.share to (h.moved_by source)
+              (entries_after 0 (remaining_share it from) to) 0 (h.moved_by 0) m common.1)
               (was_whole to h u is checked)
 
-      sound_after : (to : Option Held) → IsTransferred to → IsAllowed to → too_many to ≡ false → IsSound (register_after source to)
+      sound_after : (to : Option HeldRight) → IsTransferred to → IsAllowed to → too_many to ≡ false → IsSound (register_after source to)
       sound_after None h allow many =
-          let limits = or_parts (lacks_numbers r 1) (nat_lt 256 (rrr_count (register_after 0 None) it.unit)) many in
+          let limits = or_parts (runs_out_of_numbers r 1) (nat_lt 256 (rrr_count (register_after 0 None) it.unit)) many in
           sound_with None h allow (below_end limits.0) (λ is. ltb-false 256 (rrr_count (register_after 0 None) it.unit) limits.1)
         where
-          below_end : lacks_numbers r 1 ≡ false → r.next + 1 ≤ 1000000001
+          below_end : runs_out_of_numbers r 1 ≡ false → r.next + 1 ≤ 1000000001
           below_end room = ltb-false 1000000001 (r.next + 1) room
       sound_after (Some held) h allow many = sound_with (Some held) h allow before.room (λ none. absurd (none_is_not_some (sym none)))
 
 -- a transfer to which no refusal applies keeps a register sound
-pub transferred_is_sound : WholenessLaw → (r : Register) (source : ℕ) (it : Transfer) (from : Held) → IsSound r → held_at r it.unit it.right ≡ Some from → has r.sources source ≡ true
-    → has r.parties it.receiver ≡ true → is_too_large r it from ≡ false → are_too_fine r it from ≡ false → are_too_many r it from ≡ false → is_itself it from ≡ false
+pub transferred_is_sound : WholenessLaw → (r : Register) (source : ℕ) (it : Transfer) (from : HeldRight) → IsSound r → right_at r it.unit it.right ≡ Some from → has r.sources source ≡ true
+    → has r.parties it.receiver ≡ true → is_too_large r it from ≡ false → are_too_fine r it from ≡ false → are_too_many r it from ≡ false → gives_to_itself it from ≡ false
     → IsSound (after (move_change r source it from) r)
 transferred_is_sound law r source it from sound held has_source has_receiver large fine many other =
     let first = (held_there r it.unit it.right from held).0 in
-    let allow = allowed r it from (grows_at r it from) other large fine in
-    sound_after r it from law sound first source has_source has_receiver (grows_at r it from) (transferred r it from law sound first (grows_at r it from) refl other allow) allow many
+    let allow = allowed r it from (right_of_receiver r it from) other large fine in
+    sound_after r it from law sound first source has_source has_receiver (right_of_receiver r it from) (transferred r it from law sound first (right_of_receiver r it from) refl other allow) allow many
 
 -- and preserves the sum of the shares of the right's type in the unit
-pub transferred_keeps_sum : WholenessLaw → (r : Register) (source : ℕ) (it : Transfer) (from : Held) (parts : ℕ) → IsSound r → held_at r it.unit it.right ≡ Some from
-    → is_too_large r it from ≡ false → are_too_fine r it from ≡ false → is_itself it from ≡ false → (is_checked r it.unit ≡ false → from.share.numerator ≤ from.share.denominator)
+pub transferred_keeps_sum : WholenessLaw → (r : Register) (source : ℕ) (it : Transfer) (from : HeldRight) (parts : ℕ) → IsSound r → right_at r it.unit it.right ≡ Some from
+    → is_too_large r it from ≡ false → are_too_fine r it from ≡ false → gives_to_itself it from ≡ false → (is_checked r it.unit ≡ false → from.share.numerator ≤ from.share.denominator)
     → IsCommonMultiple parts (type_shares r it.unit from.right_type) → IsCommonMultiple parts (type_shares (after (move_change r source it from) r) it.unit from.right_type)
     → parts_of parts (type_shares (after (move_change r source it from) r) it.unit from.right_type) ≡ parts_of parts (type_shares r it.unit from.right_type)
 transferred_keeps_sum law r source it from parts sound held large fine other unchecked =
     let first = (held_there r it.unit it.right from held).0 in
-    let allow = allowed r it from (grows_at r it from) other large fine in
-    same_sum r it from law sound first (grows_at r it from) (transferred r it from law sound first (grows_at r it from) refl other allow) allow unchecked source parts
+    let allow = allowed r it from (right_of_receiver r it from) other large fine in
+    same_sum r it from law sound first (right_of_receiver r it from) (transferred r it from law sound first (right_of_receiver r it from) refl other allow) allow unchecked source parts
 
 -- and leaves the receiver exactly one right of the type
-pub receiver_has_one_right : WholenessLaw → (r : Register) (source : ℕ) (it : Transfer) (from : Held) → IsSound r → held_at r it.unit it.right ≡ Some from
-    → is_too_large r it from ≡ false → are_too_fine r it from ≡ false → is_itself it from ≡ false → HasOneRight (after (move_change r source it from) r) it.unit it.receiver from.right_type
+pub receiver_has_one_right : WholenessLaw → (r : Register) (source : ℕ) (it : Transfer) (from : HeldRight) → IsSound r → right_at r it.unit it.right ≡ Some from
+    → is_too_large r it from ≡ false → are_too_fine r it from ≡ false → gives_to_itself it from ≡ false → HasOneRight (after (move_change r source it from) r) it.unit it.receiver from.right_type
 receiver_has_one_right law r source it from sound held large fine other =
     let first = (held_there r it.unit it.right from held).0 in
-    let allow = allowed r it from (grows_at r it from) other large fine in
-    one_right r it from law sound first (grows_at r it from) (transferred r it from law sound first (grows_at r it from) refl other allow) source
+    let allow = allowed r it from (right_of_receiver r it from) other large fine in
+    one_right r it from law sound first (right_of_receiver r it from) (transferred r it from law sound first (right_of_receiver r it from) refl other allow) source
 
 -- ---- keys
 
 two_apart : (k j : ℕ) → k ≢ j → are_distinct nat_eq (k ∷ j ∷ []) ≡ true
 two_apart k j apart = ap (λ b. not (b || false) && true) (ne_eqb k j apart)
 
-module _ (r : Register) (source : ℕ) (it : Transfer) (from : Held) where
+module _ (r : Register) (source : ℕ) (it : Transfer) (from : HeldRight) where
   abbrev numbers : Result Ratio FractionFault → List (ℕ × RrrRecord) → List ℕ
-  numbers left put = map_list (λ e. e.0) (kept source it from left ++ put) ++ given_up from left
+  numbers left put = map_list (λ e. e.0) (kept source it from left ++ put) ++ ended_rights from left
 
   once_with : (left : Result Ratio FractionFault) (e : ℕ × RrrRecord) → from.number ≢ e.0 → are_distinct nat_eq (numbers left (e ∷ [])) ≡ true
   once_with (Ok share) e apart = two_apart from.number e.0 apart
@@ -363,33 +363,33 @@ module _ (r : Register) (source : ℕ) (it : Transfer) (from : Held) where
   once_alone (Ok share) = refl
   once_alone (Err fault) = refl
 
-  once_grown : (left : Result Ratio FractionFault) (held : Held) (sum : Result Ratio FractionFault) → from.number ≢ held.number → are_distinct nat_eq (numbers left (grown source it held sum)) ≡ true
+  once_grown : (left : Result Ratio FractionFault) (held : HeldRight) (sum : Result Ratio FractionFault) → from.number ≢ held.number → are_distinct nat_eq (numbers left (increased_entry source it held sum)) ≡ true
   once_grown left held (Ok share) apart = once_with left (held.number, right_entry it.unit it.receiver held.right_type share source) apart
   once_grown left held (Err fault) apart = once_alone left
 
-  once : held_at r it.unit it.right ≡ Some from → is_itself it from ≡ false → from.number ≢ r.next → (to : Option Held) → grows_at r it from ≡ to
-      → are_distinct nat_eq (numbers (share_left it from) (received r source it from to)) ≡ true
-  once held other apart None is = once_with (share_left it from) (r.next, right_entry it.unit it.receiver from.right_type it.share source) apart
+  once : right_at r it.unit it.right ≡ Some from → gives_to_itself it from ≡ false → from.number ≢ r.next → (to : Option HeldRight) → right_of_receiver r it from ≡ to
+      → are_distinct nat_eq (numbers (remaining_share it from) (entries_of_receiver r source it from to)) ≡ true
+  once held other apart None is = once_with (remaining_share it from) (r.next, right_entry it.unit it.receiver from.right_type it.share source) apart
   once held other apart (Some to) is =
-      once_grown (share_left it from) to (share_grown it to)
+      once_grown (remaining_share it from) to (increased_share it to)
       (two_rights r it from (held_there r it.unit it.right from held).0 (held_by_there r it.unit it.receiver from.right_type to is) other)
 
   -- the two rights are different entries if there is no right at the next number
-  pub move_names_once : held_at r it.unit it.right ≡ Some from → is_itself it from ≡ false → from.number ≢ r.next → NamesKeysOnce (move_change r source it from)
+  pub move_names_once : right_at r it.unit it.right ≡ Some from → gives_to_itself it from ≡ false → from.number ≢ r.next → NamesKeysOnce (move_change r source it from)
   move_names_once held other apart = record {
     parties = refl;
     roles = refl;
     members = refl;
     units = refl;
     parcels = refl;
-    rrrs = once held other apart (grows_at r it from) refl;
+    rrrs = once held other apart (right_of_receiver r it from) refl;
     sources = refl;
     mutations = refl;
     mandates = refl;
   }
 
   -- in a sound register there is none
-  pub sound_names_once : IsSound r → held_at r it.unit it.right ≡ Some from → is_itself it from ≡ false → NamesKeysOnce (move_change r source it from)
+  pub sound_names_once : IsSound r → right_at r it.unit it.right ≡ Some from → gives_to_itself it from ≡ false → NamesKeysOnce (move_change r source it from)
   sound_names_once sound held other = move_names_once held other (λ same. omega (arith, same, below))
     where
       first : IsHeldAt r.rrrs it.unit from

@@ -20,8 +20,8 @@ use Rattle.land_shape.specs.Outline.{doubled_area}
 use Rattle.land_shape.specs.Place.{Place}
 
 -- the outlines of the parcels that a change writes
-abbrev pub outlines_put : Change → List (List Place)
-outlines_put change = map_list (λ e. e.1.outline) change.put.parcels
+abbrev pub new_outlines : Change → List (List Place)
+new_outlines change = map_list (λ e. e.1.outline) change.put.parcels
 
 -- the new parcels of an approved subdivision have in total the area of the old parcel
 abbrev pub SubdivisionsKeepAreas : Type 0
@@ -31,7 +31,7 @@ SubdivisionsKeepAreas =
     → map.get r.mutations decision.mutation ≡ Some m → m.content ≡ content.Subdivision it
     → map.get r.parcels it.parcel ≡ Some old
     → outcome_of r caller (Approve decision) (Some stamp) ≡ Ok (New change done)
-    → doubled_areas (outlines_put change) ≡ doubled_area old.outline
+    → doubled_areas (new_outlines change) ≡ doubled_area old.outline
 
 -- the new parcel of an approved merger has the total area of the listed parcels
 abbrev pub MergersKeepAreas : Type 0
@@ -40,4 +40,4 @@ MergersKeepAreas =
     (change : Change) (done : Done)
     → map.get r.mutations decision.mutation ≡ Some m → m.content ≡ content.Merger it
     → outcome_of r caller (Approve decision) (Some stamp) ≡ Ok (New change done)
-    → doubled_areas (outlines_put change) ≡ doubled_areas (outlines_at r it.parcels)
+    → doubled_areas (new_outlines change) ≡ doubled_areas (outlines_at r it.parcels)

@@ -1,6 +1,6 @@
 -- The act `burden`: a unit gets a restriction or a responsibility of a party.
 use Rattle.std.specs.Prelude.{ℕ, ◌+◌, ℤ, Bool, not, ◌||◌, List, [], ◌∷◌, Option, is_none}
-use Rattle.land_acts.specs.Mutations.Planning.{document_source, lacks_numbers, would_crowd}
+use Rattle.land_acts.specs.Mutations.Planning.{document_source, runs_out_of_numbers, would_exceed_entries}
 use Rattle.land_acts.specs.declared.mutations.refusal.Refusal.{Refusal}
 use Rattle.land_acts.specs.declared.mutations.refusal.Refusal.TheVariants.{NoSuchUnit, NoSuchParty, TooMany}
 use Rattle.land_acts.specs.declared.mutations.refusal.Refusal.TheVariants.{ClockOut}
@@ -21,14 +21,14 @@ abbrev pub burden_refusals : Register → Burden → Option ℤ → List (Refusa
 burden_refusals r it stamp =
     (NoSuchUnit, not (has r.units it.unit))
     ∷ (NoSuchParty, not (has r.parties it.party))
-    ∷ (TooMany, lacks_numbers r 2 || would_crowd r it.unit 1)
+    ∷ (TooMany, runs_out_of_numbers r 2 || would_exceed_entries r it.unit 1)
     ∷ (ClockOut, is_none stamp)
     ∷ []
 
 -- the class of the entry with these words
-abbrev pub class_of : BurdenClass → (words : List ℕ) → Class
-class_of burden.Restriction words = class.Restriction words
-class_of burden.Responsibility words = class.Responsibility words
+abbrev pub class_of_burden : BurdenClass → (words : List ℕ) → Class
+class_of_burden burden.Restriction words = class.Restriction words
+class_of_burden burden.Responsibility words = class.Responsibility words
 
 -- the source gets the next number, and the entry the one after it; the source of the entry is this document
 abbrev pub burden_change : Register → Burden → Change
@@ -39,7 +39,7 @@ burden_change r it = record {
       record {
         unit = it.unit;
         party = it.party;
-        class = class_of it.class it.words;
+        class = class_of_burden it.class it.words;
         source = r.next;
       },
     ) ∷ [];

@@ -2,7 +2,7 @@
 use Rattle.std.specs.Prelude.{ℕ, ℤ, Bool, true, false, not, List, [], ◌∷◌, Option, is_none}
 use Rattle.std.specs.Option.{option_map_or}
 use Rattle.std.specs.FinMap as map
-use Rattle.land_acts.specs.Mutations.Asking.{content_change, content_made, content_refusals, has_room}
+use Rattle.land_acts.specs.Mutations.ByContent.{content_change, content_made, content_refusals, has_room}
 use Rattle.land_acts.specs.declared.mutations.refusal.Refusal.{Refusal}
 use Rattle.land_acts.specs.declared.mutations.refusal.Refusal.TheVariants.{NotLodged, ClockOut}
 use Rattle.land_core.specs.Changes.{no_change}
@@ -20,13 +20,13 @@ abbrev pub is_lodged : Register → ℕ → Bool
 is_lodged r n = option_map_or is_undecided (map.get r.mutations n) false
 
 -- the mutation in another state
-abbrev pub decided : MutationState → MutationRecord → MutationRecord
-decided state m = record m { state = state }
+abbrev pub decided_mutation : MutationState → MutationRecord → MutationRecord
+decided_mutation state m = record m { state = state }
 
 -- a change that also sets the state of a mutation
 abbrev pub with_state : MutationState → (number : ℕ) → MutationRecord → Change → Change
 with_state state number m change =
-    record change { put = record change.put { mutations = (number, decided state m) ∷ [] } }
+    record change { put = record change.put { mutations = (number, decided_mutation state m) ∷ [] } }
 
 -- the refusals with their conditions: first 201, then those of the content in ascending order
 abbrev pub approve_refusals : Register → Decision → Option ℤ → List (Refusal × Bool)

@@ -1,6 +1,6 @@
 -- The act `enrol`: a natural or non-natural person gets the next number and becomes a citizen.
 use Rattle.std.specs.Prelude.{◌+◌, Bool, List, [], ◌∷◌, Option, is_none, ℤ}
-use Rattle.land_acts.specs.Mutations.Planning.{lacks_numbers}
+use Rattle.land_acts.specs.Mutations.Planning.{runs_out_of_numbers}
 use Rattle.land_acts.specs.declared.mutations.refusal.Refusal.{Refusal}
 use Rattle.land_acts.specs.declared.mutations.refusal.Refusal.TheVariants.{TooMany, ClockOut}
 use Rattle.land_core.specs.Changes.{no_put, no_ended}
@@ -13,7 +13,7 @@ use Rattle.land_core.specs.declared.role.Role.TheVariants.{Citizen}
 
 -- the refusals with their conditions, in ascending order
 abbrev pub enrol_refusals : Register → Option ℤ → List (Refusal × Bool)
-enrol_refusals r stamp = (TooMany, lacks_numbers r 1) ∷ (ClockOut, is_none stamp) ∷ []
+enrol_refusals r stamp = (TooMany, runs_out_of_numbers r 1) ∷ (ClockOut, is_none stamp) ∷ []
 
 -- the party gets the next number and the role citizen
 abbrev pub enrol_change : Register → Enrol → Change

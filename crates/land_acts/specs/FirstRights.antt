@@ -12,12 +12,12 @@ use Rattle.land_fraction.specs.Ratio.{Ratio}
 use Rattle.land_fraction.specs.Wholeness.{wholeness}
 
 -- whether one of the rights is of this party
-abbrev pub have_party : List NewRight → ℕ → Bool
-have_party rights n = list_any (λ right. nat_eq n right.party) rights
+abbrev pub rights_list_party : List NewRight → ℕ → Bool
+rights_list_party rights n = list_any (λ right. nat_eq n right.party) rights
 
 -- whether one of the rights is of a party that does not exist
-abbrev pub lists_absent : Register → List NewRight → Bool
-lists_absent r rights = list_any (λ right. not (has r.parties right.party)) rights
+abbrev pub lists_absent_party : Register → List NewRight → Bool
+lists_absent_party r rights = list_any (λ right. not (has r.parties right.party)) rights
 
 -- the share of a right if it has this type
 abbrev pub share_listed : RightType → NewRight → Option Ratio

@@ -2,7 +2,7 @@
 -- of those that they replace.
 use Rattle.std.specs.Prelude.{◌≡◌, ℤ, [], ◌∷◌, Some, Ok}
 use Rattle.std.specs.FinMap as map
-use Rattle.land_acts.specs.AreaLaws.{outlines_put}
+use Rattle.land_acts.specs.AreaLaws.{new_outlines}
 use Rattle.land_acts.specs.Mutations.Areas.{outlines_at}
 use Rattle.land_acts.specs.Outcome.{outcome_of}
 use Rattle.land_acts.specs.declared.mutations.refusal.Planned.TheVariants.{New}
@@ -27,7 +27,7 @@ SubdivisionsKeepGround =
     → map.get r.mutations decision.mutation ≡ Some m → m.content ≡ content.Subdivision it
     → map.get r.parcels it.parcel ≡ Some old
     → outcome_of r caller (Approve decision) (Some stamp) ≡ Ok (New change done)
-    → Match (old.outline ∷ []) (outlines_put change)
+    → Match (old.outline ∷ []) (new_outlines change)
 
 -- the new parcel of an approved merger covers exactly the ground of the listed parcels
 abbrev pub MergersKeepGround : Type 0
@@ -36,4 +36,4 @@ MergersKeepGround =
     (change : Change) (done : Done)
     → map.get r.mutations decision.mutation ≡ Some m → m.content ≡ content.Merger it
     → outcome_of r caller (Approve decision) (Some stamp) ≡ Ok (New change done)
-    → Match (outlines_at r it.parcels) (outlines_put change)
+    → Match (outlines_at r it.parcels) (new_outlines change)

@@ -1,8 +1,8 @@
 -- The act `group`: single parties, each with its share, become the members of a new group, which has no
 -- roles.
 use Rattle.std.specs.Prelude.{◌+◌, ℤ, Bool, not, List, [], ◌∷◌, Option, is_none}
-use Rattle.land_acts.specs.Mutations.Planning.{lacks_numbers}
-use Rattle.land_acts.specs.Sharing.{lists_stranger, are_too_fine, are_whole, lists_twice, members_of_list}
+use Rattle.land_acts.specs.Mutations.Planning.{runs_out_of_numbers}
+use Rattle.land_acts.specs.Sharing.{lists_no_single_party, are_too_fine, are_whole, lists_twice, members_of_list}
 use Rattle.land_acts.specs.declared.mutations.refusal.Refusal.{Refusal}
 use Rattle.land_acts.specs.declared.mutations.refusal.Refusal.TheVariants.{NoSuchParty, SharesTooFine}
 use Rattle.land_acts.specs.declared.mutations.refusal.Refusal.TheVariants.{TooMany, SharesNotWhole, ClockOut}
@@ -17,9 +17,9 @@ use Rattle.land_core.specs.declared.register.Register.{Register}
 -- the refusals with their conditions, in ascending order
 abbrev pub group_refusals : Register → NewGroup → Option ℤ → List (Refusal × Bool)
 group_refusals r it stamp =
-    (NoSuchParty, lists_stranger r it.members)
+    (NoSuchParty, lists_no_single_party r it.members)
     ∷ (SharesTooFine, are_too_fine it.members)
-    ∷ (TooMany, lacks_numbers r 1)
+    ∷ (TooMany, runs_out_of_numbers r 1)
     ∷ (SharesNotWhole, not (are_whole it.members))
     ∷ (ClockOut, is_none stamp)
     ∷ (SameParty, lists_twice it.members)

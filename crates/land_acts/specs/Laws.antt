@@ -40,8 +40,8 @@ AcceptedNamesKeysOnce = (r : Register) (change : Change) (stamp : ℤ) → IsSou
     → NamesKeysOnce change
 
 -- the receipt of an accepted act has the stamp of its change
-abbrev pub AcceptedTellsStamp : Type 0
-AcceptedTellsStamp =
+abbrev pub AcceptedReturnsStamp : Type 0
+AcceptedReturnsStamp =
     (r : Register) (change : Change) (stamp : ℤ) → (h : IsAccepted r change stamp) → h.done.stamp ≡ stamp
 
 -- without a stamp, no act is accepted

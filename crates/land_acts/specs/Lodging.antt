@@ -6,7 +6,7 @@ use Rattle.std.specs.List.{find}
 use Rattle.std.specs.Option.{option_map_or}
 use Rattle.std.specs.Str.{bytes_eq}
 use Rattle.std.specs.FinMap as map
-use Rattle.land_acts.specs.Mutations.Planning.{document_source, lacks_numbers}
+use Rattle.land_acts.specs.Mutations.Planning.{document_source, runs_out_of_numbers}
 use Rattle.land_acts.specs.declared.mutations.refusal.Refusal.{Refusal}
 use Rattle.land_acts.specs.declared.mutations.refusal.Refusal.TheVariants.{TooMany, ReferenceUsed, ClockOut}
 use Rattle.land_core.specs.Changes.{no_put, no_ended}
@@ -25,8 +25,8 @@ use Rattle.land_core.specs.declared.source.SourceKind.{SourceKind}
 use Rattle.land_core.specs.declared.source.SourceKind.TheVariants.{Administrative, Spatial}
 
 -- the mutation that a party has lodged under a reference, with its number; there is at most one
-abbrev pub lodged_under : Register → (lodger : ℕ) → (reference : List ℕ) → Option (ℕ × MutationRecord)
-lodged_under r lodger reference = find (λ e. is_lodged_as lodger reference e.1) (map.entries r.mutations)
+abbrev pub mutation_with_reference : Register → (lodger : ℕ) → (reference : List ℕ) → Option (ℕ × MutationRecord)
+mutation_with_reference r lodger reference = find (λ e. is_lodged_as lodger reference e.1) (map.entries r.mutations)
 
 -- whether a source exists and has this title
 abbrev pub has_title : Register → (source : ℕ) → (title : List ℕ) → Bool
@@ -37,31 +37,31 @@ abbrev pub is_same_lodging : Register → Lodging → MutationRecord → Bool
 is_same_lodging r it m = has_title r m.source it.document && is_same_content m.content it.content
 
 -- two numbers in ascending order
-abbrev pub in_order : ℕ → ℕ → List ℕ
-in_order m n = if nat_lt n m then n ∷ m ∷ [] else m ∷ n ∷ []
+abbrev pub ascending_pair : ℕ → ℕ → List ℕ
+ascending_pair m n = if nat_lt n m then n ∷ m ∷ [] else m ∷ n ∷ []
 
 -- the receipt that a lodging got: it created the mutation and its source
-abbrev pub lodged_told : ℕ × MutationRecord → Done
-lodged_told e = record { number = e.0; made = in_order e.1.source e.0; stamp = e.1.lodged }
+abbrev pub receipt_of_lodging : ℕ × MutationRecord → Done
+receipt_of_lodging e = record { number = e.0; made = ascending_pair e.1.source e.0; stamp = e.1.lodged }
 
 -- the receipt of an earlier lodging, if this one repeats it
 abbrev pub repeat_of : Register → Lodging → Option (ℕ × MutationRecord) → Option Done
 repeat_of r it None = None
-repeat_of r it (Some e) = if is_same_lodging r it e.1 then Some (lodged_told e) else None
+repeat_of r it (Some e) = if is_same_lodging r it e.1 then Some (receipt_of_lodging e) else None
 
 -- the same, with the lodging under the reference
 abbrev pub lodge_repeat : Register → Caller → Lodging → Option Done
-lodge_repeat r caller it = repeat_of r it (lodged_under r caller.party it.reference)
+lodge_repeat r caller it = repeat_of r it (mutation_with_reference r caller.party it.reference)
 
 -- whether the caller has lodged another document or content under the reference
 abbrev pub has_lodged_other : Register → Caller → Lodging → Bool
 has_lodged_other r caller it =
-    option_map_or (λ e. not (is_same_lodging r it e.1)) (lodged_under r caller.party it.reference) false
+    option_map_or (λ e. not (is_same_lodging r it e.1)) (mutation_with_reference r caller.party it.reference) false
 
 -- the refusals with their conditions, in ascending order
 abbrev pub lodge_refusals : Register → Caller → Lodging → Option ℤ → List (Refusal × Bool)
 lodge_refusals r caller it stamp =
-    (TooMany, lacks_numbers r 2) ∷ (ReferenceUsed, has_lodged_other r caller it) ∷ (ClockOut, is_none stamp)
+    (TooMany, runs_out_of_numbers r 2) ∷ (ReferenceUsed, has_lodged_other r caller it) ∷ (ClockOut, is_none stamp)
     ∷ []
 
 -- the document of a subdivision or a merger is a plan, which is a spatial source
@@ -73,8 +73,8 @@ document_kind (content.Mortgage it) = Administrative
 document_kind (content.Discharge it) = Administrative
 
 -- the new mutation, undecided
-abbrev pub lodged_record : Caller → Lodging → (source : ℕ) → ℤ → MutationRecord
-lodged_record caller it source stamp =
+abbrev pub new_mutation_record : Caller → Lodging → (source : ℕ) → ℤ → MutationRecord
+new_mutation_record caller it source stamp =
     record {
       lodger = caller.party;
       reference = it.reference;
@@ -89,7 +89,7 @@ abbrev pub lodge_change : Register → Caller → Lodging → ℤ → Change
 lodge_change r caller it stamp = record {
   put = record no_put {
     sources = document_source r.next (document_kind it.content) it.document;
-    mutations = (r.next + 1, lodged_record caller it r.next stamp) ∷ [];
+    mutations = (r.next + 1, new_mutation_record caller it r.next stamp) ∷ [];
   };
   ended = no_ended;
   next = r.next + 2;

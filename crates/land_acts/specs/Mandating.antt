@@ -15,8 +15,8 @@ use Rattle.land_core.specs.declared.mandates.Mandate.{Mandate}
 use Rattle.land_core.specs.declared.register.Register.{Register}
 
 -- the mandate from the caller to the agent
-abbrev pub given : Caller → NewMandate → Mandate
-given caller it = mandate_of caller.party it.agent
+abbrev pub mandate_of_caller : Caller → NewMandate → Mandate
+mandate_of_caller caller it = mandate_of caller.party it.agent
 
 -- the refusals with their conditions, in ascending order
 abbrev pub mandate_refusals : Register → Caller → NewMandate → Option ℤ → List (Refusal × Bool)
@@ -24,13 +24,13 @@ mandate_refusals r caller it stamp =
     (NoSuchParty, not (has_single_party r it.agent))
     ∷ (ClockOut, is_none stamp)
     ∷ (SameParty, nat_eq it.agent caller.party)
-    ∷ (MandateHeld, has_mandate r.mandates (given caller it))
+    ∷ (MandateHeld, has_mandate r.mandates (mandate_of_caller caller it))
     ∷ []
 
 -- the mandate starts
 abbrev pub mandate_change : Register → Caller → NewMandate → Change
 mandate_change r caller it = record {
-  put = record no_put { mandates = given caller it ∷ [] };
+  put = record no_put { mandates = mandate_of_caller caller it ∷ [] };
   ended = no_ended;
   next = r.next;
 }

@@ -1,6 +1,6 @@
 -- The definitions of the contents of mutations.
 pub mod Areas
-pub mod Asking
+pub mod ByContent
 pub mod Discharging
 pub mod Grounds
 pub mod Merging

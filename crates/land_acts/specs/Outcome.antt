@@ -10,7 +10,7 @@ use Rattle.land_acts.specs.Grouping.{group_refusals, group_change, group_done}
 use Rattle.land_acts.specs.Lifting.{lift_refusals, lift_change, lift_done}
 use Rattle.land_acts.specs.Lodging.{lodge_repeat, lodge_refusals, lodge_change, lodge_done}
 use Rattle.land_acts.specs.Mandating.{mandate_refusals, mandate_change, mandate_done}
-use Rattle.land_acts.specs.Mutations.Planning.{done_on, first_that_holds}
+use Rattle.land_acts.specs.Mutations.Planning.{done_on, first_refusal_of}
 use Rattle.land_acts.specs.Registering.{register_refusals, register_change, register_done}
 use Rattle.land_acts.specs.Regrouping.{regroup_refusals, regroup_change, regroup_done}
 use Rattle.land_acts.specs.Revoking.{revoke_refusals, revoke_change, revoke_done}
@@ -77,47 +77,47 @@ done_of r caller (Approve it) stamp = approve_done r it stamp
 done_of r caller (Refuse it) stamp = done_on it.mutation stamp
 
 -- a refusal, or else the plan
-abbrev pub refused_else : Option Refusal → Result Planned Refusal → Result Planned Refusal
-refused_else None else_planned = else_planned
-refused_else (Some refusal) else_planned = Err refusal
+abbrev pub refusal_or : Option Refusal → Result Planned Refusal → Result Planned Refusal
+refusal_or None else_planned = else_planned
+refusal_or (Some refusal) else_planned = Err refusal
 
 -- the plan of an act to which no refusal applies; without a stamp it is refused
-abbrev pub stamped : (ℤ → Change) → (ℤ → Done) → Option ℤ → Result Planned Refusal
-stamped change done (Some stamp) = Ok (New (change stamp) (done stamp))
-stamped change done None = Err ClockOut
+abbrev pub plan_with_stamp : (ℤ → Change) → (ℤ → Done) → Option ℤ → Result Planned Refusal
+plan_with_stamp change done (Some stamp) = Ok (New (change stamp) (done stamp))
+plan_with_stamp change done None = Err ClockOut
 
 -- the receipt that a repeated act got before; only a lodging can be a repeat
-abbrev pub repeated_done : Register → Caller → Act → Option Done
-repeated_done r caller (Enrol it) = None
-repeated_done r caller (Group it) = None
-repeated_done r caller (Regroup it) = None
-repeated_done r caller (Grant it) = None
-repeated_done r caller (Revoke it) = None
-repeated_done r caller (Mandate it) = None
-repeated_done r caller (Withdraw it) = None
-repeated_done r caller (RegisterUnit it) = None
-repeated_done r caller (Burden it) = None
-repeated_done r caller (Lift it) = None
-repeated_done r caller (Lodge it) = lodge_repeat r caller it
-repeated_done r caller (Approve it) = None
-repeated_done r caller (Refuse it) = None
+abbrev pub repeat_receipt_of : Register → Caller → Act → Option Done
+repeat_receipt_of r caller (Enrol it) = None
+repeat_receipt_of r caller (Group it) = None
+repeat_receipt_of r caller (Regroup it) = None
+repeat_receipt_of r caller (Grant it) = None
+repeat_receipt_of r caller (Revoke it) = None
+repeat_receipt_of r caller (Mandate it) = None
+repeat_receipt_of r caller (Withdraw it) = None
+repeat_receipt_of r caller (RegisterUnit it) = None
+repeat_receipt_of r caller (Burden it) = None
+repeat_receipt_of r caller (Lift it) = None
+repeat_receipt_of r caller (Lodge it) = lodge_repeat r caller it
+repeat_receipt_of r caller (Approve it) = None
+repeat_receipt_of r caller (Refuse it) = None
 
 -- a repeat gets the earlier receipt, even if a refusal would apply
-abbrev pub repeated_else : Option Done → Result Planned Refusal → Result Planned Refusal
-repeated_else None else_planned = else_planned
-repeated_else (Some done) else_planned = Ok (Repeat done)
+abbrev pub repeat_or : Option Done → Result Planned Refusal → Result Planned Refusal
+repeat_or None else_planned = else_planned
+repeat_or (Some done) else_planned = Ok (Repeat done)
 
 -- the outcome of an act with a stamp, or without one if no later stamp exists
 abbrev pub outcome_of : Register → Caller → Act → Option ℤ → Result Planned Refusal
 outcome_of r caller a stamp =
-    repeated_else (repeated_done r caller a)
-    (refused_else (first_that_holds (refusals_of r caller a stamp))
-    (stamped (λ at. change_of r caller a at) (λ at. done_of r caller a at) stamp))
+    repeat_or (repeat_receipt_of r caller a)
+    (refusal_or (first_refusal_of (refusals_of r caller a stamp))
+    (plan_with_stamp (λ at. change_of r caller a at) (λ at. done_of r caller a at) stamp))
 
 -- no refusal applies, with some stamp or without one
-pub record IsUnrefused (r : Register) (caller : Caller) (a : Act) : Type 0 where
+pub record HasNoRefusal (r : Register) (caller : Caller) (a : Act) : Type 0 where
   pub stamp : Option ℤ
-  pub none_holds : first_that_holds (refusals_of r caller a stamp) ≡ None
+  pub none_holds : first_refusal_of (refusals_of r caller a stamp) ≡ None
 
 -- the numbers and ranks that the act creates stay in range. Refusals bound all of them except the rank of a
 -- mortgage and the right of a transfer; in a sound register these are in range, too

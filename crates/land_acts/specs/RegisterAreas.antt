@@ -3,7 +3,7 @@ use Rattle.std.specs.Prelude.{◌≡◌, ℕ, ◌+◌, ◌≤◌, ℤ, true, fal
 use Rattle.std.specs.Prelude.{Ok}
 use Rattle.std.specs.List.{AllByRecursion}
 use Rattle.std.specs.FinMap as map
-use Rattle.land_acts.specs.AreaLaws.{outlines_put}
+use Rattle.land_acts.specs.AreaLaws.{new_outlines}
 use Rattle.land_acts.specs.Laws.{IsAccepted}
 use Rattle.land_acts.specs.Mutations.Areas.{doubled_areas, outlines_at}
 use Rattle.land_acts.specs.Mutations.Subdividing.{all_parts, outlines_of}
@@ -27,8 +27,8 @@ use Rattle.land_shape.specs.Matching.{Match}
 use Rattle.land_shape.specs.Place.{Place}
 
 -- twice the total area of all parcels of a register, in square millimetres
-abbrev pub area_of_all : Register → ℕ
-area_of_all r = doubled_areas (map_list (λ e. e.1.outline) (map.entries r.parcels))
+abbrev pub total_doubled_area : Register → ℕ
+total_doubled_area r = doubled_areas (map_list (λ e. e.1.outline) (map.entries r.parcels))
 
 -- ---- approvals
 
@@ -41,23 +41,23 @@ parcels_replaced (content.Mortgage it) = []
 parcels_replaced (content.Discharge it) = []
 
 -- the outlines of the parcels that replace them
-abbrev pub outlines_asked : Content → List (List Place)
-outlines_asked (content.Transfer it) = []
-outlines_asked (content.Subdivision it) = outlines_of (all_parts it)
-outlines_asked (content.Merger it) = it.outline ∷ []
-outlines_asked (content.Mortgage it) = []
-outlines_asked (content.Discharge it) = []
+abbrev pub requested_outlines : Content → List (List Place)
+requested_outlines (content.Transfer it) = []
+requested_outlines (content.Subdivision it) = outlines_of (all_parts it)
+requested_outlines (content.Merger it) = it.outline ∷ []
+requested_outlines (content.Mortgage it) = []
+requested_outlines (content.Discharge it) = []
 
 -- the effect of a change that replaces the parcels at these numbers by new ones
-pub record HaveTakenPlace (r : Register) (replaced : List ℕ) (outlines : List (List Place)) (change : Change)
+pub record HaveReplaced (r : Register) (replaced : List ℕ) (outlines : List (List Place)) (change : Change)
     : Type 0 where
   -- the total area is unchanged
-  pub area : area_of_all (after change r) ≡ area_of_all r
+  pub area : total_doubled_area (after change r) ≡ total_doubled_area r
   -- a parcel existed at each of the numbers, and does not exist any more
   pub gone : (n : ℕ) → lists_number replaced n ≡ true
       → (has r.parcels n ≡ true) × (map.get (after change r).parcels n ≡ None)
   -- the new parcels have these outlines
-  pub outlined : outlines_put change ≡ outlines
+  pub outlined : new_outlines change ≡ outlines
   -- they cover exactly the ground of the replaced parcels
   pub ground : Match (outlines_at r replaced) outlines
   -- each new parcel exists, under a new number
@@ -76,7 +76,7 @@ ApprovedRegistersKeepTheirArea =
     (done : Done)
     → IsSound r → map.get r.mutations decision.mutation ≡ Some m
     → outcome_of r caller (act.Approve decision) (Some stamp) ≡ Ok (New change done)
-    → HaveTakenPlace r (parcels_replaced m.content) (outlines_asked m.content) change
+    → HaveReplaced r (parcels_replaced m.content) (requested_outlines m.content) change
 
 -- ---- all acts
 
@@ -97,7 +97,7 @@ area_registered (act.Approve it) = 0
 area_registered (act.Refuse it) = 0
 
 -- an accepted act adds to the total area exactly the area that it registers
-abbrev pub RegistrationsAloneAddArea : Type 0
-RegistrationsAloneAddArea =
+abbrev pub OnlyRegistrationsAddArea : Type 0
+OnlyRegistrationsAddArea =
     (r : Register) (change : Change) (stamp : ℤ) → IsSound r → (h : IsAccepted r change stamp)
-    → area_of_all (after change r) ≡ area_of_all r + area_registered h.act
+    → total_doubled_area (after change r) ≡ total_doubled_area r + area_registered h.act

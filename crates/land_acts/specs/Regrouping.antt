@@ -1,7 +1,7 @@
 -- The act `regroup`: the listed members replace those of a group.
 use Rattle.std.specs.Prelude.{ℤ, Bool, not, ◌||◌, List, [], ◌∷◌, Option, is_none}
 use Rattle.land_acts.specs.Mutations.Planning.{done_on}
-use Rattle.land_acts.specs.Sharing.{lists_stranger, are_too_fine, are_whole, lists_twice, members_of_list}
+use Rattle.land_acts.specs.Sharing.{lists_no_single_party, are_too_fine, are_whole, lists_twice, members_of_list}
 use Rattle.land_acts.specs.declared.mutations.refusal.Refusal.{Refusal}
 use Rattle.land_acts.specs.declared.mutations.refusal.Refusal.TheVariants.{NoSuchParty, SharesTooFine}
 use Rattle.land_acts.specs.declared.mutations.refusal.Refusal.TheVariants.{SharesNotWhole, ClockOut}
@@ -16,7 +16,7 @@ use Rattle.land_core.specs.declared.register.Register.{Register}
 -- the refusals with their conditions, in ascending order
 abbrev pub regroup_refusals : Register → Regroup → Option ℤ → List (Refusal × Bool)
 regroup_refusals r it stamp =
-    (NoSuchParty, not (has_group r it.group) || lists_stranger r it.members)
+    (NoSuchParty, not (has_group r it.group) || lists_no_single_party r it.members)
     ∷ (SharesTooFine, are_too_fine it.members)
     ∷ (SharesNotWhole, not (are_whole it.members))
     ∷ (ClockOut, is_none stamp)

@@ -16,8 +16,8 @@ use Rattle.land_core.specs.declared.role.Role.TheVariants.{StateAdministrator}
 use Rattle.land_core.specs.declared.roles.Grant.{Grant}
 
 -- whether another party is state administrator
-abbrev pub has_administrator_beside : Register → ℕ → Bool
-has_administrator_beside r n =
+abbrev pub has_other_administrator : Register → ℕ → Bool
+has_other_administrator r n =
     list_any (λ grant. is_role grant.role StateAdministrator && not (nat_eq grant.party n))
     (grants_in r.roles)
 
@@ -27,7 +27,7 @@ revoke_refusals r it stamp =
     (NoSuchParty, not (has_single_party r it.party))
     ∷ (RoleNotHeld, not (holds r it.party it.role))
     ∷ (ClockOut, is_none stamp)
-    ∷ (LastAdministrator, is_role it.role StateAdministrator && not (has_administrator_beside r it.party))
+    ∷ (LastAdministrator, is_role it.role StateAdministrator && not (has_other_administrator r it.party))
     ∷ []
 
 -- the role ends

@@ -21,8 +21,8 @@ abbrev pub lists_party : List Member → ℕ → Bool
 lists_party members n = list_any (λ member. nat_eq n member.party) members
 
 -- whether a listed number is not that of a single party
-abbrev pub lists_stranger : Register → List Member → Bool
-lists_stranger r members = list_any (λ member. not (has_single_party r member.party)) members
+abbrev pub lists_no_single_party : Register → List Member → Bool
+lists_no_single_party r members = list_any (λ member. not (has_single_party r member.party)) members
 
 -- whether the shares are too fine, so that their sum is not checked
 abbrev pub is_too_fine : Whole → Bool

@@ -4,11 +4,11 @@ use Rattle.std.specs.FinMap as map
 use Rattle.std.specs.FinMap.{FinMap}
 use Rattle.std.specs.Option.{option_map_or}
 use Rattle.std.specs.Ordering.{nat_cmp}
-use Rattle.land_acts.specs.FirstRights.{have_party}
-use Rattle.land_acts.specs.Mandating.{given}
+use Rattle.land_acts.specs.FirstRights.{rights_list_party}
+use Rattle.land_acts.specs.Mandating.{mandate_of_caller}
 use Rattle.land_acts.specs.Sharing.{lists_party}
 use Rattle.land_core.specs.Contents.{names_unit as content_names_unit}
-use Rattle.land_core.specs.Entries.{only, some}
+use Rattle.land_core.specs.Entries.{entries_where, some}
 use Rattle.land_core.specs.Mutations.{is_lodged_as}
 use Rattle.land_core.specs.Register.{holds}
 use Rattle.land_core.specs.Soundness.{IsSound}
@@ -44,7 +44,7 @@ names_party r (act.Grant it) n = nat_eq n it.party
 names_party r (act.Revoke it) n = nat_eq n it.party
 names_party r (act.Mandate it) n = nat_eq n it.agent
 names_party r (act.Withdraw it) n = nat_eq n it.principal || nat_eq n it.agent
-names_party r (act.Register it) n = have_party it.rights n
+names_party r (act.Register it) n = rights_list_party it.rights n
 names_party r (act.Burden it) n = nat_eq n it.party
 names_party r (act.Lift it) n = false
 names_party r (act.Lodge it) n = content_names_party n it.content
@@ -85,24 +85,24 @@ names_rrr r (act.Refuse it) n = false
 
 -- whether planning an act reads a mutation: the act decides it, or its caller lodged it under the same
 -- reference
-abbrev pub looks_at_mutation : Caller → Act → ℕ → MutationRecord → Bool
-looks_at_mutation caller (act.Enrol it) n m = false
-looks_at_mutation caller (act.Group it) n m = false
-looks_at_mutation caller (act.Regroup it) n m = false
-looks_at_mutation caller (act.Grant it) n m = false
-looks_at_mutation caller (act.Revoke it) n m = false
-looks_at_mutation caller (act.Mandate it) n m = false
-looks_at_mutation caller (act.Withdraw it) n m = false
-looks_at_mutation caller (act.Register it) n m = false
-looks_at_mutation caller (act.Burden it) n m = false
-looks_at_mutation caller (act.Lift it) n m = false
-looks_at_mutation caller (act.Lodge it) n m = is_lodged_as caller.party it.reference m
-looks_at_mutation caller (act.Approve it) n m = nat_eq n it.mutation
-looks_at_mutation caller (act.Refuse it) n m = nat_eq n it.mutation
+abbrev pub reads_mutation : Caller → Act → ℕ → MutationRecord → Bool
+reads_mutation caller (act.Enrol it) n m = false
+reads_mutation caller (act.Group it) n m = false
+reads_mutation caller (act.Regroup it) n m = false
+reads_mutation caller (act.Grant it) n m = false
+reads_mutation caller (act.Revoke it) n m = false
+reads_mutation caller (act.Mandate it) n m = false
+reads_mutation caller (act.Withdraw it) n m = false
+reads_mutation caller (act.Register it) n m = false
+reads_mutation caller (act.Burden it) n m = false
+reads_mutation caller (act.Lift it) n m = false
+reads_mutation caller (act.Lodge it) n m = is_lodged_as caller.party it.reference m
+reads_mutation caller (act.Approve it) n m = nat_eq n it.mutation
+reads_mutation caller (act.Refuse it) n m = nat_eq n it.mutation
 
 -- whether two mandates have the same principal and the same agent
-abbrev pub is_mandate : (it m : Mandate) → Bool
-is_mandate it m = nat_eq m.principal it.principal && nat_eq m.agent it.agent
+abbrev pub is_same_mandate : (it m : Mandate) → Bool
+is_same_mandate it m = nat_eq m.principal it.principal && nat_eq m.agent it.agent
 
 -- whether an act gives or withdraws a mandate
 abbrev pub names_mandate : Caller → Act → Mandate → Bool
@@ -111,8 +111,8 @@ names_mandate caller (act.Group it) m = false
 names_mandate caller (act.Regroup it) m = false
 names_mandate caller (act.Grant it) m = false
 names_mandate caller (act.Revoke it) m = false
-names_mandate caller (act.Mandate it) m = is_mandate (given caller it) m
-names_mandate caller (act.Withdraw it) m = is_mandate it m
+names_mandate caller (act.Mandate it) m = is_same_mandate (mandate_of_caller caller it) m
+names_mandate caller (act.Withdraw it) m = is_same_mandate it m
 names_mandate caller (act.Register it) m = false
 names_mandate caller (act.Burden it) m = false
 names_mandate caller (act.Lift it) m = false
@@ -121,39 +121,39 @@ names_mandate caller (act.Approve it) m = false
 names_mandate caller (act.Refuse it) m = false
 
 -- the mutations in the slice
-abbrev pub mutations_looked_at : Register → Caller → Act → FinMap nat_cmp MutationRecord
-mutations_looked_at r caller a = only (λ n m. looks_at_mutation caller a n m) r.mutations
+abbrev pub mutations_in_slice : Register → Caller → Act → FinMap nat_cmp MutationRecord
+mutations_in_slice r caller a = entries_where (λ n m. reads_mutation caller a n m) r.mutations
 
 -- planning reads the sources of these mutations
-abbrev pub looks_at_source : Register → Caller → Act → ℕ → Bool
-looks_at_source r caller a n = some (λ k m. nat_eq m.source n) (mutations_looked_at r caller a)
+abbrev pub reads_source : Register → Caller → Act → ℕ → Bool
+reads_source r caller a n = some (λ k m. nat_eq m.source n) (mutations_in_slice r caller a)
 
 -- planning reads the parties to which the act refers, and all state administrators
-abbrev pub looks_at_party : Register → Act → ℕ → Bool
-looks_at_party r a n = names_party r a n || holds r n StateAdministrator
+abbrev pub reads_party : Register → Act → ℕ → Bool
+reads_party r a n = names_party r a n || holds r n StateAdministrator
 
 -- planning reads the entries of the units to which the act refers, and the entry of a lift
-abbrev pub looks_at_rrr : Register → Act → ℕ → RrrRecord → Bool
-looks_at_rrr r a n e = names_unit r a e.unit || names_rrr r a n
+abbrev pub reads_rrr : Register → Act → ℕ → RrrRecord → Bool
+reads_rrr r a n e = names_unit r a e.unit || names_rrr r a n
 
 -- the register with only these records: each party with all its roles, each group with all its members, each
 -- unit with all its parcels and entries
 abbrev pub slice_of : Register → Caller → Act → Register
 slice_of r caller a = record {
-  parties = only (λ n p. looks_at_party r a n) r.parties;
-  roles = only (λ grant u. looks_at_party r a grant.party) r.roles;
-  members = only (λ n members. looks_at_party r a n) r.members;
-  units = only (λ n u. names_unit r a n) r.units;
-  parcels = only (λ n p. names_unit r a p.unit) r.parcels;
-  rrrs = only (λ n e. looks_at_rrr r a n e) r.rrrs;
-  sources = only (λ n s. looks_at_source r caller a n) r.sources;
-  mutations = mutations_looked_at r caller a;
-  mandates = only (λ m u. names_mandate caller a m) r.mandates;
+  parties = entries_where (λ n p. reads_party r a n) r.parties;
+  roles = entries_where (λ grant u. reads_party r a grant.party) r.roles;
+  members = entries_where (λ n members. reads_party r a n) r.members;
+  units = entries_where (λ n u. names_unit r a n) r.units;
+  parcels = entries_where (λ n p. names_unit r a p.unit) r.parcels;
+  rrrs = entries_where (λ n e. reads_rrr r a n e) r.rrrs;
+  sources = entries_where (λ n s. reads_source r caller a n) r.sources;
+  mutations = mutations_in_slice r caller a;
+  mandates = entries_where (λ m u. names_mandate caller a m) r.mandates;
   next = r.next;
 }
 
 -- the register is the slice of a sound register for an act
-pub record IsOfSound (slice : Register) (caller : Caller) (a : Act) : Type 0 where
+pub record IsSliceOfSound (slice : Register) (caller : Caller) (a : Act) : Type 0 where
   pub register : Register
   pub sound : IsSound register
   pub is : slice ≡ slice_of register caller a

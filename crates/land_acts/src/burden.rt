@@ -1,9 +1,9 @@
 //! The act `burden`: a unit gets a restriction or a responsibility.
 ghost use Rattle.std.specs.Prelude.{◌≡◌, ◌≤◌, IfOk};
-ghost use Rattle.land_acts.specs.Burdening.{burden_refusals, burden_change, burden_done, class_of};
-ghost use Rattle.land_acts.specs.Mutations.Planning.{IsPlanOf, first_that_holds, would_crowd};
+ghost use Rattle.land_acts.specs.Burdening.{burden_refusals, burden_change, burden_done, class_of_burden};
+ghost use Rattle.land_acts.specs.Mutations.Planning.{IsPlanOf, first_refusal_of, would_exceed_entries};
 
-use crate::mutations::planning::{document_source, lacks_numbers, would_crowd};
+use crate::mutations::planning::{document_source, runs_out_of_numbers, would_exceed_entries};
 use crate::mutations::refusal::Refusal;
 use crate::slice::Slice;
 use land_core::act::{Burden, BurdenClass};
@@ -18,13 +18,13 @@ use std::alloc::{AllocError, Global};
 
 /// Returns the first refusal of a burden whose condition holds: 202, 205, 210 or 217.
 pub(crate) fn refusal(slice: &Slice, it: &Burden, stamp: Option<i64>) -> Option<Refusal>
-    ensures { result ≡ first_that_holds (burden_refusals slice.now it.now stamp) }
+    ensures { result ≡ first_refusal_of (burden_refusals slice.now it.now stamp) }
 {
     if !slice.stands(Kind::Unit, it.unit) {
         Some(Refusal::NoSuchUnit)
     } else if !slice.stands(Kind::Party, it.party) {
         Some(Refusal::NoSuchParty)
-    } else if lacks_numbers(slice, 2) || would_crowd(slice, it.unit) {
+    } else if runs_out_of_numbers(slice, 2) || would_exceed_entries(slice, it.unit) {
         Some(Refusal::TooMany)
     } else if stamp.is_none() {
         Some(Refusal::ClockOut)
@@ -34,7 +34,7 @@ pub(crate) fn refusal(slice: &Slice, it: &Burden, stamp: Option<i64>) -> Option<
 }
 
 /// Returns the change, with the source and the entry under the next two numbers, and the receipt.
-pub(crate) fn planned(
+pub(crate) fn plan_of(
     alloc: Global,
     slice: &Slice,
     it: &Burden,
@@ -49,7 +49,7 @@ pub(crate) fn planned(
     let entry = RrrRecord {
         unit: it.unit,
         party: it.party,
-        class: class_of(it.class, it.words.copy(alloc)?),
+        class: class_of_burden(it.class, it.words.copy(alloc)?),
         source,
     };
     let rrrs = Sequence::of_one(alloc, (number, entry))?;
@@ -69,8 +69,8 @@ pub(crate) fn planned(
 }
 
 /// Returns the class of the entry with these words.
-fn class_of(class: BurdenClass, words: Text) -> Class
-    ensures { result ≡ class_of class words }
+fn class_of_burden(class: BurdenClass, words: Text) -> Class
+    ensures { result ≡ class_of_burden class words }
 {
     match class {
         BurdenClass::Restriction => Class::Restriction { words },

@@ -2,11 +2,11 @@
 ghost use Rattle.std.specs.Prelude.{◌≡◌, ◌∷◌, [], Some, IfOk};
 ghost use Rattle.std.specs.FinMap as map;
 ghost use Rattle.land_acts.specs.Deciding.{approve_change, approve_done, approve_has_room, approve_refusals};
-ghost use Rattle.land_acts.specs.Deciding.{decided, is_lodged, refuse_change, refuse_refusals};
-ghost use Rattle.land_acts.specs.Mutations.Asking.{Fits};
-ghost use Rattle.land_acts.specs.Mutations.Planning.{IsPlanOf, done_on, first_that_holds};
+ghost use Rattle.land_acts.specs.Deciding.{decided_mutation, is_lodged, refuse_change, refuse_refusals};
+ghost use Rattle.land_acts.specs.Mutations.ByContent.{StaysInRange};
+ghost use Rattle.land_acts.specs.Mutations.Planning.{IsPlanOf, done_on, first_refusal_of};
 
-use crate::mutations::asking;
+use crate::mutations::by_content;
 use crate::mutations::planning::done_on;
 use crate::mutations::refusal::Refusal;
 use crate::slice::Slice;
@@ -25,11 +25,11 @@ pub(crate) fn approve_refusal(
     it: Decision,
     stamp: Option<i64>,
 ) -> Result<Option<Refusal>, AllocError>
-    ensures { IfOk result (λ first. first ≡ first_that_holds (approve_refusals slice.now it stamp)) }
+    ensures { IfOk result (λ first. first ≡ first_refusal_of (approve_refusals slice.now it stamp)) }
 {
     match slice.mutations.get(it.mutation) {
         Some(mutation) if mutation.is_undecided() => {
-            asking::refusal(alloc, slice, &mutation.content, stamp)
+            by_content::refusal(alloc, slice, &mutation.content, stamp)
         }
         _ => Ok(Some(Refusal::NotLodged)),
     }
@@ -37,7 +37,7 @@ pub(crate) fn approve_refusal(
 
 /// Returns the first refusal of a refusal whose condition holds: 201 or 217.
 pub(crate) fn refuse_refusal(slice: &Slice, it: Decision, stamp: Option<i64>) -> Option<Refusal>
-    ensures { result ≡ first_that_holds (refuse_refusals slice.now it stamp) }
+    ensures { result ≡ first_refusal_of (refuse_refusals slice.now it stamp) }
 {
     if !is_lodged(slice, it.mutation) {
         Some(Refusal::NotLodged)
@@ -63,20 +63,20 @@ pub(crate) fn approve_has_room(slice: &Slice, it: Decision) -> bool
     ensures { result ≡ approve_has_room slice.now it }
 {
     match slice.mutations.get(it.mutation) {
-        Some(mutation) => asking::has_room(slice, &mutation.content),
+        Some(mutation) => by_content::has_room(slice, &mutation.content),
         None => true,
     }
 }
 
 /// Returns the change that the content requests, with the mutation marked approved, and the receipt.
-pub(crate) fn approved(
+pub(crate) fn approval_plan(
     alloc: Global,
     slice: &Slice,
     it: Decision,
     stamp: i64,
 ) -> Result<(Change, Done), AllocError>
     requires { (mutation : MutationRecord) → map.get slice.now.mutations it.mutation ≡ Some mutation
-        → Fits slice.now mutation.content }
+        → StaysInRange slice.now mutation.content }
     ensures { IfOk result (IsPlanOf (approve_change slice.now it) (approve_done slice.now it stamp)) }
 {
     let Some(mutation) = slice.mutations.get(it.mutation) else {
@@ -85,9 +85,9 @@ pub(crate) fn approved(
             done_on(alloc, it.mutation, stamp),
         ));
     };
-    let made = asking::made(alloc, slice, &mutation.content)?;
-    let mutations = decided(alloc, it.mutation, mutation, MutationState::Approved)?;
-    let mut change = asking::change(alloc, slice, mutation.source, &mutation.content)?;
+    let made = by_content::made(alloc, slice, &mutation.content)?;
+    let mutations = decided_mutation(alloc, it.mutation, mutation, MutationState::Approved)?;
+    let mut change = by_content::change(alloc, slice, mutation.source, &mutation.content)?;
     change.put.mutations = mutations;
     Ok((
         change,
@@ -100,7 +100,7 @@ pub(crate) fn approved(
 }
 
 /// Returns the change that only marks the mutation refused, and the receipt.
-pub(crate) fn refused(
+pub(crate) fn refusal_plan(
     alloc: Global,
     slice: &Slice,
     it: Decision,
@@ -114,22 +114,22 @@ pub(crate) fn refused(
             done_on(alloc, it.mutation, stamp),
         ));
     };
-    let mutations = decided(alloc, it.mutation, mutation, MutationState::Refused)?;
+    let mutations = decided_mutation(alloc, it.mutation, mutation, MutationState::Refused)?;
     let mut change = Change::nothing(alloc, slice.next);
     change.put.mutations = mutations;
     Ok((change, done_on(alloc, it.mutation, stamp)))
 }
 
 /// Returns the mutation in its new state, under its number.
-fn decided(
+fn decided_mutation(
     alloc: Global,
     number: u64,
     mutation: &MutationRecord,
     state: MutationState,
 ) -> Result<Sequence<(u64, MutationRecord)>, AllocError>
-    ensures { IfOk result (λ it. it ≡ (number, decided state mutation.now) ∷ []) }
+    ensures { IfOk result (λ it. it ≡ (number, decided_mutation state mutation.now) ∷ []) }
 {
-    let mut decided = mutation.copy(alloc)?;
-    decided.state = state;
-    Sequence::of_one(alloc, (number, decided))
+    let mut decided_mutation = mutation.copy(alloc)?;
+    decided_mutation.state = state;
+    Sequence::of_one(alloc, (number, decided_mutation))
 }

@@ -1,9 +1,9 @@
 //! The act `enrol`: a party is added to the register.
 ghost use Rattle.std.specs.Prelude.{◌≡◌, ◌≤◌, ◌+◌, IfOk};
 ghost use Rattle.land_acts.specs.Enrolment.{enrol_refusals, enrol_change, enrol_done};
-ghost use Rattle.land_acts.specs.Mutations.Planning.{IsPlanOf, first_that_holds};
+ghost use Rattle.land_acts.specs.Mutations.Planning.{IsPlanOf, first_refusal_of};
 
-use crate::mutations::planning::lacks_numbers;
+use crate::mutations::planning::runs_out_of_numbers;
 use crate::mutations::refusal::Refusal;
 use crate::slice::Slice;
 use land_core::act::Enrol;
@@ -17,9 +17,9 @@ use std::alloc::{AllocError, Global};
 
 /// Returns the first refusal of an enrolment whose condition holds: 210 or 217.
 pub(crate) fn refusal(slice: &Slice, stamp: Option<i64>) -> Option<Refusal>
-    ensures { result ≡ first_that_holds (enrol_refusals slice.now stamp) }
+    ensures { result ≡ first_refusal_of (enrol_refusals slice.now stamp) }
 {
-    if lacks_numbers(slice, 1) {
+    if runs_out_of_numbers(slice, 1) {
         Some(Refusal::TooMany)
     } else if stamp.is_none() {
         Some(Refusal::ClockOut)
@@ -29,7 +29,7 @@ pub(crate) fn refusal(slice: &Slice, stamp: Option<i64>) -> Option<Refusal>
 }
 
 /// Returns the change, with the party under the next number and its role citizen, and the receipt.
-pub(crate) fn planned(
+pub(crate) fn plan_of(
     alloc: Global,
     slice: &Slice,
     it: &Enrol,

@@ -2,7 +2,7 @@
 ghost use Rattle.std.specs.Prelude.{◌≡◌, IfOk};
 ghost use Rattle.std.specs.List.{list_any};
 ghost use Rattle.land_acts.specs.FirstRights.{are_types_too_fine, are_types_whole, has_right_twice};
-ghost use Rattle.land_acts.specs.FirstRights.{have_party, is_same_right, listed_of_type, lists_absent};
+ghost use Rattle.land_acts.specs.FirstRights.{rights_list_party, is_same_right, listed_of_type, lists_absent_party};
 ghost use Rattle.land_acts.specs.Sharing.{is_too_fine};
 ghost use Rattle.land_core.specs.Entries.{are_distinct};
 ghost use Rattle.land_core.specs.Units.{are_whole_or_none};
@@ -16,15 +16,15 @@ use land_fraction::{Fraction, Whole, is_whole};
 use std::alloc::{AllocError, Global};
 
 /// Returns whether one of the rights is of this party.
-pub(crate) fn have_party(rights: &[NewRight], number: u64) -> bool
-    ensures { result ≡ have_party rights.now number }
+pub(crate) fn rights_list_party(rights: &[NewRight], number: u64) -> bool
+    ensures { result ≡ rights_list_party rights.now number }
 {
     rights.iter().any(|right| number == right.party)
 }
 
 /// Returns whether one of the rights is of a party that does not exist.
-pub(crate) fn lists_absent(slice: &Slice, rights: &[NewRight]) -> bool
-    ensures { result ≡ lists_absent slice.now rights.now }
+pub(crate) fn lists_absent_party(slice: &Slice, rights: &[NewRight]) -> bool
+    ensures { result ≡ lists_absent_party slice.now rights.now }
 {
     rights
         .iter()
@@ -97,15 +97,15 @@ fn listed_of_type(
 pub(crate) fn has_right_twice(rights: &[NewRight]) -> bool
     ensures { result ≡ has_right_twice rights.now }
 {
-    !are_apart(rights)
+    !are_pairwise_distinct(rights)
 }
 
 /// Returns whether no party has two rights of one type.
-fn are_apart(rights: &[NewRight]) -> bool
+fn are_pairwise_distinct(rights: &[NewRight]) -> bool
     ensures { result ≡ are_distinct is_same_right rights.now }
 {
     match rights.split_first() {
-        Some((first, rest)) => !has_same_right(first, rest) && are_apart(rest),
+        Some((first, rest)) => !has_same_right(first, rest) && are_pairwise_distinct(rest),
         None => true,
     }
 }

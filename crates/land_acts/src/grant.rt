@@ -1,7 +1,7 @@
 //! The act `grant`: a party gets a role.
 ghost use Rattle.std.specs.Prelude.{◌≡◌, IfOk};
 ghost use Rattle.land_acts.specs.Granting.{grant_refusals, grant_change, grant_done};
-ghost use Rattle.land_acts.specs.Mutations.Planning.{IsPlanOf, first_that_holds};
+ghost use Rattle.land_acts.specs.Mutations.Planning.{IsPlanOf, first_refusal_of};
 
 use crate::mutations::planning::done_on;
 use crate::mutations::refusal::Refusal;
@@ -13,7 +13,7 @@ use std::alloc::{AllocError, Global};
 
 /// Returns the first refusal of a grant whose condition holds: 205, 215 or 217.
 pub(crate) fn refusal(slice: &Slice, it: &Grant, stamp: Option<i64>) -> Option<Refusal>
-    ensures { result ≡ first_that_holds (grant_refusals slice.now it.now stamp) }
+    ensures { result ≡ first_refusal_of (grant_refusals slice.now it.now stamp) }
 {
     if !slice.has_single_party(it.party) {
         Some(Refusal::NoSuchParty)
@@ -27,7 +27,7 @@ pub(crate) fn refusal(slice: &Slice, it: &Grant, stamp: Option<i64>) -> Option<R
 }
 
 /// Returns the change, which starts the role, and the receipt.
-pub(crate) fn planned(
+pub(crate) fn plan_of(
     alloc: Global,
     slice: &Slice,
     it: &Grant,

@@ -1,11 +1,11 @@
 //! The act `group`: parties become the members of a new group.
 ghost use Rattle.std.specs.Prelude.{◌≡◌, ◌≤◌, IfOk};
 ghost use Rattle.land_acts.specs.Grouping.{group_refusals, group_change, group_done};
-ghost use Rattle.land_acts.specs.Mutations.Planning.{IsPlanOf, first_that_holds};
+ghost use Rattle.land_acts.specs.Mutations.Planning.{IsPlanOf, first_refusal_of};
 
-use crate::mutations::planning::lacks_numbers;
+use crate::mutations::planning::runs_out_of_numbers;
 use crate::mutations::refusal::Refusal;
-use crate::sharing::{lists_stranger, lists_twice, members_of_list, wholeness};
+use crate::sharing::{lists_no_single_party, lists_twice, members_of_list, wholeness};
 use crate::slice::Slice;
 use land_core::act::NewGroup;
 use land_core::change::{Change, Done};
@@ -24,16 +24,16 @@ pub(crate) fn refusal(
     it: &NewGroup,
     stamp: Option<i64>,
 ) -> Result<Option<Refusal>, AllocError>
-    ensures { IfOk result (λ first. first ≡ first_that_holds (group_refusals slice.now it.now stamp)) }
+    ensures { IfOk result (λ first. first ≡ first_refusal_of (group_refusals slice.now it.now stamp)) }
 {
     let members = it.members.as_slice();
-    if lists_stranger(slice, members) {
+    if lists_no_single_party(slice, members) {
         return Ok(Some(Refusal::NoSuchParty));
     }
     let whole = wholeness(alloc, members)?;
     if whole == Whole::TooFine {
         Ok(Some(Refusal::SharesTooFine))
-    } else if lacks_numbers(slice, 1) {
+    } else if runs_out_of_numbers(slice, 1) {
         Ok(Some(Refusal::TooMany))
     } else if whole != Whole::Yes {
         Ok(Some(Refusal::SharesNotWhole))
@@ -47,7 +47,7 @@ pub(crate) fn refusal(
 }
 
 /// Returns the change, with the group under the next number and its members, and the receipt.
-pub(crate) fn planned(
+pub(crate) fn plan_of(
     alloc: Global,
     slice: &Slice,
     it: &NewGroup,

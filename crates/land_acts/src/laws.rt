@@ -3,10 +3,10 @@
 ghost use Rattle.land_acts.specs.AreaLaws.{MergersKeepAreas, SubdivisionsKeepAreas};
 ghost use Rattle.land_acts.specs.GroundLaws.{MergersKeepGround, SubdivisionsKeepGround};
 ghost use Rattle.land_acts.specs.Laws.{SlicesSuffice, AcceptedKeepsSound, AcceptedNamesKeysOnce};
-ghost use Rattle.land_acts.specs.Laws.{AcceptedTellsStamp, NothingWithoutStamp};
-ghost use Rattle.land_acts.specs.MutationLaws.{DecisionsStay, LodgingsStand, LodgingsStay};
-ghost use Rattle.land_acts.specs.MutationLaws.{RepeatsAreToldTheFirst};
-ghost use Rattle.land_acts.specs.RegisterAreas.{ApprovedRegistersKeepTheirArea, RegistrationsAloneAddArea};
+ghost use Rattle.land_acts.specs.Laws.{AcceptedReturnsStamp, NothingWithoutStamp};
+ghost use Rattle.land_acts.specs.MutationLaws.{DecisionsStay, LodgingsExist, LodgingsStay};
+ghost use Rattle.land_acts.specs.MutationLaws.{RepeatsGetTheFirstReceipt};
+ghost use Rattle.land_acts.specs.RegisterAreas.{ApprovedRegistersKeepTheirArea, OnlyRegistrationsAddArea};
 
 /// An act has the same outcome on a register and on its slice.
 pub fn slices_suffice()
@@ -24,8 +24,8 @@ pub fn changes_name_keys_once()
 {}
 
 /// The receipt of an accepted act has the stamp of its change.
-pub fn accepted_acts_tell_their_stamp()
-    ensures { AcceptedTellsStamp }
+pub fn accepted_acts_return_their_stamp()
+    ensures { AcceptedReturnsStamp }
 {}
 
 /// Without a stamp, no act changes anything.
@@ -34,8 +34,8 @@ pub fn nothing_is_accepted_without_a_stamp()
 {}
 
 /// After a lodging, the mutation and its document exist under the next two numbers.
-pub fn lodgings_stand()
-    ensures { LodgingsStand }
+pub fn lodgings_exist()
+    ensures { LodgingsExist }
 {}
 
 /// Every accepted change preserves them, except for the state of the mutation.
@@ -44,8 +44,8 @@ pub fn lodgings_stay()
 {}
 
 /// A repeat gets the receipt of the first lodging, even if a refusal would apply.
-pub fn repeats_are_told_the_first()
-    ensures { RepeatsAreToldTheFirst }
+pub fn repeats_get_the_first_receipt()
+    ensures { RepeatsGetTheFirstReceipt }
 {}
 
 /// No accepted change modifies a decided mutation.
@@ -81,6 +81,6 @@ pub fn approved_registers_keep_their_area()
 
 /// An accepted act adds to the total area of the register exactly the area of the parcels that it registers.
 /// So only registrations change it.
-pub fn registrations_alone_add_area()
-    ensures { RegistrationsAloneAddArea }
+pub fn only_registrations_add_area()
+    ensures { OnlyRegistrationsAddArea }
 {}

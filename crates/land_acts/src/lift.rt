@@ -1,7 +1,7 @@
 //! The act `lift`: a restriction or a responsibility ends.
 ghost use Rattle.std.specs.Prelude.{◌≡◌, IfOk};
 ghost use Rattle.land_acts.specs.Lifting.{has_burden, is_burden, lift_refusals, lift_change, lift_done};
-ghost use Rattle.land_acts.specs.Mutations.Planning.{IsPlanOf, first_that_holds};
+ghost use Rattle.land_acts.specs.Mutations.Planning.{IsPlanOf, first_refusal_of};
 
 use crate::mutations::planning::done_on;
 use crate::mutations::refusal::Refusal;
@@ -14,7 +14,7 @@ use std::alloc::{AllocError, Global};
 
 /// Returns the first refusal of a lift whose condition holds: 204 or 217.
 pub(crate) fn refusal(slice: &Slice, it: &Lift, stamp: Option<i64>) -> Option<Refusal>
-    ensures { result ≡ first_that_holds (lift_refusals slice.now it.now stamp) }
+    ensures { result ≡ first_refusal_of (lift_refusals slice.now it.now stamp) }
 {
     if !has_burden(slice, it.rrr) {
         Some(Refusal::NoSuchRight)
@@ -46,7 +46,7 @@ fn is_burden(class: &Class) -> bool
 }
 
 /// Returns the change, which ends the entry, and the receipt.
-pub(crate) fn planned(
+pub(crate) fn plan_of(
     alloc: Global,
     slice: &Slice,
     it: &Lift,

@@ -1,11 +1,11 @@
 //! The act `lodge`: a mutation is filed with its document.
 ghost use Rattle.std.specs.Prelude.{◌≡◌, ◌≤◌, ◌∷◌, [], IfOk};
-ghost use Rattle.land_acts.specs.Lodging.{document_kind, has_lodged_other, has_title, in_order};
+ghost use Rattle.land_acts.specs.Lodging.{document_kind, has_lodged_other, has_title, ascending_pair};
 ghost use Rattle.land_acts.specs.Lodging.{is_same_lodging, lodge_change, lodge_done, lodge_refusals};
-ghost use Rattle.land_acts.specs.Lodging.{lodge_repeat, lodged_record, lodged_told};
-ghost use Rattle.land_acts.specs.Mutations.Planning.{IsPlanOf, first_that_holds};
+ghost use Rattle.land_acts.specs.Lodging.{lodge_repeat, new_mutation_record, receipt_of_lodging};
+ghost use Rattle.land_acts.specs.Mutations.Planning.{IsPlanOf, first_refusal_of};
 
-use crate::mutations::planning::{document_source, lacks_numbers};
+use crate::mutations::planning::{document_source, runs_out_of_numbers};
 use crate::mutations::refusal::Refusal;
 use crate::slice::Slice;
 use land_core::act::Lodging;
@@ -31,7 +31,7 @@ pub(crate) fn repeat(
     for (number, mutation) in slice.mutations.iter() {
         if mutation.is_lodged_as(caller.party, it.reference.as_str()) {
             if is_same_lodging(slice, it, mutation) {
-                return Ok(Some(lodged_told(alloc, *number, mutation)?));
+                return Ok(Some(receipt_of_lodging(alloc, *number, mutation)?));
             }
             return Ok(None);
         }
@@ -69,19 +69,19 @@ fn has_title(slice: &Slice, source: u64, title: &str) -> bool
 }
 
 /// Returns the receipt that a lodging got.
-fn lodged_told(alloc: Global, number: u64, mutation: &MutationRecord) -> Result<Done, AllocError>
-    ensures { IfOk result (λ told. told ≡ lodged_told (number, mutation.now)) }
+fn receipt_of_lodging(alloc: Global, number: u64, mutation: &MutationRecord) -> Result<Done, AllocError>
+    ensures { IfOk result (λ told. told ≡ receipt_of_lodging (number, mutation.now)) }
 {
     Ok(Done {
         number,
-        made: in_order(alloc, mutation.source, number)?,
+        made: ascending_pair(alloc, mutation.source, number)?,
         stamp: mutation.lodged,
     })
 }
 
 /// Returns two numbers in ascending order.
-fn in_order(alloc: Global, number: u64, other: u64) -> Result<NumberList, AllocError>
-    ensures { IfOk result (λ it. it ≡ in_order number other) }
+fn ascending_pair(alloc: Global, number: u64, other: u64) -> Result<NumberList, AllocError>
+    ensures { IfOk result (λ it. it ≡ ascending_pair number other) }
 {
     let (first, second) = if other < number {
         (other, number)
@@ -106,9 +106,9 @@ pub(crate) fn refusal(
     it: &Lodging,
     stamp: Option<i64>,
 ) -> Option<Refusal>
-    ensures { result ≡ first_that_holds (lodge_refusals slice.now caller it.now stamp) }
+    ensures { result ≡ first_refusal_of (lodge_refusals slice.now caller it.now stamp) }
 {
-    if lacks_numbers(slice, 2) {
+    if runs_out_of_numbers(slice, 2) {
         Some(Refusal::TooMany)
     } else if has_lodged_other(slice, caller, it) {
         Some(Refusal::ReferenceUsed)
@@ -120,7 +120,7 @@ pub(crate) fn refusal(
 }
 
 /// Returns the change, with the source and the mutation under the next two numbers, and the receipt.
-pub(crate) fn planned(
+pub(crate) fn plan_of(
     alloc: Global,
     slice: &Slice,
     caller: Caller,
@@ -170,7 +170,7 @@ fn lodged(
     source: u64,
     stamp: i64,
 ) -> Result<MutationRecord, AllocError>
-    ensures { IfOk result (λ mutation. mutation ≡ lodged_record caller it.now source stamp) }
+    ensures { IfOk result (λ mutation. mutation ≡ new_mutation_record caller it.now source stamp) }
 {
     Ok(MutationRecord {
         lodger: caller.party,

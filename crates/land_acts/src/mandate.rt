@@ -1,7 +1,7 @@
 //! The act `mandate`: the caller lets another party see what it sees.
 ghost use Rattle.std.specs.Prelude.{◌≡◌, IfOk};
-ghost use Rattle.land_acts.specs.Mandating.{given, mandate_refusals, mandate_change, mandate_done};
-ghost use Rattle.land_acts.specs.Mutations.Planning.{IsPlanOf, first_that_holds};
+ghost use Rattle.land_acts.specs.Mandating.{mandate_of_caller, mandate_refusals, mandate_change, mandate_done};
+ghost use Rattle.land_acts.specs.Mutations.Planning.{IsPlanOf, first_refusal_of};
 
 use crate::mutations::planning::done_on;
 use crate::mutations::refusal::Refusal;
@@ -20,7 +20,7 @@ pub(crate) fn refusal(
     it: &NewMandate,
     stamp: Option<i64>,
 ) -> Option<Refusal>
-    ensures { result ≡ first_that_holds (mandate_refusals slice.now caller it.now stamp) }
+    ensures { result ≡ first_refusal_of (mandate_refusals slice.now caller it.now stamp) }
 {
     if !slice.has_single_party(it.agent) {
         Some(Refusal::NoSuchParty)
@@ -28,7 +28,7 @@ pub(crate) fn refusal(
         Some(Refusal::ClockOut)
     } else if it.agent == caller.party {
         Some(Refusal::SameParty)
-    } else if slice.mandates.contains(given(caller, it)) {
+    } else if slice.mandates.contains(mandate_of_caller(caller, it)) {
         Some(Refusal::MandateHeld)
     } else {
         None
@@ -36,8 +36,8 @@ pub(crate) fn refusal(
 }
 
 /// Returns the mandate from the caller to the agent.
-pub(crate) fn given(caller: Caller, it: &NewMandate) -> Mandate
-    ensures { result ≡ given caller it.now }
+pub(crate) fn mandate_of_caller(caller: Caller, it: &NewMandate) -> Mandate
+    ensures { result ≡ mandate_of_caller caller it.now }
 {
     Mandate {
         principal: caller.party,
@@ -46,7 +46,7 @@ pub(crate) fn given(caller: Caller, it: &NewMandate) -> Mandate
 }
 
 /// Returns the change, which starts the mandate, and the receipt.
-pub(crate) fn planned(
+pub(crate) fn plan_of(
     alloc: Global,
     slice: &Slice,
     caller: Caller,
@@ -55,7 +55,7 @@ pub(crate) fn planned(
 ) -> Result<(Change, Done), AllocError>
     ensures { IfOk result (IsPlanOf (mandate_change slice.now caller it.now) (mandate_done it.now stamp)) }
 {
-    let mandates = Sequence::of_one(alloc, given(caller, it))?;
+    let mandates = Sequence::of_one(alloc, mandate_of_caller(caller, it))?;
     let mut change = Change::nothing(alloc, slice.next);
     change.put.mandates = mandates;
     Ok((change, done_on(alloc, it.agent, stamp)))

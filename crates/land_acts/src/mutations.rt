@@ -1,7 +1,7 @@
 //! The contents of mutations: for each, its refusals, its change and the numbers that it creates; and the
 //! parts that all plans share.
 
-pub mod asking;
+pub mod by_content;
 mod discharge;
 mod grounds;
 pub mod laws;

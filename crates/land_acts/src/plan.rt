@@ -1,9 +1,9 @@
 //! The plan of an act: its refusal, or its change and receipt.
 ghost use Rattle.std.specs.Prelude.{◌≡◌, ◌≢◌, true, IfOk};
-ghost use Rattle.land_acts.specs.Mutations.Planning.{IsPlanOf, first_that_holds};
+ghost use Rattle.land_acts.specs.Mutations.Planning.{IsPlanOf, first_refusal_of};
 ghost use Rattle.land_acts.specs.Outcome.{outcome_of, refusals_of, change_of, done_of, has_room_for};
-ghost use Rattle.land_acts.specs.Outcome.{repeated_done, IsUnrefused};
-ghost use Rattle.land_acts.specs.Slices.{IsOfSound};
+ghost use Rattle.land_acts.specs.Outcome.{repeat_receipt_of, HasNoRefusal};
+ghost use Rattle.land_acts.specs.Slices.{IsSliceOfSound};
 ghost use Rattle.land_core.specs.Acts.{is_well_formed};
 
 use crate::mutations::refusal::{Planned, Refusal};
@@ -29,10 +29,10 @@ pub fn plan(
     stamp: Option<i64>,
 ) -> Result<Planned, Refusal>
     requires { is_well_formed act.now ≡ true }
-    ensures { IsOfSound slice.now caller act.now → result ≢ Err Refusal.NoMemory
+    ensures { IsSliceOfSound slice.now caller act.now → result ≢ Err Refusal.NoMemory
         → result ≡ outcome_of slice.now caller act.now stamp }
 {
-    if let Some(done) = repeated(alloc, slice, caller, act)? {
+    if let Some(done) = receipt_of_repeat(alloc, slice, caller, act)? {
         return Ok(Planned::Repeat(done));
     }
     if let Some(refusal) = first_refusal(alloc, slice, caller, act, stamp)? {
@@ -44,18 +44,18 @@ pub fn plan(
     if !has_room(slice, act) {
         return Err(Refusal::TooMany);
     }
-    let (change, done) = planned(alloc, slice, caller, act, stamp)?;
+    let (change, done) = plan_of(alloc, slice, caller, act, stamp)?;
     Ok(Planned::New(change, done))
 }
 
 /// Returns the receipt of an earlier act if this one repeats it.
-fn repeated(
+fn receipt_of_repeat(
     alloc: Global,
     slice: &Slice,
     caller: Caller,
     act: &Act,
 ) -> Result<Option<Done>, AllocError>
-    ensures { IfOk result (λ told. told ≡ repeated_done slice.now caller act.now) }
+    ensures { IfOk result (λ told. told ≡ repeat_receipt_of slice.now caller act.now) }
 {
     match act {
         Act::Lodge(it) => lodge::repeat(alloc, slice, caller, it),
@@ -72,7 +72,7 @@ fn first_refusal(
     stamp: Option<i64>,
 ) -> Result<Option<Refusal>, AllocError>
     requires { is_well_formed act.now ≡ true }
-    ensures { IfOk result (λ first. first ≡ first_that_holds (refusals_of slice.now caller act.now stamp)) }
+    ensures { IfOk result (λ first. first ≡ first_refusal_of (refusals_of slice.now caller act.now stamp)) }
 {
     match act {
         Act::Enrol(_) => Ok(enrol::refusal(slice, stamp)),
@@ -102,7 +102,7 @@ fn has_room(slice: &Slice, act: &Act) -> bool
 }
 
 /// Returns the change of an act without refusal, and its receipt.
-fn planned(
+fn plan_of(
     alloc: Global,
     slice: &Slice,
     caller: Caller,
@@ -111,23 +111,23 @@ fn planned(
 ) -> Result<(Change, Done), AllocError>
     requires formed { is_well_formed act.now ≡ true }
     requires room { has_room_for slice.now act.now ≡ true }
-    requires unrefused { IsUnrefused slice.now caller act.now }
+    requires unrefused { HasNoRefusal slice.now caller act.now }
     ensures { IfOk result (IsPlanOf (change_of slice.now caller act.now stamp)
         (done_of slice.now caller act.now stamp)) }
 {
     match act {
-        Act::Enrol(it) => enrol::planned(alloc, slice, it, stamp),
-        Act::Group(it) => group::planned(alloc, slice, it, stamp),
-        Act::Regroup(it) => regroup::planned(alloc, slice, it, stamp),
-        Act::Grant(it) => grant::planned(alloc, slice, it, stamp),
-        Act::Revoke(it) => revoke::planned(alloc, slice, it, stamp),
-        Act::Mandate(it) => mandate::planned(alloc, slice, caller, it, stamp),
-        Act::Withdraw(it) => withdraw::planned(alloc, slice, it, stamp),
-        Act::Register(it) => register::planned(alloc, slice, it, stamp),
-        Act::Burden(it) => burden::planned(alloc, slice, it, stamp),
-        Act::Lift(it) => lift::planned(alloc, slice, it, stamp),
-        Act::Lodge(it) => lodge::planned(alloc, slice, caller, it, stamp),
-        Act::Approve(it) => decide::approved(alloc, slice, *it, stamp),
-        Act::Refuse(it) => decide::refused(alloc, slice, *it, stamp),
+        Act::Enrol(it) => enrol::plan_of(alloc, slice, it, stamp),
+        Act::Group(it) => group::plan_of(alloc, slice, it, stamp),
+        Act::Regroup(it) => regroup::plan_of(alloc, slice, it, stamp),
+        Act::Grant(it) => grant::plan_of(alloc, slice, it, stamp),
+        Act::Revoke(it) => revoke::plan_of(alloc, slice, it, stamp),
+        Act::Mandate(it) => mandate::plan_of(alloc, slice, caller, it, stamp),
+        Act::Withdraw(it) => withdraw::plan_of(alloc, slice, it, stamp),
+        Act::Register(it) => register::plan_of(alloc, slice, it, stamp),
+        Act::Burden(it) => burden::plan_of(alloc, slice, it, stamp),
+        Act::Lift(it) => lift::plan_of(alloc, slice, it, stamp),
+        Act::Lodge(it) => lodge::plan_of(alloc, slice, caller, it, stamp),
+        Act::Approve(it) => decide::approval_plan(alloc, slice, *it, stamp),
+        Act::Refuse(it) => decide::refusal_plan(alloc, slice, *it, stamp),
     }
 }

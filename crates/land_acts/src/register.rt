@@ -1,13 +1,13 @@
 //! The act `register`: a unit is added with its first parcels and rights.
 ghost use Rattle.std.specs.Prelude.{◌≡◌, ◌≤◌, ◌+◌, true, length, map as map_list, IfOk};
-ghost use Rattle.land_acts.specs.Mutations.Numbering.{numbered, numbers_from};
-ghost use Rattle.land_acts.specs.Mutations.Planning.{IsPlanOf, first_that_holds, numbers_end};
-ghost use Rattle.land_acts.specs.Registering.{new_count, parcel_of, register_refusals, register_change};
-ghost use Rattle.land_acts.specs.Registering.{register_done, right_of};
+ghost use Rattle.land_acts.specs.Mutations.Numbering.{with_numbers_from, numbers_from};
+ghost use Rattle.land_acts.specs.Mutations.Planning.{IsPlanOf, first_refusal_of, numbers_end};
+ghost use Rattle.land_acts.specs.Registering.{new_count, new_parcel_record, register_refusals, register_change};
+ghost use Rattle.land_acts.specs.Registering.{register_done, new_right_record};
 ghost use Rattle.land_core.specs.Acts.{is_new_unit};
 
-use crate::first_rights::{are_types_too_fine, are_types_whole, has_right_twice, lists_absent};
-use crate::mutations::planning::{document_source, lacks_numbers, numbers_from};
+use crate::first_rights::{are_types_too_fine, are_types_whole, has_right_twice, lists_absent_party};
+use crate::mutations::planning::{document_source, runs_out_of_numbers, numbers_from};
 use crate::mutations::refusal::Refusal;
 use crate::slice::Slice;
 use land_core::act::{NewParcel, NewRight, NewUnit};
@@ -30,14 +30,14 @@ pub(crate) fn refusal(
     stamp: Option<i64>,
 ) -> Result<Option<Refusal>, AllocError>
     requires { is_new_unit it.now ≡ true }
-    ensures { IfOk result (λ first. first ≡ first_that_holds (register_refusals slice.now it.now stamp)) }
+    ensures { IfOk result (λ first. first ≡ first_refusal_of (register_refusals slice.now it.now stamp)) }
 {
     let rights = it.rights.as_slice();
-    if lists_absent(slice, rights) {
+    if lists_absent_party(slice, rights) {
         Ok(Some(Refusal::NoSuchParty))
     } else if it.checked && are_types_too_fine(alloc, rights)? {
         Ok(Some(Refusal::SharesTooFine))
-    } else if lacks_numbers(slice, u128::from(new_count(it))) {
+    } else if runs_out_of_numbers(slice, u128::from(new_count(it))) {
         Ok(Some(Refusal::TooMany))
     } else if it.checked && !are_types_whole(alloc, rights)? {
         Ok(Some(Refusal::SharesNotWhole))
@@ -60,7 +60,7 @@ fn new_count(it: &NewUnit) -> u64
 
 /// Returns the change, with the source, the unit, its parcels and its rights under the next numbers, and the
 /// receipt.
-pub(crate) fn planned(
+pub(crate) fn plan_of(
     alloc: Global,
     slice: &Slice,
     it: &NewUnit,
@@ -81,8 +81,8 @@ pub(crate) fn planned(
         checked: it.checked,
     };
     let units = Sequence::of_one(alloc, (unit, record))?;
-    let parcels = placed_parcels(alloc, it.parcels.as_slice(), unit, source, source + 2)?;
-    let rrrs = placed_rights(alloc, it.rights.as_slice(), unit, source, first_right)?;
+    let parcels = numbered_parcels(alloc, it.parcels.as_slice(), unit, source, source + 2)?;
+    let rrrs = numbered_rights(alloc, it.rights.as_slice(), unit, source, first_right)?;
     let made = numbers_from(alloc, source, count)?;
     let mut change = Change::nothing(alloc, source + count);
     change.put.sources = sources;
@@ -100,7 +100,7 @@ pub(crate) fn planned(
 }
 
 /// Returns the records of the parcels, numbered from `first`.
-fn placed_parcels(
+fn numbered_parcels(
     alloc: Global,
     parcels: &[NewParcel],
     unit: u64,
@@ -108,7 +108,7 @@ fn placed_parcels(
     first: u64,
 ) -> Result<Sequence<(u64, ParcelRecord)>, AllocError>
     requires { first + length parcels.now ≤ numbers_end }
-    ensures { IfOk result (λ it. it ≡ numbered first (map_list (parcel_of unit source) parcels.now)) }
+    ensures { IfOk result (λ it. it ≡ with_numbers_from first (map_list (new_parcel_record unit source) parcels.now)) }
 {
     let mut placed = Sequence::new(alloc);
     let mut number = first;
@@ -126,7 +126,7 @@ fn placed_parcels(
 }
 
 /// Returns the records of the rights, numbered from `first`.
-fn placed_rights(
+fn numbered_rights(
     alloc: Global,
     rights: &[NewRight],
     unit: u64,
@@ -134,7 +134,7 @@ fn placed_rights(
     first: u64,
 ) -> Result<Sequence<(u64, RrrRecord)>, AllocError>
     requires { first + length rights.now ≤ numbers_end }
-    ensures { IfOk result (λ it. it ≡ numbered first (map_list (right_of unit source) rights.now)) }
+    ensures { IfOk result (λ it. it ≡ with_numbers_from first (map_list (new_right_record unit source) rights.now)) }
 {
     let mut placed = Sequence::new(alloc);
     let mut number = first;

@@ -1,11 +1,11 @@
 //! The act `regroup`: a group gets other members.
 ghost use Rattle.std.specs.Prelude.{◌≡◌, IfOk};
-ghost use Rattle.land_acts.specs.Mutations.Planning.{IsPlanOf, first_that_holds};
+ghost use Rattle.land_acts.specs.Mutations.Planning.{IsPlanOf, first_refusal_of};
 ghost use Rattle.land_acts.specs.Regrouping.{regroup_refusals, regroup_change, regroup_done};
 
 use crate::mutations::planning::done_on;
 use crate::mutations::refusal::Refusal;
-use crate::sharing::{lists_stranger, lists_twice, members_of_list, wholeness};
+use crate::sharing::{lists_no_single_party, lists_twice, members_of_list, wholeness};
 use crate::slice::Slice;
 use land_core::act::Regroup;
 use land_core::change::{Change, Done};
@@ -21,10 +21,10 @@ pub(crate) fn refusal(
     it: &Regroup,
     stamp: Option<i64>,
 ) -> Result<Option<Refusal>, AllocError>
-    ensures { IfOk result (λ first. first ≡ first_that_holds (regroup_refusals slice.now it.now stamp)) }
+    ensures { IfOk result (λ first. first ≡ first_refusal_of (regroup_refusals slice.now it.now stamp)) }
 {
     let members = it.members.as_slice();
-    if !slice.has_group(it.group) || lists_stranger(slice, members) {
+    if !slice.has_group(it.group) || lists_no_single_party(slice, members) {
         return Ok(Some(Refusal::NoSuchParty));
     }
     let whole = wholeness(alloc, members)?;
@@ -42,7 +42,7 @@ pub(crate) fn refusal(
 }
 
 /// Returns the change, which replaces the members of the group, and the receipt.
-pub(crate) fn planned(
+pub(crate) fn plan_of(
     alloc: Global,
     slice: &Slice,
     it: &Regroup,

@@ -1,8 +1,8 @@
 //! The act `revoke`: a role of a party ends.
 ghost use Rattle.std.specs.Prelude.{◌≡◌, IfOk};
-ghost use Rattle.land_acts.specs.Mutations.Planning.{IsPlanOf, first_that_holds};
+ghost use Rattle.land_acts.specs.Mutations.Planning.{IsPlanOf, first_refusal_of};
 ghost use Rattle.land_acts.specs.Revoking.{revoke_refusals, revoke_change, revoke_done};
-ghost use Rattle.land_acts.specs.Revoking.{has_administrator_beside};
+ghost use Rattle.land_acts.specs.Revoking.{has_other_administrator};
 
 use crate::mutations::planning::done_on;
 use crate::mutations::refusal::Refusal;
@@ -15,7 +15,7 @@ use std::alloc::{AllocError, Global};
 
 /// Returns the first refusal of a revocation whose condition holds: 205, 216, 217 or 218.
 pub(crate) fn refusal(slice: &Slice, it: &Grant, stamp: Option<i64>) -> Option<Refusal>
-    ensures { result ≡ first_that_holds (revoke_refusals slice.now it.now stamp) }
+    ensures { result ≡ first_refusal_of (revoke_refusals slice.now it.now stamp) }
 {
     if !slice.has_single_party(it.party) {
         Some(Refusal::NoSuchParty)
@@ -23,7 +23,7 @@ pub(crate) fn refusal(slice: &Slice, it: &Grant, stamp: Option<i64>) -> Option<R
         Some(Refusal::RoleNotHeld)
     } else if stamp.is_none() {
         Some(Refusal::ClockOut)
-    } else if it.role == Role::StateAdministrator && !has_administrator_beside(slice, it.party) {
+    } else if it.role == Role::StateAdministrator && !has_other_administrator(slice, it.party) {
         Some(Refusal::LastAdministrator)
     } else {
         None
@@ -31,14 +31,14 @@ pub(crate) fn refusal(slice: &Slice, it: &Grant, stamp: Option<i64>) -> Option<R
 }
 
 /// Returns whether another party is state administrator.
-fn has_administrator_beside(slice: &Slice, party: u64) -> bool
-    ensures { result ≡ has_administrator_beside slice.now party }
+fn has_other_administrator(slice: &Slice, party: u64) -> bool
+    ensures { result ≡ has_other_administrator slice.now party }
 {
     slice.roles.iter().any(|grant| grant.role == Role::StateAdministrator && grant.party != party)
 }
 
 /// Returns the change, which ends the role, and the receipt.
-pub(crate) fn planned(
+pub(crate) fn plan_of(
     alloc: Global,
     slice: &Slice,
     it: &Grant,

@@ -1,6 +1,6 @@
 //! Checks of the members that an act lists.
 ghost use Rattle.std.specs.Prelude.{◌≡◌, IfOk};
-ghost use Rattle.land_acts.specs.Sharing.{listed_shares, lists_party, lists_stranger, lists_twice};
+ghost use Rattle.land_acts.specs.Sharing.{listed_shares, lists_party, lists_no_single_party, lists_twice};
 ghost use Rattle.land_acts.specs.Sharing.{members_of_list, same_party};
 ghost use Rattle.land_core.specs.Entries.{are_distinct};
 ghost use Rattle.land_fraction.specs.Wholeness.{wholeness};
@@ -19,8 +19,8 @@ pub(crate) fn lists_party(members: &[Member], number: u64) -> bool
 }
 
 /// Returns whether a listed number is not that of a single party.
-pub(crate) fn lists_stranger(slice: &Slice, members: &[Member]) -> bool
-    ensures { result ≡ lists_stranger slice.now members.now }
+pub(crate) fn lists_no_single_party(slice: &Slice, members: &[Member]) -> bool
+    ensures { result ≡ lists_no_single_party slice.now members.now }
 {
     members
         .iter()
@@ -46,15 +46,15 @@ fn listed_shares(alloc: Global, members: &[Member]) -> Result<Vec<Fraction>, All
 pub(crate) fn lists_twice(members: &[Member]) -> bool
     ensures { result ≡ lists_twice members.now }
 {
-    !are_apart(members)
+    !are_pairwise_distinct(members)
 }
 
 /// Returns whether no party is listed twice.
-fn are_apart(members: &[Member]) -> bool
+fn are_pairwise_distinct(members: &[Member]) -> bool
     ensures { result ≡ are_distinct same_party members.now }
 {
     match members.split_first() {
-        Some((first, rest)) => !lists_party(rest, first.party) && are_apart(rest),
+        Some((first, rest)) => !lists_party(rest, first.party) && are_pairwise_distinct(rest),
         None => true,
     }
 }

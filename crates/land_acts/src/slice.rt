@@ -1,12 +1,12 @@
 //! Slices: the records that planning an act may read.
 ghost use Rattle.std.specs.Prelude.{◌≡◌, nat_eq, IfOk};
-ghost use Rattle.land_acts.specs.Slices.{content_names_party, slice_of, is_mandate, looks_at_mutation};
-ghost use Rattle.land_acts.specs.Slices.{looks_at_party, looks_at_rrr, mutations_looked_at, names_mandate};
+ghost use Rattle.land_acts.specs.Slices.{content_names_party, slice_of, is_same_mandate, reads_mutation};
+ghost use Rattle.land_acts.specs.Slices.{reads_party, reads_rrr, mutations_in_slice, names_mandate};
 ghost use Rattle.land_acts.specs.Slices.{names_party, names_rrr, names_unit};
-ghost use Rattle.land_core.specs.Entries.{only, some};
+ghost use Rattle.land_core.specs.Entries.{entries_where, some};
 
-use crate::first_rights::have_party;
-use crate::mandate::given;
+use crate::first_rights::rights_list_party;
+use crate::mandate::mandate_of_caller;
 pub use crate::mutations::planning::Slice;
 use crate::sharing::lists_party;
 use land_core::act::Act;
@@ -38,58 +38,58 @@ pub fn slice_of(
 ) -> Result<Slice, AllocError>
     ensures { IfOk result (λ it. it ≡ slice_of register.now caller act.now) }
 {
-    let mutations = mutations_looked_at(alloc, register, caller, act)?;
+    let mutations = mutations_in_slice(alloc, register, caller, act)?;
     Ok(Register {
-        parties: records_looked_at(alloc, &register.parties, register, act)?,
-        roles: roles_looked_at(alloc, register, act)?,
-        members: records_looked_at(alloc, &register.members, register, act)?,
-        units: units_looked_at(alloc, register, act)?,
-        parcels: parcels_looked_at(alloc, register, act)?,
-        rrrs: rrrs_looked_at(alloc, register, act)?,
+        parties: records_in_slice(alloc, &register.parties, register, act)?,
+        roles: roles_in_slice(alloc, register, act)?,
+        members: records_in_slice(alloc, &register.members, register, act)?,
+        units: units_in_slice(alloc, register, act)?,
+        parcels: parcels_in_slice(alloc, register, act)?,
+        rrrs: rrrs_in_slice(alloc, register, act)?,
         sources: sources_of(alloc, register, &mutations)?,
         mutations,
-        mandates: mandates_looked_at(alloc, register, caller, act)?,
+        mandates: mandates_in_slice(alloc, register, caller, act)?,
         next: register.next,
     })
 }
 
 /// Returns the records in the slice, of a map by the numbers of parties.
-fn records_looked_at<T: Duplicate>(
+fn records_in_slice<T: Duplicate>(
     alloc: Global,
     records: &Records<T>,
     register: &Register,
     act: &Act,
 ) -> Result<Records<T>, AllocError>
-    ensures { IfOk result (λ it. it ≡ only (λ n value. looks_at_party register.now act.now n) records.now) }
+    ensures { IfOk result (λ it. it ≡ entries_where (λ n value. reads_party register.now act.now n) records.now) }
 {
     let mut kept = Records::new(alloc);
     for (number, record) in records.iter() {
-        if looks_at_party(register, act, *number) {
+        if reads_party(register, act, *number) {
             kept.insert(*number, record.copy(alloc)?)?;
         }
     }
     Ok(kept)
 }
 
-fn roles_looked_at(alloc: Global, register: &Register, act: &Act) -> Result<Roles, AllocError>
+fn roles_in_slice(alloc: Global, register: &Register, act: &Act) -> Result<Roles, AllocError>
     ensures { IfOk result
-        (λ it. it ≡ only (λ grant u. looks_at_party register.now act.now grant.party) register.now.roles) }
+        (λ it. it ≡ entries_where (λ grant u. reads_party register.now act.now grant.party) register.now.roles) }
 {
     let mut kept = Roles::new(alloc);
     for grant in register.roles.iter() {
-        if looks_at_party(register, act, grant.party) {
+        if reads_party(register, act, grant.party) {
             kept.insert(*grant)?;
         }
     }
     Ok(kept)
 }
 
-fn units_looked_at(
+fn units_in_slice(
     alloc: Global,
     register: &Register,
     act: &Act,
 ) -> Result<Records<UnitRecord>, AllocError>
-    ensures { IfOk result (λ it. it ≡ only (λ n u. names_unit register.now act.now n) register.now.units) }
+    ensures { IfOk result (λ it. it ≡ entries_where (λ n u. names_unit register.now act.now n) register.now.units) }
 {
     let mut kept = Records::new(alloc);
     for (number, unit) in register.units.iter() {
@@ -100,13 +100,13 @@ fn units_looked_at(
     Ok(kept)
 }
 
-fn parcels_looked_at(
+fn parcels_in_slice(
     alloc: Global,
     register: &Register,
     act: &Act,
 ) -> Result<Records<ParcelRecord>, AllocError>
     ensures { IfOk result
-        (λ it. it ≡ only (λ n p. names_unit register.now act.now p.unit) register.now.parcels) }
+        (λ it. it ≡ entries_where (λ n p. names_unit register.now act.now p.unit) register.now.parcels) }
 {
     let mut kept = Records::new(alloc);
     for (number, parcel) in register.parcels.iter() {
@@ -117,33 +117,33 @@ fn parcels_looked_at(
     Ok(kept)
 }
 
-fn rrrs_looked_at(
+fn rrrs_in_slice(
     alloc: Global,
     register: &Register,
     act: &Act,
 ) -> Result<Records<RrrRecord>, AllocError>
-    ensures { IfOk result (λ it. it ≡ only (λ n e. looks_at_rrr register.now act.now n e) register.now.rrrs) }
+    ensures { IfOk result (λ it. it ≡ entries_where (λ n e. reads_rrr register.now act.now n e) register.now.rrrs) }
 {
     let mut kept = Records::new(alloc);
     for (number, entry) in register.rrrs.iter() {
-        if looks_at_rrr(register, act, *number, entry) {
+        if reads_rrr(register, act, *number, entry) {
             kept.insert(*number, entry.copy(alloc)?)?;
         }
     }
     Ok(kept)
 }
 
-fn mutations_looked_at(
+fn mutations_in_slice(
     alloc: Global,
     register: &Register,
     caller: Caller,
     act: &Act,
 ) -> Result<Records<MutationRecord>, AllocError>
-    ensures { IfOk result (λ it. it ≡ mutations_looked_at register.now caller act.now) }
+    ensures { IfOk result (λ it. it ≡ mutations_in_slice register.now caller act.now) }
 {
     let mut kept = Records::new(alloc);
     for (number, mutation) in register.mutations.iter() {
-        if looks_at_mutation(caller, act, *number, mutation) {
+        if reads_mutation(caller, act, *number, mutation) {
             kept.insert(*number, mutation.copy(alloc)?)?;
         }
     }
@@ -156,7 +156,7 @@ fn sources_of(
     register: &Register,
     mutations: &Records<MutationRecord>,
 ) -> Result<Records<SourceRecord>, AllocError>
-    ensures { IfOk result (λ it. it ≡ only (λ n s. some
+    ensures { IfOk result (λ it. it ≡ entries_where (λ n s. some
         (λ k m. nat_eq m.source n) mutations.now) register.now.sources) }
 {
     let mut kept = Records::new(alloc);
@@ -178,14 +178,14 @@ fn is_source_of(mutations: &Records<MutationRecord>, source: u64) -> bool
 }
 
 /// Returns the mandate that an act gives or withdraws, if it exists.
-fn mandates_looked_at(
+fn mandates_in_slice(
     alloc: Global,
     register: &Register,
     caller: Caller,
     act: &Act,
 ) -> Result<Mandates, AllocError>
     ensures { IfOk result
-        (λ it. it ≡ only (λ mandate u. names_mandate caller act.now mandate) register.now.mandates) }
+        (λ it. it ≡ entries_where (λ mandate u. names_mandate caller act.now mandate) register.now.mandates) }
 {
     let mut kept = Mandates::new(alloc);
     for mandate in register.mandates.iter() {
@@ -200,21 +200,21 @@ fn names_mandate(caller: Caller, act: &Act, mandate: Mandate) -> bool
     ensures { result ≡ names_mandate caller act.now mandate }
 {
     match act {
-        Act::Mandate(it) => is_mandate(given(caller, it), mandate),
-        Act::Withdraw(it) => is_mandate(*it, mandate),
+        Act::Mandate(it) => is_same_mandate(mandate_of_caller(caller, it), mandate),
+        Act::Withdraw(it) => is_same_mandate(*it, mandate),
         _ => false,
     }
 }
 
 /// Returns whether two mandates have the same principal and the same agent.
-fn is_mandate(it: Mandate, mandate: Mandate) -> bool
-    ensures { result ≡ is_mandate it mandate }
+fn is_same_mandate(it: Mandate, mandate: Mandate) -> bool
+    ensures { result ≡ is_same_mandate it mandate }
 {
     mandate.principal == it.principal && mandate.agent == it.agent
 }
 
-fn looks_at_mutation(caller: Caller, act: &Act, number: u64, mutation: &MutationRecord) -> bool
-    ensures { result ≡ looks_at_mutation caller act.now number mutation.now }
+fn reads_mutation(caller: Caller, act: &Act, number: u64, mutation: &MutationRecord) -> bool
+    ensures { result ≡ reads_mutation caller act.now number mutation.now }
 {
     match act {
         Act::Lodge(it) => mutation.is_lodged_as(caller.party, it.reference.as_str()),
@@ -223,8 +223,8 @@ fn looks_at_mutation(caller: Caller, act: &Act, number: u64, mutation: &Mutation
     }
 }
 
-fn looks_at_party(register: &Register, act: &Act, party: u64) -> bool
-    ensures { result ≡ looks_at_party register.now act.now party }
+fn reads_party(register: &Register, act: &Act, party: u64) -> bool
+    ensures { result ≡ reads_party register.now act.now party }
 {
     names_party(register, act, party) || register.holds(party, Role::StateAdministrator)
 }
@@ -239,7 +239,7 @@ fn names_party(register: &Register, act: &Act, party: u64) -> bool
         Act::Grant(it) | Act::Revoke(it) => party == it.party,
         Act::Mandate(it) => party == it.agent,
         Act::Withdraw(it) => party == it.principal || party == it.agent,
-        Act::Register(it) => have_party(it.rights.as_slice(), party),
+        Act::Register(it) => rights_list_party(it.rights.as_slice(), party),
         Act::Burden(it) => party == it.party,
         Act::Lift(_) => false,
         Act::Lodge(it) => content_names_party(&it.content, party),
@@ -261,8 +261,8 @@ fn content_names_party(content: &Content, party: u64) -> bool
     }
 }
 
-fn looks_at_rrr(register: &Register, act: &Act, number: u64, entry: &RrrRecord) -> bool
-    ensures { result ≡ looks_at_rrr register.now act.now number entry.now }
+fn reads_rrr(register: &Register, act: &Act, number: u64, entry: &RrrRecord) -> bool
+    ensures { result ≡ reads_rrr register.now act.now number entry.now }
 {
     names_unit(register, act, entry.unit) || names_rrr(register, act, number)
 }

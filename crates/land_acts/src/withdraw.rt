@@ -1,6 +1,6 @@
 //! The act `withdraw`: a mandate ends.
 ghost use Rattle.std.specs.Prelude.{◌≡◌, IfOk};
-ghost use Rattle.land_acts.specs.Mutations.Planning.{IsPlanOf, first_that_holds};
+ghost use Rattle.land_acts.specs.Mutations.Planning.{IsPlanOf, first_refusal_of};
 ghost use Rattle.land_acts.specs.Withdrawing.{withdraw_refusals, withdraw_change, withdraw_done};
 
 use crate::mutations::planning::done_on;
@@ -13,7 +13,7 @@ use std::alloc::{AllocError, Global};
 
 /// Returns the first refusal of a withdrawal whose condition holds: 217 or 222.
 pub(crate) fn refusal(slice: &Slice, it: &Mandate, stamp: Option<i64>) -> Option<Refusal>
-    ensures { result ≡ first_that_holds (withdraw_refusals slice.now it.now stamp) }
+    ensures { result ≡ first_refusal_of (withdraw_refusals slice.now it.now stamp) }
 {
     if stamp.is_none() {
         Some(Refusal::ClockOut)
@@ -25,7 +25,7 @@ pub(crate) fn refusal(slice: &Slice, it: &Mandate, stamp: Option<i64>) -> Option
 }
 
 /// Returns the change, which ends the mandate, and the receipt.
-pub(crate) fn planned(
+pub(crate) fn plan_of(
     alloc: Global,
     slice: &Slice,
     it: &Mandate,

@@ -16,8 +16,8 @@ use Rattle.clap.specs.declared.builder.value_parser.ValueParser.TheVariants as p
 use Rattle.land_commands.proofs.BuiltCommands.{extract_built}
 use Rattle.land_commands.proofs.GivenOptions.{Each, HasNoDefault, Keeps, given_passes, help_keeps, option_keeps, passes_if_any, required_given}
 use Rattle.land_commands.proofs.NumberRows.{AllPass}
-use Rattle.land_commands.specs.Words.Choices.{AreSpelled, Places, kind_word, kind_words, role_word, role_words}
-use Rattle.land_commands.specs.Words.Names.{HasMaybe, IsFoundAs}
+use Rattle.land_commands.specs.Words.Choices.{AreChoiceWords, Places, kind_word, kind_words, role_word, role_words}
+use Rattle.land_commands.specs.Words.Names.{HasOptionalNumber, IsCommandIn}
 use Rattle.land_commands.specs.Words.Options.{moments, option_rule, parties}
 use Rattle.land_commands.specs.Words.PlainCommands.{PlainCommand, to_extract}
 use Rattle.land_commands.specs.declared.words.choices.Choices.{Choices}
@@ -135,12 +135,12 @@ at_told = told (codes "at") false moments
 
 -- an optional option has a moment, or is absent
 moment_if_any : (rows : List Row) → (first_of (codes "at") rows ≡ None) ⊎ ((text : Text) × (first_of (codes "at") rows ≡ Some text) × Accepts false moments text)
-    → (at : Option ℤ) × HasMaybe rows (codes "at") (pos 0) (pos 4102444799999) at
+    → (at : Option ℤ) × HasOptionalNumber rows (codes "at") (pos 0) (pos 4102444799999) at
 moment_if_any rows (inl none) = (None, none)
 moment_if_any rows (inr (text, found, accepted)) =
     (Some (signed_digits_value 10 text), record { text = text; found = found; in_range = accepted; value = refl })
 
-module _ (choices : Choices) (spelled : AreSpelled choices) (words : List Text)
+module _ (choices : Choices) (spelled : AreChoiceWords choices) (words : List Text)
     (faultless : level_fault (extract_built choices) [] nothing_held words false [] ≡ []) where
   no_defaults : Each HasNoDefault (extract_built choices).rules
   no_defaults = (refl, (refl, (refl, (refl, (refl, (refl, (refl, tt)))))))
@@ -181,14 +181,14 @@ module _ (choices : Choices) (spelled : AreSpelled choices) (words : List Text)
       (one_keeps (codes "kind") (Accepts false (parser.Names choices.kinds)) (file_shape ∷ clock_shape ∷ party_shape ∷ role_shape choices.roles ∷ []) (kind_shape choices.kinds) (at_told ∷ []) refl refl (λ text h. h))
       ((required_given (extract_built choices) no_defaults words faultless).1.1.1.1.0 refl)
 
-  at_if_any : (at : Option ℤ) × HasMaybe rows (codes "at") (pos 0) (pos 4102444799999) at
+  at_if_any : (at : Option ℤ) × HasOptionalNumber rows (codes "at") (pos 0) (pos 4102444799999) at
   at_if_any =
       moment_if_any rows
       (passes_if_any (extract_built choices) no_defaults words faultless (codes "at") (Accepts false moments)
       (one_keeps (codes "at") (Accepts false moments) (file_shape ∷ clock_shape ∷ party_shape ∷ role_shape choices.roles ∷ kind_shape choices.kinds ∷ []) at_told [] refl refl (λ text h. h)))
 
   -- arguments of `extract` without a fault have a file, a clock, a party, a role and a kind, and a moment if `--at` is given
-  pub extract_named : (order : PlainCommand) × IsFoundAs (Some (rows_at (extract_built choices) words)) order
+  pub extract_named : (order : PlainCommand) × IsCommandIn (Some (rows_at (extract_built choices) words)) order
   extract_named =
       let clock = clock_given in
       let party = party_given in

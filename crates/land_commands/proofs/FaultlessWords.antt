@@ -11,16 +11,16 @@ use Rattle.land_commands.proofs.BuiltCommands.{extract_built, file_built, serve_
 use Rattle.land_commands.proofs.FaultlessExtract.{count_of, extract_named}
 use Rattle.land_commands.proofs.GivenOptions.{Each, HasNoDefault, given_passes, help_keeps, option_keeps, required_given}
 use Rattle.land_commands.proofs.WalkKeeps.{both_none}
-use Rattle.land_commands.specs.Words.Choices.{AreSpelled}
+use Rattle.land_commands.specs.Words.Choices.{AreChoiceWords}
 use Rattle.land_commands.specs.Words.Commands.{land_app}
-use Rattle.land_commands.specs.Words.Names.{IsFoundAs, NamesBy}
+use Rattle.land_commands.specs.Words.Names.{IsCommandIn, NamesBy}
 use Rattle.land_commands.specs.Words.Options.{counts, moments, ports}
 use Rattle.land_commands.specs.Words.PlainCommands.{PlainCommand, to_talk, to_make, to_serve, to_check, to_migrate}
 use Rattle.land_commands.specs.declared.words.choices.Choices.{Choices}
 
 -- arguments of `talk` without a fault have a moment for the clock
 talk_named : (words : List Text) → level_fault talk_built [] nothing_held words false [] ≡ []
-    → (order : PlainCommand) × IsFoundAs (Some (rows_at talk_built words)) order
+    → (order : PlainCommand) × IsCommandIn (Some (rows_at talk_built words)) order
 talk_named words e =
     let none : Each HasNoDefault talk_built.rules = (refl, (refl, tt)) in
     let given = required_given talk_built none words e in
@@ -42,7 +42,7 @@ file_named name words e =
 
 -- arguments of `serve` without a fault have a file, a port and a number of connections
 serve_named : (words : List Text) → level_fault serve_built [] nothing_held words false [] ≡ []
-    → (order : PlainCommand) × IsFoundAs (Some (rows_at serve_built words)) order
+    → (order : PlainCommand) × IsCommandIn (Some (rows_at serve_built words)) order
 serve_named words e =
     let none : Each HasNoDefault serve_built.rules = (refl, (refl, (refl, (refl, tt)))) in
     let given = required_given serve_built none words e in
@@ -81,7 +81,7 @@ serve_named words e =
       ),
     )
 
-module _ (choices : Choices) (spelled : AreSpelled choices) where
+module _ (choices : Choices) (spelled : AreChoiceWords choices) where
   -- if a command is required, there is one
   command_wanted : (rows : List Row) (has : Bool) → check_fault (built (land_app choices)).top rows has ≡ [] → has ≡ true
   command_wanted rows true e = refl
@@ -98,7 +98,7 @@ module _ (choices : Choices) (spelled : AreSpelled choices) where
   picked_named : (words : List Text) (talk make serve check migrate extract : Bool)
       → is_some (option_map (λ s. rows_at s words) (shape_of talk make serve check migrate extract)) ≡ true
       → option_map_or (λ s. level_fault s [] nothing_held words false []) (shape_of talk make serve check migrate extract) [] ≡ []
-      → (order : PlainCommand) × IsFoundAs (option_map (λ s. rows_at s words) (shape_of talk make serve check migrate extract)) order
+      → (order : PlainCommand) × IsCommandIn (option_map (λ s. rows_at s words) (shape_of talk make serve check migrate extract)) order
   picked_named words true make serve check migrate extract has e = talk_named words e
   picked_named words false true serve check migrate extract has e =
       let file = file_named (codes "new") words e in
@@ -115,7 +115,7 @@ module _ (choices : Choices) (spelled : AreSpelled choices) where
 
   -- the command at which the walk over the arguments stops
   command_named : (stop : Option (Text × List Text)) → is_some (entered (built (land_app choices)) stop) ≡ true
-      → entered_fault (built (land_app choices)) stop ≡ [] → (order : PlainCommand) × IsFoundAs (entered (built (land_app choices)) stop) order
+      → entered_fault (built (land_app choices)) stop ≡ [] → (order : PlainCommand) × IsCommandIn (entered (built (land_app choices)) stop) order
   command_named None has e = cc
   command_named (Some q) has e =
       picked_named q.1 (answers_to q.0 (label_of talk_built)) (answers_to q.0 (label_of (file_built (codes "new"))))

@@ -3,19 +3,19 @@ use Rattle.std.specs.Prelude.{◌≡◌, ◌≢◌, ◌⊎◌, ◌<◌, ℕ, ℤ
 use Rattle.std.specs.Prelude.{Result, Ok, Err}
 use Rattle.std.specs.Fmt.{signed_decimal}
 use Rattle.std.specs.Io.KnownBytes.{Appends}
-use Rattle.land_commands.specs.ProgramFaults.{IsFaultOfClosing, IsFaultOfFinding, IsFaultOfOpening}
-use Rattle.land_commands.specs.ProgramFaults.{fault_of_adopting, fault_of_making, fault_of_service}
+use Rattle.land_commands.specs.ProgramFaults.{IsFaultOfClosing, IsFaultOfOpeningExisting, IsFaultOfOpening}
+use Rattle.land_commands.specs.ProgramFaults.{fault_of_adopting, fault_of_creating, fault_of_service}
 use Rattle.land_commands.specs.declared.program_fault.ProgramFault.{ProgramFault}
 use Rattle.land_commands.specs.declared.program_fault.ProgramFault.TheVariants as program
-use Rattle.land_desk.specs.Service.{IsService, TellsClosed}
+use Rattle.land_desk.specs.Service.{ServesConnections, ReportsClosed}
 use Rattle.land_desk.specs.declared.service.serving.ServiceFault.{ServiceFault}
-use Rattle.land_keep.specs.Keeping.{IsAt}
+use Rattle.land_keep.specs.Keeping.{IsStateOf}
 use Rattle.land_keep.specs.Timeline.{new_timeline}
 use Rattle.land_keep.specs.declared.store_fault.StoreFault.{StoreFault}
 use Rattle.land_tables.specs.Adopting.{IsAdopted, IsRefused}
-use Rattle.land_tables.specs.Calls.{IsSame}
-use Rattle.land_tables.specs.Office.{IsCreated, IsHonest, IsKept, Office, held}
-use Rattle.land_tables.specs.Registers.{the_second}
+use Rattle.land_tables.specs.Calls.{StaysOpenAndSame}
+use Rattle.land_tables.specs.TablesState.{IsCreated, IsHonest, IsOldOrCommitted, TablesState, held}
+use Rattle.land_tables.specs.Registers.{version_2}
 use Rattle.land_tables.specs.Standing.{HoldsTimeline}
 use Rattle.land_tables.specs.declared.fault.AdoptFault.{AdoptFault}
 use Rattle.land_tables.specs.declared.fault.AdoptFault.TheVariants as adopt
@@ -31,63 +31,63 @@ HoldsFileState g holds c = HasCleanDisk (state g c) → holds (state g c)
 
 -- A store was opened, and the tables of a new register were created in it. A crash leaves the old state, or
 -- the new register.
-pub record IsCreatedIn {S : Type 0} (g : Ghosts S) (holds : State → Type 0) (o : Office S) : Type 0 where
+pub record IsCreatedIn {S : Type 0} (g : Ghosts S) (holds : State → Type 0) (o : TablesState S) : Type 0 where
   pub was : Held S
   pub shows : HoldsFileState g holds was
   pub created : IsCreated g o
   pub survives : Survives (state g was) (state g o.conn) (λ db. HoldsTimeline db new_timeline)
 
 -- A store was opened, and no register was created in it: its state is unchanged, or the last committed one.
-pub record IsUnmade {S : Type 0} (g : Ghosts S) (holds : State → Type 0) (fault : ProgramFault) : Type 0 where
+pub record IsNotCreated {S : Type 0} (g : Ghosts S) (holds : State → Type 0) (fault : ProgramFault) : Type 0 where
   pub was : Held S
   pub left : Held S
   pub why : StoreFault
   pub shows : HoldsFileState g holds was
-  pub kept : IsKept (state g was) (state g left)
-  pub told : fault ≡ fault_of_making why
+  pub kept : IsOldOrCommitted (state g was) (state g left)
+  pub told : fault ≡ fault_of_creating why
 
 -- A register is created and its file closed; or opening, creating or closing failed.
-abbrev pub IsMaking : {S T : Type 0} → Ghosts S → (holds : State → Type 0) → (closed : Held S → Type 0)
+abbrev pub CreatesRegister : {S T : Type 0} → Ghosts S → (holds : State → Type 0) → (closed : Held S → Type 0)
     → Result T ProgramFault → Type 0
-IsMaking {S} g holds closed (Ok done) = (o : Office S) × IsCreatedIn g holds o × closed o.conn
-IsMaking {S} g holds closed (Err fault) =
-    IsFaultOfOpening fault ⊎ IsUnmade g holds fault
-    ⊎ ((o : Office S) × IsCreatedIn g holds o × IsFaultOfClosing fault)
+CreatesRegister {S} g holds closed (Ok done) = (o : TablesState S) × IsCreatedIn g holds o × closed o.conn
+CreatesRegister {S} g holds closed (Err fault) =
+    IsFaultOfOpening fault ⊎ IsNotCreated g holds fault
+    ⊎ ((o : TablesState S) × IsCreatedIn g holds o × IsFaultOfClosing fault)
 
 -- ---- opening a register
 
 -- A store was opened and is a valid register.
-pub record IsOpened {S : Type 0} (g : Ghosts S) (holds : State → Type 0) (o : Office S) : Type 0 where
+pub record IsOpened {S : Type 0} (g : Ghosts S) (holds : State → Type 0) (o : TablesState S) : Type 0 where
   pub was : Held S
   pub shows : HoldsFileState g holds was
   pub adopted : IsAdopted g was o
 
 -- A store was opened and is not a valid register. It is unchanged, unless a store operation failed.
-pub record IsNotTaken {S : Type 0} (g : Ghosts S) (holds : State
+pub record IsNotOpened {S : Type 0} (g : Ghosts S) (holds : State
     → Type 0) (fault : ProgramFault) : Type 0 where
   pub was : Held S
   pub left : Held S
   pub why : AdoptFault
   pub shows : HoldsFileState g holds was
-  pub refused : HasCleanDisk (state g left) → IsRefused the_second why (state g was).now
-  pub same : HasCleanDisk (state g left) → why ≢ adopt.Store → IsSame (state g was) (state g left)
+  pub refused : HasCleanDisk (state g left) → IsRefused version_2 why (state g was).now
+  pub same : HasCleanDisk (state g left) → why ≢ adopt.Store → StaysOpenAndSame (state g was) (state g left)
   pub told : fault ≡ fault_of_adopting why
 
 -- No register can be opened: the file cannot be opened, or is not a valid register.
-abbrev pub IsNotFound : {S : Type 0} → Ghosts S → (holds : State → Type 0) → ProgramFault → Type 0
-IsNotFound g holds fault = IsFaultOfFinding fault ⊎ IsNotTaken g holds fault
+abbrev pub IsNotOpenable : {S : Type 0} → Ghosts S → (holds : State → Type 0) → ProgramFault → Type 0
+IsNotOpenable g holds fault = IsFaultOfOpeningExisting fault ⊎ IsNotOpened g holds fault
 
 -- A register is opened in a file, or cannot be.
-abbrev pub IsFinding : {S : Type 0} → Ghosts S → (holds : State → Type 0) → Result (Office S) ProgramFault
+abbrev pub OpensRegister : {S : Type 0} → Ghosts S → (holds : State → Type 0) → Result (TablesState S) ProgramFault
     → Type 0
-IsFinding g holds (Ok o) = IsOpened g holds o
-IsFinding g holds (Err fault) = IsNotFound g holds fault
+OpensRegister g holds (Ok o) = IsOpened g holds o
+OpensRegister g holds (Err fault) = IsNotOpenable g holds fault
 
 -- ---- checking a register
 
 -- The line that reports a sound register: its last stamp and its next number.
-abbrev pub sound_text : (last : ℤ) → (next : ℕ) → List ℕ
-sound_text last next =
+abbrev pub check_text : (last : ℤ) → (next : ℕ) → List ℕ
+check_text last next =
     codes "sound: last " ++ (signed_decimal last ++ (codes ", next " ++ (decimal next ++ codes "\n")))
 
 -- A prefix of a text is written, and not all of it.
@@ -96,27 +96,27 @@ IsTruncated text old new = (n : ℕ) × (n < length text) × Appends old new (ta
 
 -- The register is sound, and the line is written; or none can be opened, and nothing is written; or the line
 -- could not be built or written.
-abbrev pub IsChecking : {S T : Type 0} → Ghosts S → (holds : State → Type 0) → (old new : Option (List ℕ))
+abbrev pub ChecksRegister : {S T : Type 0} → Ghosts S → (holds : State → Type 0) → (old new : Option (List ℕ))
     → Result T ProgramFault → Type 0
-IsChecking {S} g holds old new (Ok done) =
-    (o : Office S) × IsOpened g holds o × Appends old new (sound_text o.last o.next)
-IsChecking {S} g holds old new (Err fault) =
-    (IsNotFound g holds fault × Appends old new [])
-    ⊎ ((o : Office S) × IsOpened g holds o
+ChecksRegister {S} g holds old new (Ok done) =
+    (o : TablesState S) × IsOpened g holds o × Appends old new (check_text o.last o.next)
+ChecksRegister {S} g holds old new (Err fault) =
+    (IsNotOpenable g holds fault × Appends old new [])
+    ⊎ ((o : TablesState S) × IsOpened g holds o
     × (((fault ≡ program.NoMemory) × Appends old new [])
-    ⊎ ((fault ≡ program.Stream) × IsTruncated (sound_text o.last o.next) old new)))
+    ⊎ ((fault ≡ program.Stream) × IsTruncated (check_text o.last o.next) old new)))
 
 -- ---- serving a register
 
 -- `wanted` of the pending connections are served on tables, if their store is honest.
-pub record IsServedOver {S C T : Type 0} (g : Ghosts S) (reads : C → ℤ → C
+pub record ServesTables {S C T : Type 0} (g : Ghosts S) (reads : C → ℤ → C
     → Type 0) (wanted : ℕ) (coming after : Option (List (Option (List ℕ))))
-    (from : Office S) (clock : C) (to : Office S) (clock_after : C) (r : Result T ServiceFault) : Type 0 where
-  pub told : TellsClosed r to.is_closed
+    (from : TablesState S) (clock : C) (to : TablesState S) (clock_after : C) (r : Result T ServiceFault) : Type 0 where
+  pub told : ReportsClosed r to.is_closed
   pub was : IsHonest g to → IsHonest g from
   pub served : IsHonest g to
-      → IsService reads wanted (record { closed = from.is_closed; timeline = held g from; clock = clock })
-      (IsAt (IsHonest g to) to.is_closed (held g to) clock_after) coming after r
+      → ServesConnections reads wanted (record { closed = from.is_closed; timeline = held g from; clock = clock })
+      (IsStateOf (IsHonest g to) to.is_closed (held g to) clock_after) coming after r
 
 -- A service: the clock, the number of connections to serve, and the pending connections and the clock before
 -- and after.
@@ -129,21 +129,21 @@ pub record Service (C : Type 0) : Type 1 where
   pub clock_after : C
 
 -- A register is opened in a file and served.
-pub record IsServedFrom {S C T : Type 0} (g : Ghosts S) (holds : State
+pub record ServesOpened {S C T : Type 0} (g : Ghosts S) (holds : State
     → Type 0) (s : Service C) (r : Result T ServiceFault) : Type 0 where
-  pub from : Office S
-  pub to : Office S
+  pub from : TablesState S
+  pub to : TablesState S
   pub taken : IsOpened g holds from
-  pub served : IsServedOver g s.reads s.wanted s.coming s.after from s.clock to s.clock_after r
+  pub served : ServesTables g s.reads s.wanted s.coming s.after from s.clock to s.clock_after r
 
 -- As many connections are served as requested, and the file is closed. Or no register can be opened; or
 -- listening fails; or the service ends early; or closing fails.
-abbrev pub IsFileService : {S C T : Type 0} → Ghosts S → (holds : State → Type 0) → (closed : Held S → Type 0)
+abbrev pub ServesFile : {S C T : Type 0} → Ghosts S → (holds : State → Type 0) → (closed : Held S → Type 0)
     → Service C → Result T ProgramFault → Type 0
-IsFileService {S} {C} {T} g holds closed s (Ok done) =
-    (it : IsServedFrom {T = T} g holds s (Ok done)) × closed it.to.conn
-IsFileService {S} {C} {T} g holds closed s (Err fault) =
-    IsNotFound g holds fault
-    ⊎ (((o : Office S) × IsOpened g holds o × (fault ≡ program.Listen))
-    ⊎ (((why : ServiceFault) × IsServedFrom {T = T} g holds s (Err why) × (fault ≡ fault_of_service why))
-    ⊎ ((done : T) × IsServedFrom {T = T} g holds s (Ok done) × IsFaultOfClosing fault)))
+ServesFile {S} {C} {T} g holds closed s (Ok done) =
+    (it : ServesOpened {T = T} g holds s (Ok done)) × closed it.to.conn
+ServesFile {S} {C} {T} g holds closed s (Err fault) =
+    IsNotOpenable g holds fault
+    ⊎ (((o : TablesState S) × IsOpened g holds o × (fault ≡ program.Listen))
+    ⊎ (((why : ServiceFault) × ServesOpened {T = T} g holds s (Err why) × (fault ≡ fault_of_service why))
+    ⊎ ((done : T) × ServesOpened {T = T} g holds s (Ok done) × IsFaultOfClosing fault)))

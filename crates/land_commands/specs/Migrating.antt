@@ -3,13 +3,13 @@ use Rattle.std.specs.Prelude.{◌≡◌, ◌≢◌, ◌⊎◌, ℕ, ℤ, List, [
 use Rattle.std.specs.Fmt.{signed_decimal}
 use Rattle.std.specs.Io.KnownBytes.{Appends}
 use Rattle.land_commands.specs.Filed.{IsTruncated, HoldsFileState}
-use Rattle.land_commands.specs.ProgramFaults.{IsFaultOfClosing, IsFaultOfFinding, fault_of_adopting}
+use Rattle.land_commands.specs.ProgramFaults.{IsFaultOfClosing, IsFaultOfOpeningExisting, fault_of_adopting}
 use Rattle.land_commands.specs.declared.program_fault.ProgramFault.{ProgramFault}
 use Rattle.land_commands.specs.declared.program_fault.ProgramFault.TheVariants as program
 use Rattle.land_tables.specs.Adopting.{IsRefused}
-use Rattle.land_tables.specs.Migrating.{AreRaised, IsMigrated, LeavesOrRaises, StaysSame}
-use Rattle.land_tables.specs.Office.{Office}
-use Rattle.land_tables.specs.Registers.{the_first}
+use Rattle.land_tables.specs.Migrating.{IsMigratedFrom, IsMigrated, CrashLeavesOldOrMigrated, StaysSameAfterCrash}
+use Rattle.land_tables.specs.TablesState.{TablesState}
+use Rattle.land_tables.specs.Registers.{version_1}
 use Rattle.land_tables.specs.declared.fault.AdoptFault.{AdoptFault}
 use Rattle.land_tables.specs.declared.fault.AdoptFault.TheVariants as adopt
 use Rattle.sqlite.specs.Held.{Held, state}
@@ -17,30 +17,30 @@ use Rattle.sqlite.specs.State.{HasCleanDisk, State, Survives}
 use Rattle.sqlite.specs.Store.{Ghosts}
 
 -- A store was opened, and its register migrated to version 2. A crash leaves version 1, or all of version 2.
-pub record IsRaised {S : Type 0} (g : Ghosts S) (holds : State → Type 0) (o : Office S) : Type 0 where
+pub record IsMigratedFile {S : Type 0} (g : Ghosts S) (holds : State → Type 0) (o : TablesState S) : Type 0 where
   pub was : Held S
   pub shows : HoldsFileState g holds was
   pub migrated : IsMigrated g was o
-  pub survives : Survives (state g was) (state g o.conn) (AreRaised (state g was).now)
+  pub survives : Survives (state g was) (state g o.conn) (IsMigratedFrom (state g was).now)
 
 -- A store was opened and not migrated. It is unchanged, unless a store operation failed. A crash leaves the
 -- old state, or all of version 2.
-pub record IsNotRaised {S : Type 0} (g : Ghosts S) (holds : State
+pub record IsNotMigrated {S : Type 0} (g : Ghosts S) (holds : State
     → Type 0) (fault : ProgramFault) : Type 0 where
   pub was : Held S
   pub left : Held S
   pub why : AdoptFault
   pub shows : HoldsFileState g holds was
-  pub refused : HasCleanDisk (state g left) → IsRefused the_first why (state g was).now
-  pub same : HasCleanDisk (state g left) → why ≢ adopt.Store → StaysSame (state g was) (state g left)
-  pub either : LeavesOrRaises (state g was) (state g left)
+  pub refused : HasCleanDisk (state g left) → IsRefused version_1 why (state g was).now
+  pub same : HasCleanDisk (state g left) → why ≢ adopt.Store → StaysSameAfterCrash (state g was) (state g left)
+  pub either : CrashLeavesOldOrMigrated (state g was) (state g left)
   pub told : fault ≡ fault_of_adopting why
 
 -- The register in a file is migrated; or the file cannot be opened, or is not migrated.
-abbrev pub IsRaising : {S : Type 0} → Ghosts S → (holds : State → Type 0) → Result (Office S) ProgramFault
+abbrev pub OpensMigrated : {S : Type 0} → Ghosts S → (holds : State → Type 0) → Result (TablesState S) ProgramFault
     → Type 0
-IsRaising g holds (Ok o) = IsRaised g holds o
-IsRaising g holds (Err fault) = IsFaultOfFinding fault ⊎ IsNotRaised g holds fault
+OpensMigrated g holds (Ok o) = IsMigratedFile g holds o
+OpensMigrated g holds (Err fault) = IsFaultOfOpeningExisting fault ⊎ IsNotMigrated g holds fault
 
 -- The line that reports a migrated register: its last stamp and its next number.
 abbrev pub migrated_text : (last : ℤ) → (next : ℕ) → List ℕ
@@ -53,9 +53,9 @@ migrated_text last next =
 abbrev pub IsMigrating : {S T : Type 0} → Ghosts S → (holds : State → Type 0) → (closed : Held S → Type 0)
     → (old new : Option (List ℕ)) → Result T ProgramFault → Type 0
 IsMigrating {S} g holds closed old new (Ok done) =
-    (o : Office S) × IsRaised g holds o × closed o.conn × Appends old new (migrated_text o.last o.next)
+    (o : TablesState S) × IsMigratedFile g holds o × closed o.conn × Appends old new (migrated_text o.last o.next)
 IsMigrating {S} g holds closed old new (Err fault) =
-    ((IsFaultOfFinding fault ⊎ IsNotRaised g holds fault) × Appends old new [])
-    ⊎ ((o : Office S) × IsRaised g holds o
+    ((IsFaultOfOpeningExisting fault ⊎ IsNotMigrated g holds fault) × Appends old new [])
+    ⊎ ((o : TablesState S) × IsMigratedFile g holds o
     × ((IsFaultOfClosing fault × Appends old new [])
     ⊎ ((fault ≡ program.Stream) × closed o.conn × IsTruncated (migrated_text o.last o.next) old new)))

@@ -2,8 +2,8 @@
 use Rattle.std.specs.Prelude.{◌≡◌, ◌⊎◌, ℕ, ℤ, false, List, [], take, string_bytes, Option, Result, Ok, Err}
 use Rattle.std.specs.Prelude.{IfSome}
 use Rattle.std.specs.Io.KnownBytes.{Appends}
-use Rattle.land_commands.specs.Extracting.{IsExtracting, wanted_of}
-use Rattle.land_commands.specs.Filed.{IsChecking, IsFileService, IsMaking}
+use Rattle.land_commands.specs.Extracting.{ExtractsRegister, extract_request_of}
+use Rattle.land_commands.specs.Filed.{ChecksRegister, ServesFile, CreatesRegister}
 use Rattle.land_commands.specs.Migrating.{IsMigrating}
 use Rattle.land_commands.specs.ProgramFaults.{fault_of, line_of, status_of}
 use Rattle.land_commands.specs.CommandErrors.{denied_text}
@@ -14,11 +14,11 @@ use Rattle.land_commands.specs.declared.program_fault.ProgramFault.{ProgramFault
 use Rattle.land_commands.specs.declared.program_fault.ProgramFault.TheVariants.{NoMemory}
 use Rattle.land_commands.specs.declared.command_error.CommandError.{CommandError}
 use Rattle.land_commands.specs.declared.command_error.CommandError.TheVariants as command_error
-use Rattle.land_commands.specs.declared.set_clock.SetClock.{SetClock}
+use Rattle.land_commands.specs.declared.fixed_clock.FixedClock.{FixedClock}
 use Rattle.land_commands.specs.declared.words.command.Command.{Command}
 use Rattle.land_commands.specs.declared.words.words_fault.WordsFault.{WordsFault}
 use Rattle.land_commands.specs.declared.words.words_fault.WordsFault.TheVariants as words
-use Rattle.land_desk.specs.Serving.{IsServing}
+use Rattle.land_desk.specs.Serving.{ServesByRun}
 use Rattle.land_desk.specs.declared.serve.DeskFault.{DeskFault}
 use Rattle.land_desk.specs.declared.serve.Served.{Served}
 use Rattle.land_keep.specs.Machine as machine
@@ -28,18 +28,18 @@ use Rattle.sqlite.specs.State.{State}
 use Rattle.sqlite.specs.Store.{Ghosts}
 
 -- A fixed clock always reads the same.
-abbrev pub reads_as_set : SetClock → ℤ → SetClock → Type 0
-reads_as_set old reading new = (reading ≡ old.reading) × (new ≡ old)
+abbrev pub reads_fixed : FixedClock → ℤ → FixedClock → Type 0
+reads_fixed old reading new = (reading ≡ old.reading) × (new ≡ old)
 
 -- The state of an open, new register with a fixed clock.
-abbrev pub at_start : ℤ → machine.State SetClock
+abbrev pub at_start : ℤ → machine.State FixedClock
 at_start reading = record { closed = false; timeline = new_timeline; clock = record { reading = reading } }
 
 -- `talk`: the input is served on a new register with a fixed clock.
-abbrev pub IsTalk : (input : List ℕ) → (reading : ℤ) → (old new : Option (List ℕ)) → Result Served DeskFault
+abbrev pub Talks : (input : List ℕ) → (reading : ℤ) → (old new : Option (List ℕ)) → Result Served DeskFault
     → Type 0
-IsTalk input reading old new result =
-    (to : machine.State SetClock) × IsServing reads_as_set input (at_start reading) to old new result
+Talks input reading old new result =
+    (to : machine.State FixedClock) × ServesByRun reads_fixed input (at_start reading) to old new result
 
 -- A text is written, or a prefix of it if the writer fails.
 abbrev pub WritesOrFails : List ℕ → (old new : Option (List ℕ)) → Type 0
@@ -47,9 +47,9 @@ WritesOrFails text old new = Appends old new text ⊎ ((n : ℕ) × Appends old 
 
 -- After serving the status is 0 and nothing is written; after a fault it is that of the fault, whose line is
 -- written.
-abbrev pub IsEnding : Result Served DeskFault → (old new : Option (List ℕ)) → (status : ℕ) → Type 0
-IsEnding (Ok served) old new status = (status ≡ 0) × Appends old new []
-IsEnding (Err fault) old new status =
+abbrev pub ReportsServed : Result Served DeskFault → (old new : Option (List ℕ)) → (status : ℕ) → Type 0
+ReportsServed (Ok served) old new status = (status ≡ 0) × Appends old new []
+ReportsServed (Err fault) old new status =
     (status ≡ status_of (fault_of fault)) × WritesOrFails (line_of (fault_of fault)) old new
 
 -- The same after a command on a file.
@@ -88,17 +88,17 @@ files_of holds is_closed coming old new =
 -- Running commands on a host, with a clock.
 module _ {S C : Type 0} (g : Ghosts S) (h : Files S) (reads : C → ℤ → C → Type 0) where
   -- A command: its output, its errors and its exit status.
-  abbrev pub IsRun : PlainCommand → (input : Option (List ℕ)) → (clock clock_after : C)
+  abbrev pub RunsCommand : PlainCommand → (input : Option (List ℕ)) → (clock clock_after : C)
       → (old new : Option (List ℕ)) → (old_errors new_errors : Option (List ℕ))
       → (status : ℕ) → Type 0
-  IsRun (to_talk reading) input clock clock_after old new old_errors new_errors status =
-      (served : Result Served DeskFault) × IfSome input (λ bytes. IsTalk bytes reading old new served)
-      × IsEnding served old_errors new_errors status
-  IsRun (to_make file) input clock clock_after old new old_errors new_errors status =
-      (done : Result (Unit {0}) ProgramFault) × IsMaking g (h.holds file) h.is_closed done
+  RunsCommand (to_talk reading) input clock clock_after old new old_errors new_errors status =
+      (served : Result Served DeskFault) × IfSome input (λ bytes. Talks bytes reading old new served)
+      × ReportsServed served old_errors new_errors status
+  RunsCommand (to_make file) input clock clock_after old new old_errors new_errors status =
+      (done : Result (Unit {0}) ProgramFault) × CreatesRegister g (h.holds file) h.is_closed done
       × Appends old new [] × ReportsDone done old_errors new_errors status
-  IsRun (to_serve file port connections) input clock clock_after old new old_errors new_errors status =
-      (done : Result (Unit {0}) ProgramFault) × IsFileService g (h.holds file) h.is_closed
+  RunsCommand (to_serve file port connections) input clock clock_after old new old_errors new_errors status =
+      (done : Result (Unit {0}) ProgramFault) × ServesFile g (h.holds file) h.is_closed
       (record {
         reads = reads;
         wanted = connections;
@@ -108,15 +108,15 @@ module _ {S C : Type 0} (g : Ghosts S) (h : Files S) (reads : C → ℤ → C �
         clock_after = clock_after;
       }) done
       × Appends old new [] × ReportsDone done old_errors new_errors status
-  IsRun (to_check file) input clock clock_after old new old_errors new_errors status =
-      (done : Result (Unit {0}) ProgramFault) × IsChecking g (h.holds file) old new done
+  RunsCommand (to_check file) input clock clock_after old new old_errors new_errors status =
+      (done : Result (Unit {0}) ProgramFault) × ChecksRegister g (h.holds file) old new done
       × ReportsDone done old_errors new_errors status
-  IsRun (to_migrate file) input clock clock_after old new old_errors new_errors status =
+  RunsCommand (to_migrate file) input clock clock_after old new old_errors new_errors status =
       (done : Result (Unit {0}) ProgramFault) × IsMigrating g (h.holds file) h.is_closed old new done
       × ReportsDone done old_errors new_errors status
-  IsRun (to_extract file reading party role kind at) input clock clock_after old new old_errors new_errors status =
+  RunsCommand (to_extract file reading party role kind at) input clock clock_after old new old_errors new_errors status =
       (done : Result (Unit {0}) CommandError)
-      × IsExtracting g (h.holds file) (wanted_of reading party role kind at) old new done
+      × ExtractsRegister g (h.holds file) (extract_request_of reading party role kind at) old new done
       × ReportsExtracted done old_errors new_errors status
 
   -- The command that was read is run. If `clap` rejects the arguments, only its message is written, and the
@@ -125,7 +125,7 @@ module _ {S C : Type 0} (g : Ghosts S) (h : Files S) (reads : C → ℤ → C �
       → (old new : Option (List ℕ))
       → (old_errors new_errors : Option (List ℕ)) → (status : ℕ) → Type 0
   RunsParsed (Ok command) input clock clock_after old new old_errors new_errors status =
-      IsRun (order_of command) input clock clock_after old new old_errors new_errors status
+      RunsCommand (order_of command) input clock clock_after old new old_errors new_errors status
   RunsParsed (Err (words.Refused text)) input clock clock_after old new old_errors new_errors status =
       (status ≡ 2) × Appends old new [] × WritesOrFails (string_bytes text) old_errors new_errors
   RunsParsed (Err words.NoMemory) input clock clock_after old new old_errors new_errors status =
@@ -133,9 +133,9 @@ module _ {S C : Type 0} (g : Ghosts S) (h : Files S) (reads : C → ℤ → C �
       × WritesOrFails (line_of NoMemory) old_errors new_errors
 
   -- The arguments are read, and the command is run.
-  abbrev pub IsObeyed : List (List ℕ) → (input : Option (List ℕ)) → (clock clock_after : C)
+  abbrev pub RunsArguments : List (List ℕ) → (input : Option (List ℕ)) → (clock clock_after : C)
       → (old new : Option (List ℕ))
       → (old_errors new_errors : Option (List ℕ)) → (status : ℕ) → Type 0
-  IsObeyed said input clock clock_after old new old_errors new_errors status =
+  RunsArguments said input clock clock_after old new old_errors new_errors status =
       (outcome : Result Command WordsFault) × IsReading said outcome
       × RunsParsed outcome input clock clock_after old new old_errors new_errors status

@@ -20,10 +20,10 @@ fault_of desk.Write = program.Stream
 fault_of desk.NoMemory = program.NoMemory
 
 -- The fault for a file in which no register could be created. A store that failed is closed.
-abbrev pub fault_of_making : StoreFault → ProgramFault
-fault_of_making store.NoMemory = program.NoMemory
-fault_of_making store.Store = program.Closed
-fault_of_making store.Closed = program.Closed
+abbrev pub fault_of_creating : StoreFault → ProgramFault
+fault_of_creating store.NoMemory = program.NoMemory
+fault_of_creating store.Store = program.Closed
+fault_of_creating store.Closed = program.Closed
 
 -- The fault for a file that is not a valid register.
 abbrev pub fault_of_adopting : AdoptFault → ProgramFault
@@ -49,8 +49,8 @@ abbrev pub IsFaultOfOpening : ProgramFault → Type 0
 IsFaultOfOpening fault = (fault ≡ program.NoMemory) ⊎ (fault ≡ program.Open)
 
 -- An existing file cannot be opened. An empty file is not a register.
-abbrev pub IsFaultOfFinding : ProgramFault → Type 0
-IsFaultOfFinding fault = IsFaultOfOpening fault ⊎ (fault ≡ program.NotOurs)
+abbrev pub IsFaultOfOpeningExisting : ProgramFault → Type 0
+IsFaultOfOpeningExisting fault = IsFaultOfOpening fault ⊎ (fault ≡ program.NotOurs)
 
 -- A file cannot be closed: out of memory, or its store failed.
 abbrev pub IsFaultOfClosing : ProgramFault → Type 0
@@ -64,7 +64,7 @@ status_of program.Stream = 1
 status_of program.NoMemory = 1
 status_of program.Open = 1
 status_of program.Listen = 1
-status_of program.ToCome = 1
+status_of program.FutureMoment = 1
 status_of program.Closed = 1
 status_of program.NotOurs = 1
 status_of program.Interval = 1
@@ -78,7 +78,7 @@ line_of program.Stream = codes "land: input or output failed\n"
 line_of program.NoMemory = codes "land: fault 501\n"
 line_of program.Open = codes "land: cannot open\n"
 line_of program.Listen = codes "land: cannot listen\n"
-line_of program.ToCome = codes "land: fault 135\n"
+line_of program.FutureMoment = codes "land: fault 135\n"
 line_of program.Closed = codes "land: fault 502\n"
 line_of program.NotOurs = codes "land: fault 520\n"
 line_of program.Interval = codes "land: fault 521\n"

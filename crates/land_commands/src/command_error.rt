@@ -32,7 +32,7 @@ impl From<ExtractFault> for CommandError {
     fn from(fault: ExtractFault) -> CommandError {
         match fault {
             ExtractFault::Denied(rule) => CommandError::Denied(rule),
-            ExtractFault::Fault(_) => CommandError::Fault(ProgramFault::ToCome),
+            ExtractFault::Fault(_) => CommandError::Fault(ProgramFault::FutureMoment),
             ExtractFault::Write { written: _ } => CommandError::Fault(ProgramFault::Stream),
             ExtractFault::Store { fault, written: _ } => CommandError::Fault(ProgramFault::from(
                 fault,

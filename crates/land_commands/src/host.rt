@@ -1,7 +1,7 @@
 //! The host of the program: its memory, files and ports.
 ghost use Rattle.std.specs.Prelude.{◌≡◌, List, Option, ℕ, IfErr, IfOk, IfSome, OnOk};
 ghost use Rattle.land_commands.specs.Filed.{HoldsFileState};
-ghost use Rattle.land_commands.specs.ProgramFaults.{IsFaultOfClosing, IsFaultOfFinding, IsFaultOfOpening};
+ghost use Rattle.land_commands.specs.ProgramFaults.{IsFaultOfClosing, IsFaultOfOpeningExisting, IsFaultOfOpening};
 ghost use Rattle.sqlite.specs.Held.{Held};
 ghost use Rattle.sqlite.specs.State.{State};
 
@@ -32,15 +32,15 @@ pub trait Host {
     fn alloc(&self) -> Global;
 
     /// Opens a file, or creates it. Does not change a file that is neither empty nor a store.
-    fn open_new(&mut self, file: &str) -> Result<Connection<Self::Store>, ProgramFault>
+    fn open_or_create(&mut self, file: &str) -> Result<Connection<Self::Store>, ProgramFault>
         ensures shows { IfOk result (HoldsFileState Self.Store.Store (holds file.now)) }
         ensures fault { IfErr result IsFaultOfOpening }
         ensures port { coming self.new ≡ coming self.old };
 
     /// Opens an existing file. Does not create one, and does not change a file that is empty or not a store.
-    fn open_found(&mut self, file: &str) -> Result<Connection<Self::Store>, ProgramFault>
+    fn open_existing(&mut self, file: &str) -> Result<Connection<Self::Store>, ProgramFault>
         ensures shows { IfOk result (HoldsFileState Self.Store.Store (holds file.now)) }
-        ensures fault { IfErr result IsFaultOfFinding }
+        ensures fault { IfErr result IsFaultOfOpeningExisting }
         ensures port { coming self.new ≡ coming self.old };
 
     /// Closes a file, if there is one. The database file then holds all commits, and its log is empty.

@@ -2,14 +2,14 @@
 #![tactic(auto)]
 
 pub mod command_error;
-pub mod extracting;
-pub mod filed;
+pub mod extract_command;
+pub mod file_commands;
 pub mod host;
 pub mod local;
 pub mod local_host;
 pub mod migrate_command;
-pub mod obey;
+pub mod main_with;
 pub mod program_fault;
 pub mod run;
-pub mod set_clock;
+pub mod fixed_clock;
 pub mod words;

@@ -10,7 +10,7 @@ ghost use Rattle.sqlite_wal.specs.Files.{image_at};
 use crate::host::Host;
 use crate::program_fault::ProgramFault;
 use land_desk::service::callers::Callers;
-use land_desk::service::stopwatch::Stopwatch;
+use land_desk::service::timer::RequestTimer;
 use sqlite::{Connection, Error, ErrorCode, FileFrom, FileStore, Start, Wary};
 use std::alloc::Global;
 use std::fs::File;
@@ -29,12 +29,12 @@ const MAGIC: &[u8] = b"SQLite format 3\0";
 #[derive(Drop)]
 pub struct LocalHost<'a> {
     rt: HostRuntime,
-    watch: &'a Stopwatch<HostRuntime>,
+    watch: &'a RequestTimer<HostRuntime>,
 }
 
 impl<'a> LocalHost<'a> {
     /// Creates the host, without an open file. `watch`: the timer of connections.
-    pub fn new(rt: &HostRuntime, watch: &'a Stopwatch<HostRuntime>) -> LocalHost<'a> {
+    pub fn new(rt: &HostRuntime, watch: &'a RequestTimer<HostRuntime>) -> LocalHost<'a> {
         LocalHost { rt: *rt, watch }
     }
 }
@@ -53,7 +53,7 @@ enum FileKind {
 }
 
 /// Returns the kind of a file. Does not open it for writing.
-fn standing_of(rt: &HostRuntime, file: &str) -> FileKind {
+fn file_kind_of(rt: &HostRuntime, file: &str) -> FileKind {
     let Ok(stands) = fs::metadata(rt, file) else {
         return FileKind::Nothing;
     };
@@ -63,14 +63,14 @@ fn standing_of(rt: &HostRuntime, file: &str) -> FileKind {
     if stands.len() == 0 {
         return FileKind::Empty;
     }
-    match begins_as_store(rt, file) {
+    match has_store_header(rt, file) {
         Ok(true) => FileKind::Store,
         Ok(false) | Err(_) => FileKind::Other,
     }
 }
 
 /// Checks whether a file starts with the header of a SQLite database.
-fn begins_as_store(rt: &HostRuntime, file: &str) -> io::Result<bool> {
+fn has_store_header(rt: &HostRuntime, file: &str) -> io::Result<bool> {
     let mut opened = File::open(rt, file)?;
     let mut front = [0; 16];
     opened.read_exact(&mut front)?;
@@ -131,21 +131,21 @@ impl<'a> Host for LocalHost<'a> {
         self.rt.alloc()
     }
 
-    fn open_new(
+    fn open_or_create(
         &mut self,
         file: &str,
     ) -> Result<Connection<FileStore<FileFrom<Wary>>>, ProgramFault> {
-        match standing_of(&self.rt, file) {
+        match file_kind_of(&self.rt, file) {
             FileKind::Other => Err(ProgramFault::Open),
             _ => open_store(&self.rt, file, Wary),
         }
     }
 
-    fn open_found(
+    fn open_existing(
         &mut self,
         file: &str,
     ) -> Result<Connection<FileStore<FileFrom<Wary>>>, ProgramFault> {
-        match standing_of(&self.rt, file) {
+        match file_kind_of(&self.rt, file) {
             FileKind::Nothing | FileKind::Other => Err(ProgramFault::Open),
             FileKind::Empty => Err(ProgramFault::NotOurs),
             FileKind::Store => open_store(&self.rt, file, Wary),

@@ -1,8 +1,8 @@
 //! The command `migrate`: upgrades a register in a file from schema version 1 to 2.
 ghost use Rattle.std.specs.Prelude.{◌≡◌, string_bytes, IfOk};
-ghost use Rattle.land_commands.specs.Migrating.{IsMigrating, IsRaising, migrated_text};
+ghost use Rattle.land_commands.specs.Migrating.{IsMigrating, OpensMigrated, migrated_text};
 
-use crate::filed::close;
+use crate::file_commands::close;
 use crate::host::Host;
 use crate::program_fault::ProgramFault;
 use land_streams::send::send;
@@ -13,9 +13,9 @@ use std::io::Write;
 /// Opens a register of schema version 1 and migrates it to version 2. If that fails, does not change the
 /// file.
 fn open_migrated<H: Host>(host: &mut H, file: &str) -> Result<Tables<H::Store>, ProgramFault>
-    ensures { IsRaising H.Store.Store (H.holds file.now) result }
+    ensures { OpensMigrated H.Store.Store (H.holds file.now) result }
 {
-    let conn = host.open_found(file)?;
+    let conn = host.open_existing(file)?;
     match Tables::migrate(host.alloc(), conn) {
         Ok(tables) => Ok(tables),
         Err((_, fault)) => Err(ProgramFault::from(fault)),

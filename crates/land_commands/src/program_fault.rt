@@ -1,7 +1,7 @@
 //! Faults of the program.
 ghost use Rattle.std.specs.Prelude.{◌≡◌};
 ghost use Rattle.std.specs.IoError.{error_kind};
-ghost use Rattle.land_commands.specs.ProgramFaults.{fault_of, fault_of_adopting, fault_of_making};
+ghost use Rattle.land_commands.specs.ProgramFaults.{fault_of, fault_of_adopting, fault_of_creating};
 ghost use Rattle.land_commands.specs.ProgramFaults.{fault_of_service};
 ghost use Rattle.land_commands.specs.ProgramFaults.{IsFaultOfWords, line_of, status_of};
 
@@ -26,7 +26,7 @@ pub enum ProgramFault {
     /// Listening on a port failed.
     Listen,
     /// 135: the requested time is in the future.
-    ToCome,
+    FutureMoment,
     /// 502: a store operation failed, or the file for a new register has tables already.
     Closed,
     /// 520: the file does not have the tables of a register, or has a value that is not valid for its field.
@@ -47,7 +47,7 @@ impl ProgramFault {
         match self {
             ProgramFault::Words => 2,
             ProgramFault::Stream | ProgramFault::NoMemory | ProgramFault::Open => 1,
-            ProgramFault::Listen | ProgramFault::ToCome => 1,
+            ProgramFault::Listen | ProgramFault::FutureMoment => 1,
             ProgramFault::Closed | ProgramFault::NotOurs => 1,
             ProgramFault::Interval | ProgramFault::Unsound | ProgramFault::Version => 1,
         }
@@ -63,7 +63,7 @@ impl ProgramFault {
             ProgramFault::NoMemory => "land: fault 501\n",
             ProgramFault::Open => "land: cannot open\n",
             ProgramFault::Listen => "land: cannot listen\n",
-            ProgramFault::ToCome => "land: fault 135\n",
+            ProgramFault::FutureMoment => "land: fault 135\n",
             ProgramFault::Closed => "land: fault 502\n",
             ProgramFault::NotOurs => "land: fault 520\n",
             ProgramFault::Interval => "land: fault 521\n",
@@ -86,7 +86,7 @@ impl From<DeskFault> for ProgramFault {
 
 /// From a store in which no register could be created.
 impl From<StoreFault> for ProgramFault {
-    ghost from_gives = { λ from to. to ≡ fault_of_making from };
+    ghost from_gives = { λ from to. to ≡ fault_of_creating from };
 
     fn from(fault: StoreFault) -> ProgramFault {
         match fault {

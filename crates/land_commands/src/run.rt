@@ -1,22 +1,22 @@
 //! Runs the commands of the program.
 ghost use Rattle.std.specs.Prelude.{◌≡◌, [], string_bytes, IfOk, IfSome};
 ghost use Rattle.std.specs.Io.KnownBytes.{Appends};
-ghost use Rattle.land_commands.specs.Program.{IsEnding, IsRun, IsTalk, ReportsDenial, ReportsDone};
+ghost use Rattle.land_commands.specs.Program.{ReportsServed, RunsCommand, Talks, ReportsDenial, ReportsDone};
 ghost use Rattle.land_commands.specs.Program.{ReportsExtracted};
 ghost use Rattle.land_commands.specs.Program.{WritesOrFails, files_of};
 ghost use Rattle.land_commands.specs.ProgramFaults.{line_of, status_of};
 ghost use Rattle.land_commands.specs.CommandErrors.{denied_text};
 ghost use Rattle.land_commands.specs.Words.PlainCommands.{order_of};
-ghost use Rattle.land_tables.specs.Office.{IsCreated};
+ghost use Rattle.land_tables.specs.TablesState.{IsCreated};
 ghost use Rattle.sqlite.specs.Steps.{over_memory};
 
 use crate::command_error::CommandError;
-use crate::extracting::{ExtractRequest, extract};
-use crate::filed::{check, create_register, serve_file};
+use crate::extract_command::{ExtractRequest, extract};
+use crate::file_commands::{check, create_register, serve_file};
 use crate::host::Host;
 use crate::migrate_command::migrate;
 use crate::program_fault::ProgramFault;
-use crate::set_clock::SetClock;
+use crate::fixed_clock::FixedClock;
 use crate::words::command::Command;
 use land_desk::serve::{DeskFault, Served, serve};
 use land_keep::clock::Clock;
@@ -38,7 +38,7 @@ pub fn run_command<H: Host, I: Read, O: Write, E: Write, C: Clock>(
     errors: &mut E,
     clock: &mut C,
 ) -> u8
-    ensures { IsRun H.Store.Store (files_of H.holds H.is_closed H.coming host.old host.new) C.reads
+    ensures { RunsCommand H.Store.Store (files_of H.holds H.is_closed H.coming host.old host.new) C.reads
         (order_of command.entry) (I.remaining input.old) clock.old clock.new
         (O.contents output.old) (O.contents output.new)
         (E.contents errors.old) (E.contents errors.new) result }
@@ -83,14 +83,14 @@ fn talk<I: Read, O: Write>(
     input: &mut I,
     output: &mut O,
 ) -> Result<Served, DeskFault>
-    ensures { IfSome (I.remaining input.old) (λ bytes. IsTalk bytes reading
+    ensures { IfSome (I.remaining input.old) (λ bytes. Talks bytes reading
         (O.contents output.old) (O.contents output.new) result) }
 {
     let Ok(tables) = new_tables(alloc) else {
         return Err(DeskFault::NoMemory);
     };
     let mut keeper = SqlKeeper::new(tables);
-    let mut clock = SetClock { reading };
+    let mut clock = FixedClock { reading };
     serve(alloc, input, output, &mut keeper, &mut clock)
 }
 
@@ -107,11 +107,11 @@ fn new_tables(alloc: Global) -> Result<Tables<MemStore>, AllocError>
 
 /// Returns the exit status after serving, and writes a fault to `errors`.
 fn report_served<E: Write>(errors: &mut E, served: Result<Served, DeskFault>) -> u8
-    ensures { IsEnding served (E.contents errors.old) (E.contents errors.new) result }
+    ensures { ReportsServed served (E.contents errors.old) (E.contents errors.new) result }
 {
     match served {
         Ok(_) => 0,
-        Err(fault) => complain(errors, ProgramFault::from(fault)),
+        Err(fault) => report_fault(errors, ProgramFault::from(fault)),
     }
 }
 
@@ -121,7 +121,7 @@ fn report_done<E: Write>(errors: &mut E, done: Result<(), ProgramFault>) -> u8
 {
     match done {
         Ok(()) => 0,
-        Err(fault) => complain(errors, fault),
+        Err(fault) => report_fault(errors, fault),
     }
 }
 
@@ -132,7 +132,7 @@ fn report_extracted<E: Write>(alloc: Global, errors: &mut E, done: Result<(), Co
     match done {
         Ok(()) => 0,
         Err(CommandError::Denied(rule)) => report_denial(alloc, errors, rule),
-        Err(CommandError::Fault(fault)) => complain(errors, fault),
+        Err(CommandError::Fault(fault)) => report_fault(errors, fault),
     }
 }
 
@@ -145,7 +145,7 @@ fn report_denial<E: Write>(alloc: Global, errors: &mut E, rule: u8) -> u8
             write_stderr(errors, line.as_str());
             1
         }
-        Err(_) => complain(errors, ProgramFault::NoMemory),
+        Err(_) => report_fault(errors, ProgramFault::NoMemory),
     }
 }
 
@@ -157,7 +157,7 @@ fn denied_line(alloc: Global, rule: u8) -> Result<String, AllocError>
 }
 
 /// Writes a fault to `errors` and returns its exit status.
-pub fn complain<E: Write>(errors: &mut E, fault: ProgramFault) -> u8
+pub fn report_fault<E: Write>(errors: &mut E, fault: ProgramFault) -> u8
     ensures status { result ≡ status_of fault }
     ensures said { WritesOrFails (line_of fault) (E.contents errors.old) (E.contents errors.new) }
 {

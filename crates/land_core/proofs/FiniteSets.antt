@@ -12,7 +12,7 @@ use Rattle.std.specs.FinMap.{IsAntisymmetric}
 use Rattle.std.proofs.lemmas.Cmp.{on_total, then_total}
 use Rattle.std.proofs.lemmas.Map.Lookups.{exact_pairs, exact_unsigned}
 use Rattle.land_core.proofs.FiniteMaps.{one_inserted, one_removed}
-use Rattle.land_core.specs.Grants.{grant_cmp, marks}
+use Rattle.land_core.specs.Grants.{grant_cmp, set_entries}
 use Rattle.land_core.specs.Mandates.{mandate_cmp}
 use Rattle.land_core.specs.Role.{place_of, role_at, role_at_place}
 use Rattle.land_core.specs.declared.mandates.Mandate.{Mandate}
@@ -59,29 +59,29 @@ mark_then : (a b c : Bool) → mark (cond a b c) ≡ cond a (mark b) (mark c)
 mark_then true b c = refl
 mark_then false b c = refl
 
-pub lookup-marks : {K : Type 0} (t : K → Bool) (ks : List K) → lookup t (marks ks) ≡ mark (list_any t ks)
-lookup-marks t [] = refl
-lookup-marks t (k ∷ ks) = ap (cond (t k) (Some tt)) (lookup-marks t ks) ∙ mark_or (t k) _
+pub lookup-set_entries : {K : Type 0} (t : K → Bool) (ks : List K) → lookup t (set_entries ks) ≡ mark (list_any t ks)
+lookup-set_entries t [] = refl
+lookup-set_entries t (k ∷ ks) = ap (cond (t k) (Some tt)) (lookup-set_entries t ks) ∙ mark_or (t k) _
 
-pub keys-marks : {K : Type 0} (ks : List K) → keys_of (marks ks) ≡ ks
-keys-marks [] = refl
-keys-marks (k ∷ ks) = ap (λ it. k ∷ it) (keys-marks ks)
+pub keys-set_entries : {K : Type 0} (ks : List K) → keys_of (set_entries ks) ≡ ks
+keys-set_entries [] = refl
+keys-set_entries (k ∷ ks) = ap (λ it. k ∷ it) (keys-set_entries ks)
 
 -- a set's keys as a map
 module _ {K : Type 0} {R : K → K → Ordering} where
   pub key_inserted : IsTotalOrder R → IsAntisymmetric R → (ks js : List K) (k : K)
       → ((q : K) → list_any (is_at (R q)) js ≡ cond (is_at (R k) q) true (list_any (is_at (R q)) ks))
-      → map.from_entries {R = R} (marks js) ≡ map.insert (map.from_entries (marks ks)) k tt
-  key_inserted o same ks js k h = one_inserted o same (marks ks) (marks js) k tt (λ q.
-      lookup-marks _ js ∙ ap mark (h q) ∙ mark_then (is_at (R k) q) _ _ ∙ ap (cond (is_at (R k) q) (Some tt)) (sym (lookup-marks _ ks)))
+      → map.from_entries {R = R} (set_entries js) ≡ map.insert (map.from_entries (set_entries ks)) k tt
+  key_inserted o same ks js k h = one_inserted o same (set_entries ks) (set_entries js) k tt (λ q.
+      lookup-set_entries _ js ∙ ap mark (h q) ∙ mark_then (is_at (R k) q) _ _ ∙ ap (cond (is_at (R k) q) (Some tt)) (sym (lookup-set_entries _ ks)))
 
   pub key_removed : IsTotalOrder R → IsAntisymmetric R → (ks js : List K) (k : K)
       → ((q : K) → list_any (is_at (R q)) js ≡ cond (is_at (R k) q) false (list_any (is_at (R q)) ks))
-      → map.from_entries {R = R} (marks js) ≡ map.remove (map.from_entries (marks ks)) k
-  key_removed o same ks js k h = one_removed o same (marks ks) (marks js) k (λ q.
-      lookup-marks _ js ∙ ap mark (h q) ∙ mark_then (is_at (R k) q) _ _ ∙ ap (cond (is_at (R k) q) None) (sym (lookup-marks _ ks)))
+      → map.from_entries {R = R} (set_entries js) ≡ map.remove (map.from_entries (set_entries ks)) k
+  key_removed o same ks js k h = one_removed o same (set_entries ks) (set_entries js) k (λ q.
+      lookup-set_entries _ js ∙ ap mark (h q) ∙ mark_then (is_at (R k) q) _ _ ∙ ap (cond (is_at (R k) q) None) (sym (lookup-set_entries _ ks)))
 
 -- the entries of a set are its keys
-pub marks-keys : {K : Type 0} (es : List (K × Unit {0})) → marks (keys_of es) ≡ es
-marks-keys [] = refl
-marks-keys (e ∷ es) = ap (λ it. e ∷ it) (marks-keys es)
+pub set_entries-keys : {K : Type 0} (es : List (K × Unit {0})) → set_entries (keys_of es) ≡ es
+set_entries-keys [] = refl
+set_entries-keys (e ∷ es) = ap (λ it. e ∷ it) (set_entries-keys es)

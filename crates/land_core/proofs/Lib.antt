@@ -1,7 +1,7 @@
 pub mod Booleans
 pub mod FiniteMaps
 pub mod FiniteSets
-pub mod LookUps
+pub mod RecordLookups
 pub mod LooseMandates
 pub mod NewRegister
 pub mod Orders

@@ -14,7 +14,7 @@ use Rattle.land_core.proofs.SoundRegisters.{are_used_back, none_in_empty, refers
 use Rattle.land_core.specs.Entries.{has}
 use Rattle.land_core.specs.Grants.{grant_cmp, grant_of}
 use Rattle.land_core.specs.Register.{nothing, new_register, has_single_party, is_single}
-use Rattle.land_core.specs.Soundness.{IsSound, is_used, is_loose_rank, is_loose_mutation, is_reused_later, clashes_later}
+use Rattle.land_core.specs.Soundness.{IsSound, is_used, is_rank_out_of_range, is_dangling_mutation, shares_reference_with_later, clashes_with_later}
 use Rattle.land_core.specs.Units.{has_whole_shares, has_parcel, has_owner, parcel_count, rrr_count, rank_of}
 use Rattle.land_core.specs.declared.kind.PartyKind.TheVariants.{NonNaturalPerson}
 use Rattle.land_core.specs.declared.party.PartyRecord.{PartyRecord}
@@ -55,15 +55,15 @@ new_is_sound Reference =
       members = members;
       parcels = none_in_empty (λ n p. not (has new_register.units p.unit && has new_register.sources p.source));
       rrrs = none_in_empty (λ n e. not (has new_register.units e.unit && has new_register.parties e.party && has new_register.sources e.source));
-      mutations = none_in_empty (λ n m. is_loose_mutation new_register m);
+      mutations = none_in_empty (λ n m. is_dangling_mutation new_register m);
       mandates = no_mandates_are_tight new_register refl;
     })
 new_is_sound Shares = none_in_empty (λ n u. u.checked && not (has_whole_shares new_register n))
 new_is_sound Bare = none_in_empty (λ n u. not (has_parcel new_register n && has_owner new_register n))
 new_is_sound Crowded = none_in_empty (λ n u. nat_lt 256 (parcel_count new_register n) || nat_lt 256 (rrr_count new_register n))
-new_is_sound Twice = none_in_empty (clashes_later new_register)
-new_is_sound Reused = none_in_empty (is_reused_later new_register)
-new_is_sound Rank = none_in_empty (λ n e. is_loose_rank new_register (rank_of e.class))
+new_is_sound Twice = none_in_empty (clashes_with_later new_register)
+new_is_sound Reused = none_in_empty (shares_reference_with_later new_register)
+new_is_sound Rank = none_in_empty (λ n e. is_rank_out_of_range new_register (rank_of e.class))
 new_is_sound Group =
     unbroken_from new_register (λ n p is group. absurd (
     elim (eq_by_cmp nat_cmp n 1) as (λ b. cond b (Some office) (map.get nothing.parties n) ≡ Some p → ⊥) [

@@ -12,7 +12,7 @@ use Rattle.std.specs.Ordering.{nat_cmp, ordering_then}
 use Rattle.std.specs.declared.cmp.Ordering.{Ordering}
 use Rattle.land_core.proofs.Booleans.{or_four}
 use Rattle.land_core.proofs.Pairs.{later_pairs, list_any_same, some_pair}
-use Rattle.land_core.specs.Mutations.{share_a_reference}
+use Rattle.land_core.specs.Mutations.{have_same_reference}
 use Rattle.land_core.specs.Soundness.{has_reused_reference}
 use Rattle.land_core.specs.declared.mutation.MutationRecord.{MutationRecord}
 use Rattle.land_core.specs.declared.register.Register.{Register}
@@ -34,7 +34,7 @@ has_met met m = contains lodging_cmp met (lodging_of m)
 
 -- whether a remaining mutation has a reference already seen, or the same as a later one
 abbrev pub is_reused_in : BTreeSet Lodging → List (ℕ × MutationRecord) → Bool
-is_reused_in met es = list_any (λ e. has_met met e.1) es || some_pair share_a_reference es
+is_reused_in met es = list_any (λ e. has_met met e.1) es || some_pair have_same_reference es
 
 -- a key that is the lodger and the reference of a mutation
 pub record IsLodging (k : Lodging) (m : MutationRecord) : Type 0 where
@@ -50,7 +50,7 @@ same_met : (met : BTreeSet Lodging) (k : Lodging) (m : MutationRecord) → IsLod
 same_met met k m h = list_any_same (is_at (lodging_cmp k)) (is_at (lodging_cmp (lodging_of m))) (same_at k m h) met.keys
 
 -- keys are equal if mutations have the same lodger and reference
-shared_at : (m other : MutationRecord) → is_at (lodging_cmp (lodging_of m)) (lodging_of other) ≡ share_a_reference m other
+shared_at : (m other : MutationRecord) → is_at (lodging_cmp (lodging_of m)) (lodging_of other) ≡ have_same_reference m other
 shared_at m other = sym (both_tied _ _ (nat_cmp m.lodger other.lodger) (slice_cmp nat_cmp m.reference other.reference) (unsigned_ties m.lodger other.lodger) (sym (is_eq-slice_cmp m.reference other.reference)))
 
 true_or : (a b : Bool) → cond a true b ≡ (a || b)
@@ -67,27 +67,27 @@ none_met met h (e ∷ es) = ap (λ ks. list_any (is_at (lodging_cmp (lodging_of 
 
 -- nothing was met yet
 pub reused_begins : (r : Register) (met : BTreeSet Lodging) → met.keys ≡ [] → is_reused_in met (map.entries r.mutations) ≡ has_reused_reference r
-reused_begins r met h = ap (λ b. b || some_pair share_a_reference (map.entries r.mutations)) (none_met met h (map.entries r.mutations)) ∙ sym (later_pairs share_a_reference r.mutations)
+reused_begins r met h = ap (λ b. b || some_pair have_same_reference (map.entries r.mutations)) (none_met met h (map.entries r.mutations)) ∙ sym (later_pairs have_same_reference r.mutations)
 
 -- a mutation has a reference that was already seen
 pub reused_now : (met : BTreeSet Lodging) (k : Lodging) (e : ℕ × MutationRecord) (es : List (ℕ × MutationRecord)) → IsLodging k e.1 → contains lodging_cmp met k ≡ true → is_reused_in met (e ∷ es) ≡ true
-reused_now met k e es is h = ap (λ b. (b || list_any (λ e. has_met met e.1) es) || some_pair share_a_reference (e ∷ es)) (sym (same_met met k e.1 is) ∙ h)
+reused_now met k e es is h = ap (λ b. (b || list_any (λ e. has_met met e.1) es) || some_pair have_same_reference (e ∷ es)) (sym (same_met met k e.1 is) ∙ h)
 
 -- a mutation has a new reference, which is then added to the set
 pub reused_later : (met new : BTreeSet Lodging) (k : Lodging) (e : ℕ × MutationRecord) (es : List (ℕ × MutationRecord)) → IsLodging k e.1 → contains lodging_cmp met k ≡ false
     → ((q : Lodging) → contains lodging_cmp new q ≡ cond (is_at (lodging_cmp k) q) true (contains lodging_cmp met q))
     → is_reused_in met (e ∷ es) ≡ is_reused_in new es
 reused_later met new k e es is h updates =
-    let later : list_any (λ f. has_met new f.1) es ≡ (list_any (λ f. share_a_reference e.1 f.1) es || list_any (λ f. has_met met f.1) es) =
-    list_any_same (λ (f : ℕ × MutationRecord). has_met new f.1) (λ f. share_a_reference e.1 f.1 || has_met met f.1)
+    let later : list_any (λ f. has_met new f.1) es ≡ (list_any (λ f. have_same_reference e.1 f.1) es || list_any (λ f. has_met met f.1) es) =
+    list_any_same (λ (f : ℕ × MutationRecord). has_met new f.1) (λ f. have_same_reference e.1 f.1 || has_met met f.1)
     (λ f.
     updates (lodging_of f.1)
     ∙ true_or (is_at (lodging_cmp k) (lodging_of f.1)) (has_met met f.1)
     ∙ ap (λ b. b || has_met met f.1) (same_at k e.1 is (lodging_of f.1) ∙ shared_at e.1 f.1)) es
-    ∙ any_or (λ (f : ℕ × MutationRecord). share_a_reference e.1 f.1) (λ f. has_met met f.1) es in
-    ap (λ b. (b || list_any (λ e. has_met met e.1) es) || (list_any (λ f. share_a_reference e.1 f.1) es || some_pair share_a_reference es)) (sym (same_met met k e.1 is) ∙ h)
-    ∙ turned (list_any (λ e. has_met met e.1) es) (list_any (λ f. share_a_reference e.1 f.1) es) (some_pair share_a_reference es)
-    ∙ ap (λ b. b || some_pair share_a_reference es) (sym later)
+    ∙ any_or (λ (f : ℕ × MutationRecord). have_same_reference e.1 f.1) (λ f. has_met met f.1) es in
+    ap (λ b. (b || list_any (λ e. has_met met e.1) es) || (list_any (λ f. have_same_reference e.1 f.1) es || some_pair have_same_reference es)) (sym (same_met met k e.1 is) ∙ h)
+    ∙ turned (list_any (λ e. has_met met e.1) es) (list_any (λ f. have_same_reference e.1 f.1) es) (some_pair have_same_reference es)
+    ∙ ap (λ b. b || some_pair have_same_reference es) (sym later)
   where
     turned : (a b c : Bool) → (a || (b || c)) ≡ ((b || a) || c)
     turned true true c = refl

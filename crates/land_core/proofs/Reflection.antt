@@ -12,7 +12,7 @@ use Rattle.std.specs.FinMap.{FinMap, find, put, is_sorted, IsAntisymmetric}
 use Rattle.land_core.proofs.Booleans.{T_true, or_true}
 use Rattle.land_core.proofs.FiniteMaps.{is_equal, nothing_from_length}
 use Rattle.land_core.proofs.Orders.{less_apart}
-use Rattle.land_core.specs.Entries.{with_entries, only}
+use Rattle.land_core.specs.Entries.{with_entries, entries_where}
 
 reversed_less : (r s : Ordering) → r ≡ ordering_reverse s → is_lt s ≡ true → r ≡ Greater
 reversed_less r Less e h = e
@@ -142,8 +142,8 @@ module _ {K : Type 0} {R : K → K → Ordering} (o : IsTotalOrder R) (same : Is
           ]
 
   -- the entries that pass a test
-  pub entries-only : (p : K → V → Bool) (m : FinMap R V) → map.entries (only p m) ≡ filter (λ e. p e.0 e.1) (map.entries m)
-  entries-only p m =
+  pub entries-entries_where : (p : K → V → Bool) (m : FinMap R V) → map.entries (entries_where p m) ≡ filter (λ e. p e.0 e.1) (map.entries m)
+  entries-entries_where p m =
       let none : map.entries (map.empty {X = V} {R = R}) ≡ [] = nothing_from_length _ (sym (map.len-entries map.empty) ∙ map.len-empty R V) in
       entries-with_entries map.empty (filter (λ e. p e.0 e.1) (map.entries m))
       (ap (λ it. is_sorted R (it ++ filter (λ e. p e.0 e.1) (map.entries m))) none ∙ sorted-filter (λ e. p e.0 e.1) (map.entries m) (T_true _ (map.entries_sorted m)))
@@ -163,8 +163,8 @@ module _ {K : Type 0} {R : K → K → Ordering} (o : IsTotalOrder R) (same : Is
       ] refl
 
   -- a key that passes has its value unchanged
-  pub get-only : (p : K → V → Bool) (m : FinMap R V) (q : K) → ((v : V) → p q v ≡ true) → map.get (only p m) q ≡ map.get m q
-  get-only p m q h = map.get-entries (only p m) q ∙ ap (find R q) (entries-only p m) ∙ find-filter p q h (map.entries m) ∙ sym (map.get-entries m q)
+  pub get-entries_where : (p : K → V → Bool) (m : FinMap R V) (q : K) → ((v : V) → p q v ≡ true) → map.get (entries_where p m) q ≡ map.get m q
+  get-entries_where p m q h = map.get-entries (entries_where p m) q ∙ ap (find R q) (entries-entries_where p m) ∙ find-filter p q h (map.entries m) ∙ sym (map.get-entries m q)
 
   -- each entry is the value of its key
   each_found : (es : List (K × V)) → is_sorted R es ≡ true → AllByRecursion (λ e. find R e.0 es ≡ Some e.1) es

@@ -15,7 +15,7 @@ use Rattle.land_core.specs.Grants.{grants_in}
 use Rattle.land_core.specs.Members.{Members, are_group_shares}
 use Rattle.land_core.specs.Register.{has_single_party, has_group, is_single, shares_of}
 use Rattle.land_core.specs.Role.{is_role}
-use Rattle.land_core.specs.Soundness.{IsSound, has_fault, is_past_the_numbers, is_used, has_unused, has_unused_number, has_loose_grant, has_loose_members, has_loose_member, has_loose_parcel, has_loose_rrr, has_loose_mutation, has_loose_mandate, are_loose, has_broken_group, has_administrator}
+use Rattle.land_core.specs.Soundness.{IsSound, has_fault, exceeds_last_number, is_used, has_unused, has_unused_number, has_dangling_grant, has_dangling_members, has_dangling_member, has_dangling_parcel, has_dangling_rrr, has_dangling_mutation, has_dangling_mandate, are_dangling_members, has_broken_group, has_administrator}
 use Rattle.land_core.specs.declared.party.PartyRecord.{PartyRecord}
 use Rattle.land_core.specs.declared.register.Register.{Register}
 use Rattle.land_core.specs.declared.role.Role.TheVariants.{StateAdministrator}
@@ -25,35 +25,35 @@ use Rattle.land_fraction.specs.Ratio.{Ratio}
 
 -- a register without a fault of reference: none of its eight conditions holds
 pub record Refers (r : Register) : Type 0 where
-  pub room : is_past_the_numbers r ≡ false
+  pub room : exceeds_last_number r ≡ false
   pub numbers : has_unused_number r ≡ false
-  pub grants : has_loose_grant r ≡ false
-  pub members : has_loose_members r ≡ false
-  pub parcels : has_loose_parcel r ≡ false
-  pub rrrs : has_loose_rrr r ≡ false
-  pub mutations : has_loose_mutation r ≡ false
-  pub mandates : has_loose_mandate r ≡ false
+  pub grants : has_dangling_grant r ≡ false
+  pub members : has_dangling_members r ≡ false
+  pub parcels : has_dangling_parcel r ≡ false
+  pub rrrs : has_dangling_rrr r ≡ false
+  pub mutations : has_dangling_mutation r ≡ false
+  pub mandates : has_dangling_mandate r ≡ false
 
 pub refers : (r : Register) → has_fault Reference r ≡ false → Refers r
 refers r h =
-    let mandates = or_parts (is_past_the_numbers r || has_unused_number r || has_loose_grant r || has_loose_members r || has_loose_parcel r || has_loose_rrr r || has_loose_mutation r) (has_loose_mandate r) h in
-    let mutations = or_parts (is_past_the_numbers r || has_unused_number r || has_loose_grant r || has_loose_members r || has_loose_parcel r || has_loose_rrr r) (has_loose_mutation r) mandates.0 in
-    let rrrs = or_parts (is_past_the_numbers r || has_unused_number r || has_loose_grant r || has_loose_members r || has_loose_parcel r) (has_loose_rrr r) mutations.0 in
-    let parcels = or_parts (is_past_the_numbers r || has_unused_number r || has_loose_grant r || has_loose_members r) (has_loose_parcel r) rrrs.0 in
-    let members = or_parts (is_past_the_numbers r || has_unused_number r || has_loose_grant r) (has_loose_members r) parcels.0 in
-    let grants = or_parts (is_past_the_numbers r || has_unused_number r) (has_loose_grant r) members.0 in
-    let numbers = or_parts (is_past_the_numbers r) (has_unused_number r) grants.0 in
+    let mandates = or_parts (exceeds_last_number r || has_unused_number r || has_dangling_grant r || has_dangling_members r || has_dangling_parcel r || has_dangling_rrr r || has_dangling_mutation r) (has_dangling_mandate r) h in
+    let mutations = or_parts (exceeds_last_number r || has_unused_number r || has_dangling_grant r || has_dangling_members r || has_dangling_parcel r || has_dangling_rrr r) (has_dangling_mutation r) mandates.0 in
+    let rrrs = or_parts (exceeds_last_number r || has_unused_number r || has_dangling_grant r || has_dangling_members r || has_dangling_parcel r) (has_dangling_rrr r) mutations.0 in
+    let parcels = or_parts (exceeds_last_number r || has_unused_number r || has_dangling_grant r || has_dangling_members r) (has_dangling_parcel r) rrrs.0 in
+    let members = or_parts (exceeds_last_number r || has_unused_number r || has_dangling_grant r) (has_dangling_members r) parcels.0 in
+    let grants = or_parts (exceeds_last_number r || has_unused_number r) (has_dangling_grant r) members.0 in
+    let numbers = or_parts (exceeds_last_number r) (has_unused_number r) grants.0 in
     record { room = numbers.0; numbers = numbers.1; grants = grants.1; members = members.1; parcels = parcels.1; rrrs = rrrs.1; mutations = mutations.1; mandates = mandates.1 }
 
 pub refers_back : (r : Register) → Refers r → has_fault Reference r ≡ false
 refers_back r h =
-    ap (λ b. b || has_unused_number r || has_loose_grant r || has_loose_members r || has_loose_parcel r || has_loose_rrr r || has_loose_mutation r || has_loose_mandate r) h.room
-    ∙ ap (λ b. b || has_loose_grant r || has_loose_members r || has_loose_parcel r || has_loose_rrr r || has_loose_mutation r || has_loose_mandate r) h.numbers
-    ∙ ap (λ b. b || has_loose_members r || has_loose_parcel r || has_loose_rrr r || has_loose_mutation r || has_loose_mandate r) h.grants
-    ∙ ap (λ b. b || has_loose_parcel r || has_loose_rrr r || has_loose_mutation r || has_loose_mandate r) h.members
-    ∙ ap (λ b. b || has_loose_rrr r || has_loose_mutation r || has_loose_mandate r) h.parcels
-    ∙ ap (λ b. b || has_loose_mutation r || has_loose_mandate r) h.rrrs
-    ∙ ap (λ b. b || has_loose_mandate r) h.mutations
+    ap (λ b. b || has_unused_number r || has_dangling_grant r || has_dangling_members r || has_dangling_parcel r || has_dangling_rrr r || has_dangling_mutation r || has_dangling_mandate r) h.room
+    ∙ ap (λ b. b || has_dangling_grant r || has_dangling_members r || has_dangling_parcel r || has_dangling_rrr r || has_dangling_mutation r || has_dangling_mandate r) h.numbers
+    ∙ ap (λ b. b || has_dangling_members r || has_dangling_parcel r || has_dangling_rrr r || has_dangling_mutation r || has_dangling_mandate r) h.grants
+    ∙ ap (λ b. b || has_dangling_parcel r || has_dangling_rrr r || has_dangling_mutation r || has_dangling_mandate r) h.members
+    ∙ ap (λ b. b || has_dangling_rrr r || has_dangling_mutation r || has_dangling_mandate r) h.parcels
+    ∙ ap (λ b. b || has_dangling_mutation r || has_dangling_mandate r) h.rrrs
+    ∙ ap (λ b. b || has_dangling_mandate r) h.mutations
     ∙ h.mandates
 
 -- numbers in use of each map that has objects
@@ -87,13 +87,13 @@ are_used_back r h =
 pub none_in_empty : {V : Type 0} (p : ℕ → V → Bool) → some p map.empty ≡ false
 none_in_empty p = none_passes nat_cmp_total nat_cmp-IsAntisymmetric p map.empty (λ n v is. absurd (none_is_not_some (sym (map.get-empty nat_cmp n) ∙ is)))
 
-pub loose_from : (r : Register) → ((g : Grant) → map.get r.roles g ≡ Some tt → has_single_party r g.party ≡ true) → has_loose_grant r ≡ false
+pub loose_from : (r : Register) → ((g : Grant) → map.get r.roles g ≡ Some tt → has_single_party r g.party ≡ true) → has_dangling_grant r ≡ false
 unfolding grants_in
 loose_from r h =
     list_any-map (λ (g : Grant). not (has_single_party r g.party)) (λ e. e.0) (map.entries r.roles)
     ∙ none_passes grants_total exact_grants (λ g u. not (has_single_party r g.party)) r.roles (λ g u is. ap not (h g is))
 
-pub single_from : (r : Register) → has_loose_grant r ≡ false → (g : Grant) → map.get r.roles g ≡ Some tt → has_single_party r g.party ≡ true
+pub single_from : (r : Register) → has_dangling_grant r ≡ false → (g : Grant) → map.get r.roles g ≡ Some tt → has_single_party r g.party ≡ true
 unfolding grants_in
 single_from r none g is =
     not-false _ (none_at grants_total exact_grants (λ g u. not (has_single_party r g.party)) r.roles g tt
@@ -123,17 +123,17 @@ pub record AreTight (r : Register) (group : ℕ) (members : Members) : Type 0 wh
   pub grouped : has_group r group ≡ true
   pub single : (n : ℕ) (share : Ratio) → map.get members n ≡ Some share → has_single_party r n ≡ true
 
-tight_from : (r : Register) (group : ℕ) (members : Members) → AreTight r group members → are_loose r group members ≡ false
+tight_from : (r : Register) (group : ℕ) (members : Members) → AreTight r group members → are_dangling_members r group members ≡ false
 tight_from r group members h =
-    ap (λ b. not b || has_loose_member r members) h.grouped
+    ap (λ b. not b || has_dangling_member r members) h.grouped
     ∙ none_passes nat_cmp_total nat_cmp-IsAntisymmetric (λ n share. not (has_single_party r n)) members (λ n share is. ap not (h.single n share is))
 
-pub loose_members_from : (r : Register) → ((group : ℕ) (members : Members) → map.get r.members group ≡ Some members → AreTight r group members) → has_loose_members r ≡ false
-loose_members_from r h = none_passes nat_cmp_total nat_cmp-IsAntisymmetric (λ group members. are_loose r group members) r.members (λ group members is. tight_from r group members (h group members is))
+pub loose_members_from : (r : Register) → ((group : ℕ) (members : Members) → map.get r.members group ≡ Some members → AreTight r group members) → has_dangling_members r ≡ false
+loose_members_from r h = none_passes nat_cmp_total nat_cmp-IsAntisymmetric (λ group members. are_dangling_members r group members) r.members (λ group members is. tight_from r group members (h group members is))
 
-pub members_from : (r : Register) → has_loose_members r ≡ false → (group : ℕ) (members : Members) → map.get r.members group ≡ Some members → AreTight r group members
+pub members_from : (r : Register) → has_dangling_members r ≡ false → (group : ℕ) (members : Members) → map.get r.members group ≡ Some members → AreTight r group members
 members_from r none group members is =
-    let parts = or_parts (not (has_group r group)) (has_loose_member r members) (none_at nat_cmp_total nat_cmp-IsAntisymmetric (λ group members. are_loose r group members) r.members group members none is) in
+    let parts = or_parts (not (has_group r group)) (has_dangling_member r members) (none_at nat_cmp_total nat_cmp-IsAntisymmetric (λ group members. are_dangling_members r group members) r.members group members none is) in
     record {
       grouped = not-false _ parts.0;
       single = λ n share at. not-false _ (none_at nat_cmp_total nat_cmp-IsAntisymmetric (λ n share. not (has_single_party r n)) members n share parts.1 at);
@@ -156,14 +156,14 @@ whole_from r none n p is group =
     not-false _ (sym (ap (λ b. not b && not (are_group_shares (shares_of r n))) group) ∙ none_at nat_cmp_total nat_cmp-IsAntisymmetric (is_broken r) r.parties n p none is)
 
 -- a single party that exists has a record
-pub record Stands (r : Register) (n : ℕ) : Type 0 where
+pub record HasRecord (r : Register) (n : ℕ) : Type 0 where
   pub party : PartyRecord
   pub there : map.get r.parties n ≡ Some party
 
-pub stands_from : (r : Register) (n : ℕ) → has_single_party r n ≡ true → Stands r n
+pub stands_from : (r : Register) (n : ℕ) → has_single_party r n ≡ true → HasRecord r n
 stands_from r n h = found (map.get r.parties n) refl h
   where
-    found : (o : Option PartyRecord) → map.get r.parties n ≡ o → option_map_or (λ (p : PartyRecord). is_single p.kind) o false ≡ true → Stands r n
+    found : (o : Option PartyRecord) → map.get r.parties n ≡ o → option_map_or (λ (p : PartyRecord). is_single p.kind) o false ≡ true → HasRecord r n
     found None e h = absurd (false≢true h)
     found (Some p) e h = record { party = p; there = e }
 

@@ -12,9 +12,9 @@ use Rattle.std.proofs.lemmas.Cmp.{nat_eq_equiv}
 use Rattle.land_core.proofs.Booleans.{or_true, or_nothing, same_tests}
 use Rattle.land_core.proofs.Pairs.{later_pairs, list_any_same, some_pair}
 use Rattle.land_core.proofs.Reflection.{none_at, some_at, some_passes}
-use Rattle.land_core.specs.ByUnit.{IsByUnit, claim_in, claim_of, claimed_share, claimed_shares, claims_in, do_claims_clash, have_clash, is_bare, is_claim_of, is_crowded, is_in_parts, placed, under}
+use Rattle.land_core.specs.ByUnit.{IsByUnit, claim_in, claim_of, claimed_share, claimed_shares, claims_in, do_claims_clash, have_clash, is_bare, is_claim_of, is_crowded, lacks_whole_shares, items_of_unit, under}
 use Rattle.land_core.specs.Entries.{some, has}
-use Rattle.land_core.specs.Soundness.{has_bare_unit, has_clash, has_crowded_unit, has_loose_rrr, has_unit_in_parts}
+use Rattle.land_core.specs.Soundness.{has_bare_unit, has_clash, has_crowded_unit, has_dangling_rrr, has_unit_without_whole_shares}
 use Rattle.land_core.specs.Units.{are_of_one_rank, are_of_one_type, are_whole_or_none, do_clash, has_owner, has_parcel, has_whole_shares, is_right_in, is_right_of, parcel_count, rrr_count, share_in, is_type, rank_of, share_of, type_of, type_shares}
 use Rattle.land_core.specs.declared.register.Register.{Register}
 use Rattle.land_core.specs.declared.rrr.Class.{Class}
@@ -27,41 +27,41 @@ use Rattle.land_core.specs.declared.unit.UnitRecord.{UnitRecord}
 
 module _ {X Y : Type 0} (place : X → ℕ) (says : X → Y) (unit : ℕ) where
   -- the list of a unit has as many items as the unit
-  pub length-placed : (xs : List X) → length (placed place says unit xs) ≡ length (filter (λ x. nat_eq (place x) unit) xs)
-  length-placed [] = refl
-  length-placed (x ∷ xs) =
-      let rest = length-placed xs in
-      elim (nat_eq (place x) unit) as (λ b. length (cons_option (cond b (Some (says x)) None) (placed place says unit xs)) ≡ length (cond b (x ∷ filter (λ x. nat_eq (place x) unit) xs) (filter (λ x. nat_eq (place x) unit) xs))) [
+  pub length-items_of_unit : (xs : List X) → length (items_of_unit place says unit xs) ≡ length (filter (λ x. nat_eq (place x) unit) xs)
+  length-items_of_unit [] = refl
+  length-items_of_unit (x ∷ xs) =
+      let rest = length-items_of_unit xs in
+      elim (nat_eq (place x) unit) as (λ b. length (cons_option (cond b (Some (says x)) None) (items_of_unit place says unit xs)) ≡ length (cond b (x ∷ filter (λ x. nat_eq (place x) unit) xs) (filter (λ x. nat_eq (place x) unit) xs))) [
         | true ↦ ap (λ n. suc n) rest
         | false ↦ rest
       ]
 
   -- the list of a unit is empty if and only if the unit has no items
-  pub none_placed : (xs : List X) → nat_eq (length (placed place says unit xs)) 0 ≡ not (list_any (λ x. nat_eq (place x) unit) xs)
+  pub none_placed : (xs : List X) → nat_eq (length (items_of_unit place says unit xs)) 0 ≡ not (list_any (λ x. nat_eq (place x) unit) xs)
   none_placed [] = refl
   none_placed (x ∷ xs) =
       let rest = none_placed xs in
-      elim (nat_eq (place x) unit) as (λ b. nat_eq (length (cons_option (cond b (Some (says x)) None) (placed place says unit xs))) 0 ≡ not (b || list_any (λ x. nat_eq (place x) unit) xs)) [
-        | true ↦ eqb-suc-zero (length (placed place says unit xs))
+      elim (nat_eq (place x) unit) as (λ b. nat_eq (length (cons_option (cond b (Some (says x)) None) (items_of_unit place says unit xs))) 0 ≡ not (b || list_any (λ x. nat_eq (place x) unit) xs)) [
+        | true ↦ eqb-suc-zero (length (items_of_unit place says unit xs))
         | false ↦ rest
       ]
 
   -- an item of the list passes a test if and only if an item of the unit does
-  pub list_any-placed : (test : Y → Bool) (xs : List X) → list_any test (placed place says unit xs) ≡ list_any (λ x. nat_eq (place x) unit && test (says x)) xs
-  list_any-placed test [] = refl
-  list_any-placed test (x ∷ xs) =
-      let rest = list_any-placed test xs in
-      elim (nat_eq (place x) unit) as (λ b. list_any test (cons_option (cond b (Some (says x)) None) (placed place says unit xs)) ≡ (b && test (says x) || list_any (λ x. nat_eq (place x) unit && test (says x)) xs)) [
+  pub list_any-items_of_unit : (test : Y → Bool) (xs : List X) → list_any test (items_of_unit place says unit xs) ≡ list_any (λ x. nat_eq (place x) unit && test (says x)) xs
+  list_any-items_of_unit test [] = refl
+  list_any-items_of_unit test (x ∷ xs) =
+      let rest = list_any-items_of_unit test xs in
+      elim (nat_eq (place x) unit) as (λ b. list_any test (cons_option (cond b (Some (says x)) None) (items_of_unit place says unit xs)) ≡ (b && test (says x) || list_any (λ x. nat_eq (place x) unit && test (says x)) xs)) [
         | true ↦ ap (λ c. test (says x) || c) rest
         | false ↦ rest
       ]
 
   -- a filtered list of the items is that of the unit
-  pub filter_map-placed : {Z : Type 0} (take : Y → Option Z) (xs : List X) → filter_map take (placed place says unit xs) ≡ filter_map (λ x. cond (nat_eq (place x) unit) (take (says x)) None) xs
-  filter_map-placed take [] = refl
-  filter_map-placed take (x ∷ xs) =
-      let rest = filter_map-placed take xs in
-      elim (nat_eq (place x) unit) as (λ b. filter_map take (cons_option (cond b (Some (says x)) None) (placed place says unit xs)) ≡ cons_option (cond b (take (says x)) None) (filter_map (λ x. cond (nat_eq (place x) unit) (take (says x)) None) xs)) [
+  pub filter_map-items_of_unit : {Z : Type 0} (take : Y → Option Z) (xs : List X) → filter_map take (items_of_unit place says unit xs) ≡ filter_map (λ x. cond (nat_eq (place x) unit) (take (says x)) None) xs
+  filter_map-items_of_unit take [] = refl
+  filter_map-items_of_unit take (x ∷ xs) =
+      let rest = filter_map-items_of_unit take xs in
+      elim (nat_eq (place x) unit) as (λ b. filter_map take (cons_option (cond b (Some (says x)) None) (items_of_unit place says unit xs)) ≡ cons_option (cond b (take (says x)) None) (filter_map (λ x. cond (nat_eq (place x) unit) (take (says x)) None) xs)) [
         | true ↦ ap (cons_option (take (says x))) rest
         | false ↦ rest
       ]
@@ -108,7 +108,7 @@ some_same p q h m = list_any_same (λ e. p e.0 e.1) (λ e. q e.0 e.1) (λ e. h e
 -- an entry clashes with the later ones of its unit
 in_its_unit : (e : ℕ × RrrRecord) (es : List (ℕ × RrrRecord)) → list_any (do_claims_clash (claim_of e.1)) (claims_in es e.1.unit) ≡ list_any (λ f. do_clash e.1 f.1) es
 in_its_unit e es =
-    list_any-placed (λ f. f.1.unit) (λ f. claim_of f.1) e.1.unit (do_claims_clash (claim_of e.1)) es
+    list_any-items_of_unit (λ f. f.1.unit) (λ f. claim_of f.1) e.1.unit (do_claims_clash (claim_of e.1)) es
     ∙ list_any_same (λ f. nat_eq f.1.unit e.1.unit && do_claims_clash (claim_of e.1) (claim_of f.1)) (λ f. do_clash e.1 f.1)
     (λ f.
     ap (λ t. t && do_claims_clash (claim_of e.1) (claim_of f.1)) (nat_eq_equiv.symm f.1.unit e.1.unit)
@@ -178,7 +178,7 @@ module _ (b : ByUnit) (r : Register) (listed : IsByUnit b r) where
   owner_listed : (unit : ℕ) → list_any (is_claim_of Ownership) (under b.claims unit) ≡ has_owner r unit
   owner_listed unit =
       ap (list_any (is_claim_of Ownership)) (listed.claims unit)
-      ∙ list_any-placed (λ e. e.1.unit) (λ e. claim_of e.1) unit (is_claim_of Ownership) (map.entries r.rrrs)
+      ∙ list_any-items_of_unit (λ e. e.1.unit) (λ e. claim_of e.1) unit (is_claim_of Ownership) (map.entries r.rrrs)
       ∙ list_any_same (λ (e : ℕ × RrrRecord). nat_eq e.1.unit unit && is_claim_of Ownership (claim_of e.1)) (λ e. is_right_in unit Ownership e.1)
       (λ e. ap (λ t. nat_eq e.1.unit unit && t) (right_claimed Ownership e.1.party e.1.class)) (map.entries r.rrrs)
 
@@ -193,30 +193,30 @@ module _ (b : ByUnit) (r : Register) (listed : IsByUnit b r) where
 
   pub crowded_same : some (λ n (u : UnitRecord). is_crowded b n) r.units ≡ has_crowded_unit r
   crowded_same = some_same (λ n (u : UnitRecord). is_crowded b n) (λ n (u : UnitRecord). nat_lt 256 (parcel_count r n) || nat_lt 256 (rrr_count r n)) (λ n u.
-      ap (λ k. nat_lt 256 k || nat_lt 256 (length (under b.claims n))) (ap length (listed.parcels n) ∙ length-placed (λ e. e.1.unit) (λ e. e.0) n (map.entries r.parcels))
-      ∙ ap (λ k. nat_lt 256 (parcel_count r n) || nat_lt 256 k) (ap length (listed.claims n) ∙ length-placed (λ e. e.1.unit) (λ e. claim_of e.1) n (map.entries r.rrrs))) r.units
+      ap (λ k. nat_lt 256 k || nat_lt 256 (length (under b.claims n))) (ap length (listed.parcels n) ∙ length-items_of_unit (λ e. e.1.unit) (λ e. e.0) n (map.entries r.parcels))
+      ∙ ap (λ k. nat_lt 256 (parcel_count r n) || nat_lt 256 k) (ap length (listed.claims n) ∙ length-items_of_unit (λ e. e.1.unit) (λ e. claim_of e.1) n (map.entries r.rrrs))) r.units
 
   shares_listed : (unit : ℕ) (type : RightType) → filter_map (claimed_share type) (under b.claims unit) ≡ type_shares r unit type
   shares_listed unit type =
       ap (filter_map (claimed_share type)) (listed.claims unit)
-      ∙ filter_map-placed (λ e. e.1.unit) (λ e. claim_of e.1) unit (claimed_share type) (map.entries r.rrrs)
+      ∙ filter_map-items_of_unit (λ e. e.1.unit) (λ e. claim_of e.1) unit (claimed_share type) (map.entries r.rrrs)
       ∙ filter_map_same (λ (e : ℕ × RrrRecord). cond (nat_eq e.1.unit unit) (claimed_share type (claim_of e.1)) None) (λ e. share_in unit type e.1)
       (λ e. ap (λ o. cond (nat_eq e.1.unit unit) o None) (share_claimed type e.1.party e.1.class)) (map.entries r.rrrs)
 
-  whole_listed : (unit : ℕ) → is_in_parts b unit ≡ not (has_whole_shares r unit)
+  whole_listed : (unit : ℕ) → lacks_whole_shares b unit ≡ not (has_whole_shares r unit)
   whole_listed unit =
       ap (λ it. not (are_whole_or_none it && are_whole_or_none (claimed_shares Lease (under b.claims unit)) && are_whole_or_none (claimed_shares Usufruct (under b.claims unit)))) (shares_listed unit Ownership)
       ∙ ap (λ it. not (are_whole_or_none (type_shares r unit Ownership) && are_whole_or_none it && are_whole_or_none (claimed_shares Usufruct (under b.claims unit)))) (shares_listed unit Lease)
       ∙ ap (λ it. not (are_whole_or_none (type_shares r unit Ownership) && are_whole_or_none (type_shares r unit Lease) && are_whole_or_none it)) (shares_listed unit Usufruct)
 
-  pub parts_same : some (λ n u. u.checked && is_in_parts b n) r.units ≡ has_unit_in_parts r
-  parts_same = some_same (λ n u. u.checked && is_in_parts b n) (λ n u. u.checked && not (has_whole_shares r n)) (λ n u. ap (λ t. u.checked && t) (whole_listed n)) r.units
+  pub parts_same : some (λ n u. u.checked && lacks_whole_shares b n) r.units ≡ has_unit_without_whole_shares r
+  parts_same = some_same (λ n u. u.checked && lacks_whole_shares b n) (λ n u. u.checked && not (has_whole_shares r n)) (λ n u. ap (λ t. u.checked && t) (whole_listed n)) r.units
 
   clashes : has_clash r ≡ some_pair do_clash (map.entries r.rrrs)
   clashes = later_pairs do_clash r.rrrs
 
   -- if each entry is in a unit that exists, the two tests for clashes agree
-  pub clash_same : has_loose_rrr r ≡ false → some (λ n (u : UnitRecord). have_clash (under b.claims n)) r.units ≡ has_clash r
+  pub clash_same : has_dangling_rrr r ≡ false → some (λ n (u : UnitRecord). have_clash (under b.claims n)) r.units ≡ has_clash r
   clash_same refers = same_tests _ _ to back
     where
       to : some (λ n (u : UnitRecord). have_clash (under b.claims n)) r.units ≡ true → has_clash r ≡ true

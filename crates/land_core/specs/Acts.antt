@@ -27,12 +27,12 @@ abbrev pub is_first_count : ℕ → Bool
 is_first_count count = nat_le 1 count && nat_le count 64
 
 -- each member has a valid number
-abbrev pub name_numbers : List Member → Bool
-name_numbers members = list_all (λ member. is_number member.party) members
+abbrev pub have_numbers : List Member → Bool
+have_numbers members = list_all (λ member. is_number member.party) members
 
 -- a group has 2 to 64 members, each with a valid number
 abbrev pub are_members : List Member → Bool
-are_members members = is_group_size (length members) && name_numbers members
+are_members members = is_group_size (length members) && have_numbers members
 
 -- each parcel has a valid label
 abbrev pub have_labels : List NewParcel → Bool

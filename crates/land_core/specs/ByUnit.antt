@@ -76,16 +76,16 @@ are_claims_whole claims =
     && are_whole_or_none (claimed_shares Usufruct claims)
 
 -- the values of those entries that are in a unit
-abbrev pub placed : {X Y : Type 0} → (place : X → ℕ) → (says : X → Y) → (unit : ℕ) → List X → List Y
-placed place says unit xs = filter_map (λ x. if nat_eq (place x) unit then Some (says x) else None) xs
+abbrev pub items_of_unit : {X Y : Type 0} → (place : X → ℕ) → (says : X → Y) → (unit : ℕ) → List X → List Y
+items_of_unit place says unit xs = filter_map (λ x. if nat_eq (place x) unit then Some (says x) else None) xs
 
 -- the numbers of the parcels of a unit, ascending
 abbrev pub parcels_in : List (ℕ × ParcelRecord) → (unit : ℕ) → List ℕ
-parcels_in entries unit = placed (λ e. e.1.unit) (λ e. e.0) unit entries
+parcels_in entries unit = items_of_unit (λ e. e.1.unit) (λ e. e.0) unit entries
 
 -- the claims of the entries of a unit, ordered by number
 abbrev pub claims_in : List (ℕ × RrrRecord) → (unit : ℕ) → List Claim
-claims_in entries unit = placed (λ e. e.1.unit) (λ e. claim_of e.1) unit entries
+claims_in entries unit = items_of_unit (λ e. e.1.unit) (λ e. claim_of e.1) unit entries
 
 -- the groups contain, for each unit, its parcels and its claims
 pub record IsByUnit (by_unit : ByUnit) (r : Register) : Type 0 where
@@ -101,5 +101,5 @@ abbrev pub is_crowded : ByUnit → (unit : ℕ) → Bool
 is_crowded by_unit unit = nat_lt 256 (length (under by_unit.parcels unit))
     || nat_lt 256 (length (under by_unit.claims unit))
 
-abbrev pub is_in_parts : ByUnit → (unit : ℕ) → Bool
-is_in_parts by_unit unit = not (are_claims_whole (under by_unit.claims unit))
+abbrev pub lacks_whole_shares : ByUnit → (unit : ℕ) → Bool
+lacks_whole_shares by_unit unit = not (are_claims_whole (under by_unit.claims unit))

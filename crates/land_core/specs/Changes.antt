@@ -1,8 +1,8 @@
 -- Changes: entries that are inserted or updated, and keys that are removed.
 use Rattle.std.specs.Prelude.{◌≡◌, ℕ, true, [], ◌++◌, nat_eq, map as map_list}
 use Rattle.std.specs.Ordering.{eq_by_cmp}
-use Rattle.land_core.specs.Entries.{updated, are_distinct}
-use Rattle.land_core.specs.Grants.{marks, grant_cmp}
+use Rattle.land_core.specs.Entries.{with_changes, are_distinct}
+use Rattle.land_core.specs.Grants.{set_entries, grant_cmp}
 use Rattle.land_core.specs.Mandates.{mandate_cmp}
 use Rattle.land_core.specs.declared.change.Change.{Change}
 use Rattle.land_core.specs.declared.change.Ended.{Ended}
@@ -43,15 +43,15 @@ no_change next = record { put = no_put; ended = no_ended; next = next }
 -- the register after a change
 abbrev pub after : Change → Register → Register
 after change r = record {
-  parties = updated r.parties change.put.parties change.ended.parties;
-  roles = updated r.roles (marks change.put.roles) change.ended.roles;
-  members = updated r.members change.put.members change.ended.members;
-  units = updated r.units change.put.units change.ended.units;
-  parcels = updated r.parcels change.put.parcels change.ended.parcels;
-  rrrs = updated r.rrrs change.put.rrrs change.ended.rrrs;
-  sources = updated r.sources change.put.sources change.ended.sources;
-  mutations = updated r.mutations change.put.mutations change.ended.mutations;
-  mandates = updated r.mandates (marks change.put.mandates) change.ended.mandates;
+  parties = with_changes r.parties change.put.parties change.ended.parties;
+  roles = with_changes r.roles (set_entries change.put.roles) change.ended.roles;
+  members = with_changes r.members change.put.members change.ended.members;
+  units = with_changes r.units change.put.units change.ended.units;
+  parcels = with_changes r.parcels change.put.parcels change.ended.parcels;
+  rrrs = with_changes r.rrrs change.put.rrrs change.ended.rrrs;
+  sources = with_changes r.sources change.put.sources change.ended.sources;
+  mutations = with_changes r.mutations change.put.mutations change.ended.mutations;
+  mandates = with_changes r.mandates (set_entries change.put.mandates) change.ended.mandates;
   next = change.next;
 }
 

@@ -97,13 +97,13 @@ is_same_content (content.Discharge it) (content.Discharge other) = is_same_disch
 -- ---- the units of a content
 
 -- whether any unit to which a content refers passes a test
-abbrev pub names_where : (ℕ → Bool) → Content → Bool
-names_where passes (content.Transfer it) = passes it.unit
-names_where passes (content.Subdivision it) = passes it.unit
-names_where passes (content.Merger it) = passes it.unit || list_any passes it.others
-names_where passes (content.Mortgage it) = passes it.unit
-names_where passes (content.Discharge it) = passes it.unit
+abbrev pub refers_to_unit_where : (ℕ → Bool) → Content → Bool
+refers_to_unit_where passes (content.Transfer it) = passes it.unit
+refers_to_unit_where passes (content.Subdivision it) = passes it.unit
+refers_to_unit_where passes (content.Merger it) = passes it.unit || list_any passes it.others
+refers_to_unit_where passes (content.Mortgage it) = passes it.unit
+refers_to_unit_where passes (content.Discharge it) = passes it.unit
 
 -- whether a content refers to a unit
 abbrev pub names_unit : (unit : ℕ) → Content → Bool
-names_unit unit it = names_where (λ n. nat_eq n unit) it
+names_unit unit it = refers_to_unit_where (λ n. nat_eq n unit) it

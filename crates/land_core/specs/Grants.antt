@@ -24,8 +24,8 @@ coded_grant = code_by (ℕ × ℕ) (coded× coded_ℕ coded_ℕ) (λ g. (g.party
     (λ g. ap (λ r. record { party = g.party; role = r }) (role_at_place g.role))
 
 -- a set of keys, as entries
-abbrev pub marks : {K : Type 0} → List K → List (K × Unit {0})
-marks {K} ks = map_list {B = K × Unit {0}} (λ k. (k, tt)) ks
+abbrev pub set_entries : {K : Type 0} → List K → List (K × Unit {0})
+set_entries {K} ks = map_list {B = K × Unit {0}} (λ k. (k, tt)) ks
 
 -- the set of current grants
 abbrev pub Grants : Type 0

@@ -31,24 +31,24 @@ pub record IsInUse (r : Register) (n : ℕ) : Type 0 where
   pub below : n < r.next
 
 -- a map has a record of this number
-abbrev pub Stands : {V : Type 0} → FinMap nat_cmp V → ℕ → Type 0
-Stands m n = IsSome (map.get m n)
+abbrev pub HasRecord : {V : Type 0} → FinMap nat_cmp V → ℕ → Type 0
+HasRecord m n = IsSome (map.get m n)
 
 -- the unit and the source of a parcel exist
 pub record ParcelRefers (r : Register) (parcel : ParcelRecord) : Type 0 where
-  pub unit : Stands r.units parcel.unit
-  pub source : Stands r.sources parcel.source
+  pub unit : HasRecord r.units parcel.unit
+  pub source : HasRecord r.sources parcel.source
 
 -- the unit, the party and the source of an entry exist
 pub record EntryRefers (r : Register) (entry : RrrRecord) : Type 0 where
-  pub unit : Stands r.units entry.unit
-  pub party : Stands r.parties entry.party
-  pub source : Stands r.sources entry.source
+  pub unit : HasRecord r.units entry.unit
+  pub party : HasRecord r.parties entry.party
+  pub source : HasRecord r.sources entry.source
 
 -- the lodger and the source of a mutation exist, and its content is within its limits
 pub record MutationRefers (r : Register) (mutation : MutationRecord) : Type 0 where
-  pub lodger : Stands r.parties mutation.lodger
-  pub source : Stands r.sources mutation.source
+  pub lodger : HasRecord r.parties mutation.lodger
+  pub source : HasRecord r.sources mutation.source
   pub content : is_well_formed_content mutation.content ≡ true
 
 -- a party with members is a group, and its members are single parties
@@ -63,7 +63,7 @@ pub record MandateRefers (r : Register) (principal agent : ℕ) : Type 0 where
   pub apart : principal ≢ agent
 
 -- there are 2 to 64 shares, and they sum to 1
-pub record AreOfGroup (shares : List Ratio) : Type 0 where
+pub record AreGroupShares (shares : List Ratio) : Type 0 where
   pub least : 2 ≤ length shares
   pub most : length shares ≤ 64
   pub whole : IsWhole shares
@@ -100,7 +100,7 @@ pub record GoTogether (e f : RrrRecord) : Type 0 where
   pub ranks : (rank : ℕ) → rank_of e.class ≡ Some rank → rank_of f.class ≢ Some rank
 
 -- the conditions of soundness on the record of each number
-pub record IsSoundByLookUps (r : Register) : Type 0 where
+pub record IsSoundByNumber (r : Register) : Type 0 where
   pub room : r.next ≤ last_next
   pub numbers_of_parties : (n : ℕ) (party : PartyRecord) → map.get r.parties n ≡ Some party → IsInUse r n
   pub numbers_of_units : (n : ℕ) (unit : UnitRecord) → map.get r.units n ≡ Some unit → IsInUse r n
@@ -119,7 +119,7 @@ pub record IsSoundByLookUps (r : Register) : Type 0 where
   pub mandates : (principal agent : ℕ) → has_mandate r.mandates (mandate_of principal agent) ≡ true
       → MandateRefers r principal agent
   pub groups : (n : ℕ) (party : PartyRecord) → map.get r.parties n ≡ Some party
-      → is_single party.kind ≡ false → AreOfGroup (shares_of r n)
+      → is_single party.kind ≡ false → AreGroupShares (shares_of r n)
   pub units : (n : ℕ) (unit : UnitRecord) → map.get r.units n ≡ Some unit → IsSoundUnit r n unit
   pub pairs : (m n : ℕ) (e f : RrrRecord) → map.get r.rrrs m ≡ Some e → map.get r.rrrs n ≡ Some f → m ≢ n
       → e.unit ≡ f.unit → GoTogether e f
@@ -130,5 +130,5 @@ pub record IsSoundByLookUps (r : Register) : Type 0 where
   pub administrator : (party : ℕ) × (holds r party StateAdministrator ≡ true)
 
 -- a register is sound if and only if the conditions on lookups hold
-abbrev pub SoundnessByLookUps : Type 0
-SoundnessByLookUps = (r : Register) → IsSound r ↔ IsSoundByLookUps r
+abbrev pub SoundnessByNumber : Type 0
+SoundnessByNumber = (r : Register) → IsSound r ↔ IsSoundByNumber r

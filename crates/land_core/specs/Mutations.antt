@@ -19,5 +19,5 @@ abbrev pub is_lodged_as : (lodger : ℕ) → (reference : List ℕ) → Mutation
 is_lodged_as lodger reference m = nat_eq m.lodger lodger && bytes_eq m.reference reference
 
 -- whether two mutations have the same lodger and the same reference
-abbrev pub share_a_reference : MutationRecord → MutationRecord → Bool
-share_a_reference m other = is_lodged_as other.lodger other.reference m
+abbrev pub have_same_reference : MutationRecord → MutationRecord → Bool
+have_same_reference m other = is_lodged_as other.lodger other.reference m

@@ -22,18 +22,18 @@ abbrev pub is_part : Part → Bool
 is_part part = is_label part.label && is_new_name part.unit
 
 -- there are 1 to 15 further parts
-abbrev pub is_rest_count : ℕ → Bool
-is_rest_count count = nat_le 1 count && nat_le count 15
+abbrev pub is_further_part_count : ℕ → Bool
+is_further_part_count count = nat_le 1 count && nat_le count 15
 
 abbrev pub have_names : List Part → Bool
 have_names parts = list_all is_part parts
 
-abbrev pub is_rest : List Part → Bool
-is_rest parts = is_rest_count (length parts) && have_names parts
+abbrev pub are_further_parts : List Part → Bool
+are_further_parts parts = is_further_part_count (length parts) && have_names parts
 
 -- a subdivision has valid numbers of a unit and a parcel, and valid parts
 abbrev pub is_subdivision : Subdivision → Bool
-is_subdivision it = is_number it.unit && is_number it.parcel && is_label it.first.label && is_rest it.rest
+is_subdivision it = is_number it.unit && is_number it.parcel && is_label it.first.label && are_further_parts it.rest
 
 -- ---- which subdivisions are the same
 

@@ -1,7 +1,7 @@
 //! The acts that a caller can request.
 ghost use Rattle.std.specs.Prelude.{◌≡◌};
 ghost use Rattle.std.specs.List.{list_all};
-ghost use Rattle.land_core.specs.Acts.{are_members, name_numbers, are_parcels, have_labels, are_rights};
+ghost use Rattle.land_core.specs.Acts.{are_members, have_numbers, are_parcels, have_labels, are_rights};
 ghost use Rattle.land_core.specs.Acts.{have_parties, have_owner};
 
 use crate::content::Content;
@@ -266,11 +266,11 @@ pub fn have_owner(rights: &[NewRight]) -> bool
 fn are_members(members: &[Member]) -> bool
     ensures { result ≡ are_members members.now }
 {
-    2 <= members.len() && members.len() <= 64 && name_numbers(members)
+    2 <= members.len() && members.len() <= 64 && have_numbers(members)
 }
 
-fn name_numbers(members: &[Member]) -> bool
-    ensures { result ≡ name_numbers members.now }
+fn have_numbers(members: &[Member]) -> bool
+    ensures { result ≡ have_numbers members.now }
 {
     members.iter().all(|member| is_number(member.party))
 }

@@ -2,8 +2,8 @@
 ghost use Rattle.std.specs.Prelude.{◌≡◌, OnOk, OnErr, IfOk};
 ghost use Rattle.std.specs.FinMap as map;
 ghost use Rattle.std.specs.Map.Iter.{ShowsInOrder, deref};
-ghost use Rattle.land_core.specs.Entries.{updated, with_entries, without};
-ghost use Rattle.land_core.specs.Grants.{marks};
+ghost use Rattle.land_core.specs.Entries.{with_changes, with_entries, without};
+ghost use Rattle.land_core.specs.Grants.{set_entries};
 ghost use Rattle.land_core.specs.Mandates.{has_mandate, mandates_in};
 ghost use Rattle.land_core.specs.declared.mandates.Mandate.{Mandate};
 
@@ -32,14 +32,14 @@ pub struct Mandates {
 impl Model for Mandates {
     ghost use Rattle.std.specs.FinMap as map;
     ghost use Rattle.std.specs.FinSet as set;
-    ghost use Rattle.land_core.specs.Grants.{marks};
+    ghost use Rattle.land_core.specs.Grants.{set_entries};
     ghost use Rattle.land_core.specs.Mandates.{coded_mandate, Mandates};
 
     ghost Value = { Mandates };
 
     ghost coded = { set.code coded_mandate };
 
-    ghost view = { λ a. map.from_entries (marks a.pairs.keys) };
+    ghost view = { λ a. map.from_entries (set_entries a.pairs.keys) };
 }
 
 impl Mandates {
@@ -54,14 +54,14 @@ impl Mandates {
 
     /// Wraps a set of mandates.
     pub fn from_set(pairs: BTreeSet<Mandate>) -> Mandates
-        ensures { result ≡ map.from_entries (marks pairs.keys) }
+        ensures { result ≡ map.from_entries (set_entries pairs.keys) }
     {
         Mandates { pairs }
     }
 
     /// Returns the set.
     pub fn into_set(self) -> BTreeSet<Mandate>
-        ensures { map.from_entries (marks result.keys) ≡ self }
+        ensures { map.from_entries (set_entries result.keys) ≡ self }
     {
         let Mandates { pairs } = self;
         pairs
@@ -99,22 +99,22 @@ impl Mandates {
     }
 
     /// Returns a copy without the mandates in `ended` and with those in `put`.
-    pub fn updated(
+    pub fn with_changes(
         &self,
         alloc: Global,
         put: &Sequence<Mandate>,
         ended: &Sequence<Mandate>,
     ) -> Result<Mandates, AllocError>
-        ensures { IfOk result (λ it. it ≡ updated self.now (marks put.now) ended.now) }
+        ensures { IfOk result (λ it. it ≡ with_changes self.now (set_entries put.now) ended.now) }
     {
         let mut mandates = self.copy(alloc)?;
-        mandates.end_all(ended.as_slice());
-        mandates.put_all(put.as_slice())?;
+        mandates.remove_all(ended.as_slice());
+        mandates.insert_all(put.as_slice())?;
         Ok(mandates)
     }
 
-    fn put_all(&mut self, put: &[Mandate]) -> Result<(), AllocError>
-        ensures { OnOk result (self.new ≡ with_entries self.old (marks put.now)) }
+    fn insert_all(&mut self, put: &[Mandate]) -> Result<(), AllocError>
+        ensures { OnOk result (self.new ≡ with_entries self.old (set_entries put.now)) }
     {
         for mandate in put {
             self.insert(*mandate)?;
@@ -122,7 +122,7 @@ impl Mandates {
         Ok(())
     }
 
-    fn end_all(&mut self, ended: &[Mandate])
+    fn remove_all(&mut self, ended: &[Mandate])
         ensures { self.new ≡ without self.old ended.now }
     {
         for mandate in ended {

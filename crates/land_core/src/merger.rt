@@ -1,8 +1,8 @@
 //! Mergers: several parcels become one.
 ghost use Rattle.std.specs.Prelude.{◌≡◌};
 ghost use Rattle.std.specs.List.{list_all};
-ghost use Rattle.land_core.specs.Mergers.{are_merged, are_others, are_rising, is_merger, is_same_merger};
-ghost use Rattle.land_core.specs.Mergers.{lists_number, rise_above};
+ghost use Rattle.land_core.specs.Mergers.{are_merged_parcels, are_other_units, are_ascending_numbers, is_merger, is_same_merger};
+ghost use Rattle.land_core.specs.Mergers.{lists_number, all_above};
 ghost use Rattle.land_core.specs.Numbers.{is_number};
 
 use crate::duplicate::Duplicate;
@@ -32,8 +32,8 @@ impl Merger {
         ensures { result ≡ is_merger self.now }
     {
         is_number(self.unit)
-            && are_others(self.unit, self.others.as_slice())
-            && are_merged(self.parcels.as_slice())
+            && are_other_units(self.unit, self.others.as_slice())
+            && are_merged_parcels(self.parcels.as_slice())
             && is_label(self.label.as_str())
     }
 
@@ -56,29 +56,29 @@ pub fn lists_number(numbers: &[u64], number: u64) -> bool
 }
 
 /// Whether these are valid numbers of other units: at most 15, strictly ascending, without the unit itself.
-fn are_others(unit: u64, others: &[u64]) -> bool
-    ensures { result ≡ are_others unit others.now }
+fn are_other_units(unit: u64, others: &[u64]) -> bool
+    ensures { result ≡ are_other_units unit others.now }
 {
-    others.len() <= 15 && are_rising(others) && !lists_number(others, unit)
+    others.len() <= 15 && are_ascending_numbers(others) && !lists_number(others, unit)
 }
 
 /// Whether these are valid numbers of merged parcels: 2 to 16, strictly ascending.
-fn are_merged(parcels: &[u64]) -> bool
-    ensures { result ≡ are_merged parcels.now }
+fn are_merged_parcels(parcels: &[u64]) -> bool
+    ensures { result ≡ are_merged_parcels parcels.now }
 {
-    2 <= parcels.len() && parcels.len() <= 16 && are_rising(parcels)
+    2 <= parcels.len() && parcels.len() <= 16 && are_ascending_numbers(parcels)
 }
 
 /// Whether these are strictly ascending numbers of objects.
-fn are_rising(numbers: &[u64]) -> bool
-    ensures { result ≡ are_rising numbers.now }
+fn are_ascending_numbers(numbers: &[u64]) -> bool
+    ensures { result ≡ are_ascending_numbers numbers.now }
 {
-    rise_above(0, numbers) && are_numbers(numbers)
+    all_above(0, numbers) && are_numbers(numbers)
 }
 
 /// Whether the numbers are strictly ascending and the first is above `last`.
-pub fn rise_above(last: u64, numbers: &[u64]) -> bool
-    ensures { result ≡ rise_above last numbers.now }
+pub fn all_above(last: u64, numbers: &[u64]) -> bool
+    ensures { result ≡ all_above last numbers.now }
 {
     let mut above = last;
     for number in numbers {

@@ -5,7 +5,7 @@ ghost use Rattle.std.specs.List.Sorted.{IsStrictlySortedBy};
 ghost use Rattle.std.specs.Map.Iter.{ShowsInOrder, deref_pair};
 ghost use Rattle.std.specs.Ordering.{nat_cmp};
 ghost use Rattle.std.specs.FinMap as map;
-ghost use Rattle.land_core.specs.Entries.{updated, with_entries, without};
+ghost use Rattle.land_core.specs.Entries.{with_changes, with_entries, without};
 
 use crate::duplicate::Duplicate;
 use crate::sequence::{NumberList, Sequence};
@@ -92,7 +92,7 @@ impl<V: Drop> Records<V> {
     }
 
     /// Removes the records of these numbers.
-    fn end_all(&mut self, ended: &[u64])
+    fn remove_all(&mut self, ended: &[u64])
         ensures { self.new ≡ without self.old ended.now }
     {
         for number in ended {
@@ -103,22 +103,22 @@ impl<V: Drop> Records<V> {
 
 impl<V: Duplicate> Records<V> {
     /// Returns a copy without the records in `ended` and with copies of those in `put`.
-    pub fn updated(
+    pub fn with_changes(
         &self,
         alloc: Global,
         put: &Sequence<(u64, V)>,
         ended: &NumberList,
     ) -> Result<Records<V>, AllocError>
-        ensures { IfOk result (λ it. it ≡ updated self.now put.now ended.now) }
+        ensures { IfOk result (λ it. it ≡ with_changes self.now put.now ended.now) }
     {
         let mut records = self.copy(alloc)?;
-        records.end_all(ended.as_slice());
-        records.put_all(alloc, put.as_slice())?;
+        records.remove_all(ended.as_slice());
+        records.insert_all(alloc, put.as_slice())?;
         Ok(records)
     }
 
     /// Inserts copies of records.
-    fn put_all(&mut self, alloc: Global, put: &[(u64, V)]) -> Result<(), AllocError>
+    fn insert_all(&mut self, alloc: Global, put: &[(u64, V)]) -> Result<(), AllocError>
         ensures { OnOk result (self.new ≡ with_entries self.old put.now) }
     {
         for (number, value) in put {

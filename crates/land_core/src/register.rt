@@ -90,25 +90,25 @@ impl Register {
     }
 
     /// Returns a copy of the register with a change made.
-    pub fn changed(&self, alloc: Global, change: &Change) -> Result<Register, AllocError>
+    pub fn with_change(&self, alloc: Global, change: &Change) -> Result<Register, AllocError>
         ensures { IfOk result (λ it. it ≡ after change.now self.now) }
     {
         let put = &change.put;
         let ended = &change.ended;
         Ok(Register {
-            parties: self.parties.updated(alloc, &put.parties, &ended.parties)?,
-            roles: self.roles.updated(alloc, &put.roles, &ended.roles)?,
-            members: self.members.updated(alloc, &put.members, &ended.members)?,
-            units: self.units.updated(alloc, &put.units, &ended.units)?,
-            parcels: self.parcels.updated(alloc, &put.parcels, &ended.parcels)?,
-            rrrs: self.rrrs.updated(alloc, &put.rrrs, &ended.rrrs)?,
-            sources: self.sources.updated(alloc, &put.sources, &ended.sources)?,
+            parties: self.parties.with_changes(alloc, &put.parties, &ended.parties)?,
+            roles: self.roles.with_changes(alloc, &put.roles, &ended.roles)?,
+            members: self.members.with_changes(alloc, &put.members, &ended.members)?,
+            units: self.units.with_changes(alloc, &put.units, &ended.units)?,
+            parcels: self.parcels.with_changes(alloc, &put.parcels, &ended.parcels)?,
+            rrrs: self.rrrs.with_changes(alloc, &put.rrrs, &ended.rrrs)?,
+            sources: self.sources.with_changes(alloc, &put.sources, &ended.sources)?,
             mutations: self
                 .mutations
-                .updated(alloc, &put.mutations, &ended.mutations)?,
+                .with_changes(alloc, &put.mutations, &ended.mutations)?,
             mandates: self
                 .mandates
-                .updated(alloc, &put.mandates, &ended.mandates)?,
+                .with_changes(alloc, &put.mandates, &ended.mandates)?,
             next: change.next,
         })
     }
@@ -327,6 +327,6 @@ pub fn apply(alloc: Global, register: &mut Register, change: &Change) -> Result<
     ensures ok { OnOk result (register.new ≡ after change.now register.old) }
     ensures err { OnErr result (register.new ≡ register.old) }
 {
-    *register = register.changed(alloc, change)?;
+    *register = register.with_change(alloc, change)?;
     Ok(())
 }

@@ -2,8 +2,8 @@
 ghost use Rattle.std.specs.Prelude.{◌≡◌, OnOk, OnErr, IfOk};
 ghost use Rattle.std.specs.FinMap as map;
 ghost use Rattle.std.specs.Map.Iter.{ShowsInOrder, deref};
-ghost use Rattle.land_core.specs.Entries.{updated, with_entries, without};
-ghost use Rattle.land_core.specs.Grants.{has_grant, grants_in, marks};
+ghost use Rattle.land_core.specs.Entries.{with_changes, with_entries, without};
+ghost use Rattle.land_core.specs.Grants.{has_grant, grants_in, set_entries};
 ghost use Rattle.land_core.specs.declared.roles.Grant.{Grant};
 
 use crate::duplicate::Duplicate;
@@ -32,13 +32,13 @@ pub struct Roles {
 impl Model for Roles {
     ghost use Rattle.std.specs.FinMap as map;
     ghost use Rattle.std.specs.FinSet as set;
-    ghost use Rattle.land_core.specs.Grants.{coded_grant, Grants, marks};
+    ghost use Rattle.land_core.specs.Grants.{coded_grant, Grants, set_entries};
 
     ghost Value = { Grants };
 
     ghost coded = { set.code coded_grant };
 
-    ghost view = { λ a. map.from_entries (marks a.grants.keys) };
+    ghost view = { λ a. map.from_entries (set_entries a.grants.keys) };
 }
 
 impl Roles {
@@ -53,14 +53,14 @@ impl Roles {
 
     /// Wraps a set of roles.
     pub fn from_set(grants: BTreeSet<Grant>) -> Roles
-        ensures { result ≡ map.from_entries (marks grants.keys) }
+        ensures { result ≡ map.from_entries (set_entries grants.keys) }
     {
         Roles { grants }
     }
 
     /// Returns the set.
     pub fn into_set(self) -> BTreeSet<Grant>
-        ensures { map.from_entries (marks result.keys) ≡ self }
+        ensures { map.from_entries (set_entries result.keys) ≡ self }
     {
         let Roles { grants } = self;
         grants
@@ -98,22 +98,22 @@ impl Roles {
     }
 
     /// Returns a copy without the roles in `ended` and with those in `put`.
-    pub fn updated(
+    pub fn with_changes(
         &self,
         alloc: Global,
         put: &Sequence<Grant>,
         ended: &Sequence<Grant>,
     ) -> Result<Roles, AllocError>
-        ensures { IfOk result (λ it. it ≡ updated self.now (marks put.now) ended.now) }
+        ensures { IfOk result (λ it. it ≡ with_changes self.now (set_entries put.now) ended.now) }
     {
         let mut roles = self.copy(alloc)?;
-        roles.end_all(ended.as_slice());
-        roles.put_all(put.as_slice())?;
+        roles.remove_all(ended.as_slice());
+        roles.insert_all(put.as_slice())?;
         Ok(roles)
     }
 
-    fn put_all(&mut self, put: &[Grant]) -> Result<(), AllocError>
-        ensures { OnOk result (self.new ≡ with_entries self.old (marks put.now)) }
+    fn insert_all(&mut self, put: &[Grant]) -> Result<(), AllocError>
+        ensures { OnOk result (self.new ≡ with_entries self.old (set_entries put.now)) }
     {
         for grant in put {
             self.insert(*grant)?;
@@ -121,7 +121,7 @@ impl Roles {
         Ok(())
     }
 
-    fn end_all(&mut self, ended: &[Grant])
+    fn remove_all(&mut self, ended: &[Grant])
         ensures { self.new ≡ without self.old ended.now }
     {
         for grant in ended {

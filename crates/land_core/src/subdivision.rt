@@ -1,7 +1,7 @@
 //! Subdivisions: a parcel is divided into parts.
 ghost use Rattle.std.specs.Prelude.{◌≡◌, IfOk};
-ghost use Rattle.land_core.specs.Subdivisions.{are_same_parts, have_names, is_new_name, is_part, is_rest};
-ghost use Rattle.land_core.specs.Subdivisions.{is_rest_count, is_same_name, is_same_parcel, is_same_part};
+ghost use Rattle.land_core.specs.Subdivisions.{are_same_parts, have_names, is_new_name, is_part, are_further_parts};
+ghost use Rattle.land_core.specs.Subdivisions.{is_further_part_count, is_same_name, is_same_parcel, is_same_part};
 ghost use Rattle.land_core.specs.Subdivisions.{is_same_subdivision, is_subdivision};
 
 use crate::act::NewParcel;
@@ -43,7 +43,7 @@ impl Subdivision {
         is_number(self.unit)
             && is_number(self.parcel)
             && is_label(self.first.label.as_str())
-            && is_rest(self.rest.as_slice())
+            && are_further_parts(self.rest.as_slice())
     }
 
     pub(crate) fn is_same(&self, other: &Subdivision) -> bool
@@ -57,14 +57,14 @@ impl Subdivision {
 }
 
 /// Whether these are valid further parts: 1 to 15.
-fn is_rest(parts: &[Part]) -> bool
-    ensures { result ≡ is_rest parts.now }
+fn are_further_parts(parts: &[Part]) -> bool
+    ensures { result ≡ are_further_parts parts.now }
 {
-    is_rest_count(parts.len()) && have_names(parts)
+    is_further_part_count(parts.len()) && have_names(parts)
 }
 
-fn is_rest_count(count: usize) -> bool
-    ensures { result ≡ is_rest_count count }
+fn is_further_part_count(count: usize) -> bool
+    ensures { result ≡ is_further_part_count count }
 {
     1 <= count && count <= 15
 }

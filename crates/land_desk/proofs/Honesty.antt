@@ -3,14 +3,14 @@ use Rattle.std.proofs.Common.{◌≡◌, ℕ, ℤ, ◌+◌, List, [], ◌∷◌,
 use Rattle.std.specs.Io.KnownBytes.{prepend_known}
 use Rattle.land_core.specs.declared.ask.Request.{Request}
 use Rattle.land_desk.proofs.ServingLemmas.{begins, goes_on, nothing_done}
-use Rattle.land_desk.specs.Serving.{RepliesTo, ForwardSimulation, Exchange, ServesPrefix, Hears, HearsIf, IsServed, IsServing, ServesItem, Serves, ServesTo, SoFar, HandlesOr501}
+use Rattle.land_desk.specs.Serving.{RepliesTo, ForwardSimulation, Exchange, ServesPrefix, StepOf, StepIfHonest, ServesAll, ServesByRun, ServesItem, Serves, ServesToSome, HasServed, HandlesOr501}
 use Rattle.land_desk.specs.Serving.Asking.{IfBoth}
-use Rattle.land_desk.specs.Turns.{IsTurn}
+use Rattle.land_desk.specs.Turns.{ServesNext}
 use Rattle.land_desk.specs.declared.serve.DeskFault.{DeskFault}
 use Rattle.land_desk.specs.declared.serve.DeskFault.TheVariants as desk
 use Rattle.land_desk.specs.declared.serve.Served.{Served}
-use Rattle.land_desk.specs.declared.turn.Turn.{Turn}
-use Rattle.land_desk.specs.declared.turn.Turn.TheVariants as turn
+use Rattle.land_desk.specs.declared.next_item.AfterItem.{AfterItem}
+use Rattle.land_desk.specs.declared.next_item.AfterItem.TheVariants as next_item
 use Rattle.land_keep.specs.Machine.{State}
 use Rattle.land_keep.specs.declared.reply.Reply.{Reply}
 use Rattle.land_wire.specs.Fields.{field_map}
@@ -21,12 +21,12 @@ use Rattle.land_wire_json.specs.declared.bodies.wire_fault.WireFault.{WireFault}
 
 -- a condition that assumes an honest store holds if the store is honest later
 pub step_later : {C : Type 0} (reads : C → ℤ → C → Type 0) (honest later : Type 0) → (later → honest)
-    → (from : State C) (asked : Request) (r : Reply) (to : State C) → HearsIf honest reads from asked r to → HearsIf later reads from asked r to
+    → (from : State C) (asked : Request) (r : Reply) (to : State C) → StepIfHonest honest reads from asked r to → StepIfHonest later reads from asked r to
 step_later reads honest later was from asked r to h = (h.0, h.1, h.2, λ trust. h.3 (was trust))
 
 -- a transition on an honest store is an element of a run
 step_honestly : {C : Type 0} (reads : C → ℤ → C → Type 0) (honest : Type 0) → honest
-    → (from : State C) (asked : Request) (r : Reply) (to : State C) → HearsIf honest reads from asked r to → Hears reads from asked r to
+    → (from : State C) (asked : Request) (r : Reply) (to : State C) → StepIfHonest honest reads from asked r to → StepOf reads from asked r to
 step_honestly reads honest trust from asked r to h = (h.0, h.1, h.3 trust)
 
 -- ---- weaker transitions
@@ -51,10 +51,10 @@ module _ {C : Type 0} (step later : State C → Request → Reply → State C �
   goes_later bytes from (x ∷ xs) rest to so =
       (so.0, so.1, one_later bytes from x so.0 so.1 so.2, so.3, goes_later so.0 so.1 xs rest to so.4)
 
-  so_far_later : (bytes rest : List ℕ) (from to : State C) (old new : Option (List ℕ)) (n : ℕ) → SoFar step bytes rest from to old new n → SoFar later bytes rest from to old new n
+  so_far_later : (bytes rest : List ℕ) (from to : State C) (old new : Option (List ℕ)) (n : ℕ) → HasServed step bytes rest from to old new n → HasServed later bytes rest from to old new n
   so_far_later bytes rest from to old new n so = (so.0, goes_later bytes from so.0 rest to so.1, so.2, so.3)
 
-  served_later : (bytes : List ℕ) (from : State C) (xs : List Exchange) (to : State C) → IsServed step bytes from xs to → IsServed later bytes from xs to
+  served_later : (bytes : List ℕ) (from : State C) (xs : List Exchange) (to : State C) → ServesAll step bytes from xs to → ServesAll later bytes from xs to
   served_later bytes from [] to s = s
   served_later bytes from (x ∷ xs) to s =
       (s.0, s.1, one_later bytes from x s.0 s.1 s.2, s.3, λ e. served_later s.0 s.1 xs to (s.4 e))
@@ -76,25 +76,25 @@ module _ {C : Type 0} (step later : State C → Request → Reply → State C �
     both_map (Some bytes) (Some rest) P Q next holds = next bytes rest holds
 
     -- the connection stays open
-    pub keeps_on : (start before after w u v : Option (List ℕ)) (n : ℕ) (t : Turn) → t ≡ turn.KeepAlive
-        → IfBoth start before (λ bytes rest. (now : State C) × SoFar step bytes rest from now w u n × stood now)
-        → IfSome before (λ rest. ForwardSimulation stood stands (λ now to. IsTurn later rest now to after u v (Ok t)))
-        → IfBoth start after (λ bytes rest. (to : State C) × SoFar later bytes rest from to w v (n + 1) × stands to)
+    pub keeps_on : (start before after w u v : Option (List ℕ)) (n : ℕ) (t : AfterItem) → t ≡ next_item.KeepAlive
+        → IfBoth start before (λ bytes rest. (now : State C) × HasServed step bytes rest from now w u n × stood now)
+        → IfSome before (λ rest. ForwardSimulation stood stands (λ now to. ServesNext later rest now to after u v (Ok t)))
+        → IfBoth start after (λ bytes rest. (to : State C) × HasServed later bytes rest from to w v (n + 1) × stands to)
     keeps_on None before after w u v n t is so brings = tt
     keeps_on (Some bytes) None after w u v n t is so brings = absurd so
     keeps_on (Some bytes) (Some rest) after w u v n t is so brings =
         let next = brings so.0 so.2 in
-        both_map (Some bytes) after (λ bytes rest. SoFar later bytes rest from next.0 w v (n + 1)) (λ bytes rest. (to : State C) × SoFar later bytes rest from to w v (n + 1) × stands to)
+        both_map (Some bytes) after (λ bytes rest. HasServed later bytes rest from next.0 w v (n + 1)) (λ bytes rest. (to : State C) × HasServed later bytes rest from to w v (n + 1) × stands to)
         (λ bytes rest goes. (next.0, goes, next.2))
         (goes_on later (Some bytes) (Some rest) after from so.0 next.0 w u v n t is (so_far_later bytes rest from so.0 w u n so.1) next.1)
 
     -- an item after which nothing is served
     pub comes_to : (start before w u v : Option (List ℕ)) (n : ℕ) (result : Result Served DeskFault) (way : List ℕ → State C → State C → Type 0)
-        → ((now to : State C) → IfBoth start before (λ bytes rest. SoFar later bytes rest from now w u n) → IfSome before (λ rest. way rest now to)
+        → ((now to : State C) → IfBoth start before (λ bytes rest. HasServed later bytes rest from now w u n) → IfSome before (λ rest. way rest now to)
         → IfSome start (λ bytes. Serves later bytes from to w v result))
-        → IfBoth start before (λ bytes rest. (now : State C) × SoFar step bytes rest from now w u n × stood now)
+        → IfBoth start before (λ bytes rest. (now : State C) × HasServed step bytes rest from now w u n × stood now)
         → IfSome before (λ rest. ForwardSimulation stood stands (way rest))
-        → IfSome start (λ bytes. ServesTo later bytes from stands w v result)
+        → IfSome start (λ bytes. ServesToSome later bytes from stands w v result)
     comes_to None before w u v n result way concludes so brings = tt
     comes_to (Some bytes) None w u v n result way concludes so brings = absurd so
     comes_to (Some bytes) (Some rest) w u v n result way concludes so brings =
@@ -104,18 +104,18 @@ module _ {C : Type 0} (step later : State C → Request → Reply → State C �
 -- ---- serving that has not started, and serving that ended
 
 module _ {C : Type 0} (step : State C → Request → Reply → State C → Type 0) (stands : State C → Type 0) (from : State C) where
-  pub comes_to_nothing : (known w : Option (List ℕ)) → stands from → IfSome known (λ bytes. ServesTo step bytes from stands w w (Err desk.NoMemory))
+  pub comes_to_nothing : (known w : Option (List ℕ)) → stands from → IfSome known (λ bytes. ServesToSome step bytes from stands w w (Err desk.NoMemory))
   comes_to_nothing None w at = tt
   comes_to_nothing (Some bytes) w at = (from, nothing_done step (Some bytes) w from, at)
 
   pub starts : (known : Option (List ℕ)) (buffer : List ℕ) (w : Option (List ℕ)) → stands from → buffer ≡ []
-      → IfBoth known (prepend_known buffer known) (λ bytes rest. (now : State C) × SoFar step bytes rest from now w w 0 × stands now)
+      → IfBoth known (prepend_known buffer known) (λ bytes rest. (now : State C) × HasServed step bytes rest from now w w 0 × stands now)
   starts None buffer w at none = tt
   starts (Some bytes) buffer w at none = (from, begins step (Some bytes) buffer from w none, at)
 
 -- on an honest store, serving is a run of the model
 pub serves_honestly : {C : Type 0} (reads : C → ℤ → C → Type 0) (honest : Type 0) → honest
     → (bytes : List ℕ) (from to : State C) (old new : Option (List ℕ)) (result : Result Served DeskFault)
-    → Serves (HearsIf honest reads) bytes from to old new result → IsServing reads bytes from to old new result
+    → Serves (StepIfHonest honest reads) bytes from to old new result → ServesByRun reads bytes from to old new result
 serves_honestly reads honest trust bytes from to old new result s =
-    serves_later (HearsIf honest reads) (Hears reads) (step_honestly reads honest trust) bytes from to old new result s
+    serves_later (StepIfHonest honest reads) (StepOf reads) (step_honestly reads honest trust) bytes from to old new result s

@@ -4,7 +4,7 @@ use Rattle.land_desk.specs.Responses.{IsBody, OneResponse, medium_of, response, 
 use Rattle.land_keep.specs.declared.reply.Reply.{Reply}
 use Rattle.land_keep.specs.declared.reply.Reply.TheVariants as reply
 use Rattle.land_keep.specs.declared.view.View.{View}
-use Rattle.land_sheet.specs.Laws.{OneSheetLaw}
+use Rattle.land_sheet.specs.Laws.{SheetsAreUnique}
 use Rattle.land_sheet.specs.Sheets.{IsSheet}
 use Rattle.land_wire.specs.Replies.{reply_text}
 
@@ -22,14 +22,14 @@ no_json view a T is = absurd (none_some is)
 same_view : (v w : View) → reply.Sheet v ≡ reply.Sheet w → v ≡ w
 same_view v w same = cc
 
-one_body : OneSheetLaw → (r : Reply) (a b : List ℕ) → IsBody r a → IsBody r b → a ≡ b
+one_body : SheetsAreUnique → (r : Reply) (a b : List ℕ) → IsBody r a → IsBody r b → a ≡ b
 one_body law r a b (inl x) (inl y) = some_same a b (sym x ∙ y)
 one_body law r a b (inl x) (inr y) = no_json y.0 a (a ≡ b) (subst (λ (q : Reply). reply_text q ≡ Some a) y.1 x)
 one_body law r a b (inr x) (inl y) = no_json x.0 b (a ≡ b) (subst (λ (q : Reply). reply_text q ≡ Some b) x.1 y)
 one_body law r a b (inr x) (inr y) =
     law x.0 a b x.2 (subst (λ (v : View). IsSheet v b) (same_view y.0 x.0 (sym y.1 ∙ x.1)) y.2)
 
-pub one_response : OneSheetLaw → OneResponse
+pub one_response : SheetsAreUnique → OneResponse
 one_response law r closing head a b x y =
     x.bytes_are ∙ ap (λ (t : List ℕ). response (status_of r) (medium_of r) t closing head) (one_body law r x.body y.body x.body_is y.body_is)
     ∙ sym y.bytes_are

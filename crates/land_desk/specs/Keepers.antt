@@ -1,50 +1,50 @@
 -- Contracts of serving, as relations between a keeper and a clock before a call and after it.
 use Rattle.std.specs.Prelude.{ℕ, ℤ, Bool, List, ◌++◌, drop, Option, Result, Ok, IfSome}
 use Rattle.land_core.specs.declared.ask.Request.{Request}
-use Rattle.land_desk.specs.Serving.{Handles, HandlesOr501, HearsIf, MayHear, MovesTo, ServesTo}
-use Rattle.land_desk.specs.Turns.{IsResponseTo, IsTurn, Spoken}
-use Rattle.land_desk.specs.declared.exchange.Response.{Response}
+use Rattle.land_desk.specs.Serving.{Handles, HandlesOr501, StepIfHonest, MayStep, ReachesSome, ServesToSome}
+use Rattle.land_desk.specs.Turns.{IsResponseTo, ServesNext, AnswersFirst}
+use Rattle.land_desk.specs.declared.handler.Response.{Response}
 use Rattle.land_desk.specs.declared.serve.DeskFault.{DeskFault}
 use Rattle.land_desk.specs.declared.serve.Served.{Served}
-use Rattle.land_desk.specs.declared.turn.Turn.{Turn}
+use Rattle.land_desk.specs.declared.next_item.AfterItem.{AfterItem}
 use Rattle.land_keep.specs.Keepers.{Represents, Simulates, state_of}
 use Rattle.land_keep.specs.Machine.{State}
 use Rattle.land_keep.specs.declared.keeper.Keeper.{Ghosts}
 use Rattle.land_keep.specs.declared.reply.Reply.{Reply}
-use Rattle.land_wire_json.specs.Bodies.WireFaults.{Gives}
+use Rattle.land_wire_json.specs.Bodies.WireFaults.{Returns}
 use Rattle.land_wire_json.specs.declared.bodies.wire_fault.WireFault.{WireFault}
 
 -- The response is the one for a reply, and the model makes the transition that belongs to the reply.
 abbrev pub RespondsBy : {C : Type 0} → (transition : State C → Reply → State C → Type 0)
-    → Response → (ends head : Bool) → State C → State C → Type 0
-RespondsBy transition response ends head from to =
-    (r : Reply) × transition from r to × IsResponseTo response r ends head
+    → Response → (wants_close head : Bool) → State C → State C → Type 0
+RespondsBy transition response wants_close head from to =
+    (r : Reply) × transition from r to × IsResponseTo response r wants_close head
 
 module _ {K C : Type 0} (g : Ghosts K) (reads : C → ℤ → C → Type 0) where
   -- The bytes written are the responses to the items of the input, in order, by transitions of the model.
   abbrev pub ServesStream : (keeper : K) → (clock : C) → (after : K) → (late : C)
       → (input old new : Option (List ℕ)) → Result Served DeskFault → Type 0
   ServesStream keeper clock after late input old new result =
-      IfSome input (λ bytes. ServesTo (HearsIf (g.honest after) reads) bytes
+      IfSome input (λ bytes. ServesToSome (StepIfHonest (g.honest after) reads) bytes
       (state_of g keeper clock) (Represents g after late) old new result)
 
   -- The model reaches a state that the keeper and the clock represent after the call, by requests only.
   abbrev pub Reaches : (keeper : K) → (clock : C) → (after : K) → (late : C) → Type 0
   Reaches keeper clock after late =
-      MovesTo (HearsIf (g.honest after) reads) (state_of g keeper clock) (Represents g after late)
+      ReachesSome (StepIfHonest (g.honest after) reads) (state_of g keeper clock) (Represents g after late)
 
   -- The first item of the input is served by at most one transition of the model, and `left` is the input
   -- behind it.
   abbrev pub ServesFirst : (keeper : K) → (clock : C) → (after : K) → (late : C)
-      → (input left old new : Option (List ℕ)) → Result Turn DeskFault → Type 0
+      → (input left old new : Option (List ℕ)) → Result AfterItem DeskFault → Type 0
   ServesFirst keeper clock after late input left old new result =
       IfSome input (λ bytes. Simulates g keeper clock after late
-      (λ from to. IsTurn (HearsIf (g.honest after) reads) bytes from to left old new result))
+      (λ from to. ServesNext (StepIfHonest (g.honest after) reads) bytes from to left old new result))
 
   -- The model makes at most one transition.
   abbrev pub StepsAtMostOnce : (keeper : K) → (clock : C) → (after : K) → (late : C) → Type 0
   StepsAtMostOnce keeper clock after late =
-      Simulates g keeper clock after late (MayHear (HearsIf (g.honest after) reads))
+      Simulates g keeper clock after late (MayStep (StepIfHonest (g.honest after) reads))
 
   -- The response is the one for the request of `size` bytes at the start of the bytes, no matter which bytes
   -- follow.
@@ -52,18 +52,18 @@ module _ {K C : Type 0} (g : Ghosts K) (reads : C → ℤ → C → Type 0) wher
       → (bytes : List ℕ) → (size : ℕ) → Response → Type 0
   AnswersRequest keeper clock after late bytes size response =
       (more : List ℕ) → Simulates g keeper clock after late (λ from to.
-      Spoken (HearsIf (g.honest after) reads) (bytes ++ more) from response (drop size bytes ++ more) to)
+      AnswersFirst (StepIfHonest (g.honest after) reads) (bytes ++ more) from response (drop size bytes ++ more) to)
 
   -- The response is the one for this request.
   abbrev pub RespondsToRequest : (keeper : K) → (clock : C) → (after : K) → (late : C)
-      → Request → Response → (ends head : Bool) → Type 0
-  RespondsToRequest keeper clock after late request response ends head = Simulates g keeper clock after late
-      (RespondsBy (Handles (HearsIf (g.honest after) reads) (Ok request)) response ends head)
+      → Request → Response → (wants_close head : Bool) → Type 0
+  RespondsToRequest keeper clock after late request response wants_close head = Simulates g keeper clock after late
+      (RespondsBy (Handles (StepIfHonest (g.honest after) reads) (Ok request)) response wants_close head)
 
   -- The response is the one for the request or its first fault, or for 501. Parsing may have run out of
   -- memory.
   abbrev pub RespondsTo : (keeper : K) → (clock : C) → (after : K) → (late : C)
-      → Result Request WireFault → Response → (ends head : Bool) → Type 0
-  RespondsTo keeper clock after late request response ends head =
-      (q : Result Request WireFault) → Gives (λ asked. asked) request q → Simulates g keeper clock after late
-      (RespondsBy (HandlesOr501 (HearsIf (g.honest after) reads) q) response ends head)
+      → Result Request WireFault → Response → (wants_close head : Bool) → Type 0
+  RespondsTo keeper clock after late request response wants_close head =
+      (q : Result Request WireFault) → Returns (λ asked. asked) request q → Simulates g keeper clock after late
+      (RespondsBy (HandlesOr501 (StepIfHonest (g.honest after) reads) q) response wants_close head)

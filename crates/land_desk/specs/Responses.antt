@@ -69,15 +69,15 @@ pub record IsResponse (r : Reply) (closing head : Bool) (bytes : List ℕ) : Typ
   pub bytes_are : bytes ≡ response (status_of r) (medium_of r) body closing head
 
 -- A title sheet is of a valid moment.
-abbrev pub HasMoment : Reply → Type 0
-HasMoment (reply.Object object) = Unit {0}
-HasMoment (reply.Numbers numbers) = Unit {0}
-HasMoment (reply.Sheet view) = IsMoment view.at
-HasMoment (reply.Done done) = Unit {0}
-HasMoment (reply.Denied rule) = Unit {0}
-HasMoment (reply.Fault fault) = Unit {0}
-HasMoment (reply.Refused refusal) = Unit {0}
-HasMoment (reply.Store fault) = Unit {0}
+abbrev pub HasValidMoment : Reply → Type 0
+HasValidMoment (reply.Object object) = Unit {0}
+HasValidMoment (reply.Numbers numbers) = Unit {0}
+HasValidMoment (reply.Sheet view) = IsMoment view.at
+HasValidMoment (reply.Done done) = Unit {0}
+HasValidMoment (reply.Denied rule) = Unit {0}
+HasValidMoment (reply.Fault fault) = Unit {0}
+HasValidMoment (reply.Refused refusal) = Unit {0}
+HasValidMoment (reply.Store fault) = Unit {0}
 
 -- A reply has exactly one response.
 abbrev pub OneResponse : Type 0

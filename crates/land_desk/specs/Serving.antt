@@ -10,8 +10,8 @@ use Rattle.land_desk.specs.Responses.{IsResponse}
 use Rattle.land_desk.specs.declared.serve.DeskFault.{DeskFault}
 use Rattle.land_desk.specs.declared.serve.DeskFault.TheVariants as desk
 use Rattle.land_desk.specs.declared.serve.Served.{Served}
-use Rattle.land_keep.specs.Keeping.{TellsOf}
-use Rattle.land_keep.specs.Machine.{State, Element}
+use Rattle.land_keep.specs.Keeping.{ReportsClosing}
+use Rattle.land_keep.specs.Machine.{State, StepOrFault}
 use Rattle.land_keep.specs.declared.reply.Reply.{Reply}
 use Rattle.land_keep.specs.declared.reply.Reply.TheVariants as reply
 use Rattle.land_wire.specs.Fields.{field_map}
@@ -34,9 +34,9 @@ closes (reply.Refused number) = false
 closes (reply.Store number) = nat_eq number 502 || nat_eq number 503
 
 -- The item is a whole HEAD request. Its response has no body.
-abbrev pub asks_head : Item → Bool
-asks_head (request h body) = is_head h
-asks_head (faulty f) = false
+abbrev pub is_head_request : Item → Bool
+is_head_request (request h body) = is_head h
+is_head_request (faulty f) = false
 
 -- An item, its reply, and the bytes of the response.
 pub record Exchange : Type 0 where
@@ -49,8 +49,8 @@ abbrev pub closing : Exchange → Bool
 closing x = is_last x.item || closes x.reply
 
 -- All bytes written for these items.
-abbrev pub said_all : List Exchange → List ℕ
-said_all xs = flat_map (λ x. x.sent) xs
+abbrev pub all_sent : List Exchange → List ℕ
+all_sent xs = flat_map (λ x. x.sent) xs
 
 -- ---- transitions of the model
 
@@ -59,17 +59,17 @@ abbrev pub Transition : Type 0 → Type 1
 Transition C = State C → Request → Reply → State C → Type 0
 
 -- A request is answered by one transition of the model. The clock is read once.
-abbrev pub Hears : {C : Type 0} → (C → ℤ → C → Type 0) → Transition C
-Hears reads from asked r to =
+abbrev pub StepOf : {C : Type 0} → (C → ℤ → C → Type 0) → Transition C
+StepOf reads from asked r to =
     (clock : ℤ) × reads from.clock clock to.clock
-    × Element from.closed clock asked from.timeline r to.timeline to.closed
+    × StepOrFault from.closed clock asked from.timeline r to.timeline to.closed
 
 -- The same, if the store is honest. In any case the clock is read once, and the reply reports whether the
 -- store is closed.
-abbrev pub HearsIf : {C : Type 0} → (honest : Type 0) → (C → ℤ → C → Type 0) → Transition C
-HearsIf honest reads from asked r to =
-    (clock : ℤ) × reads from.clock clock to.clock × TellsOf from.closed r to.closed
-    × (honest → Element from.closed clock asked from.timeline r to.timeline to.closed)
+abbrev pub StepIfHonest : {C : Type 0} → (honest : Type 0) → (C → ℤ → C → Type 0) → Transition C
+StepIfHonest honest reads from asked r to =
+    (clock : ℤ) × reads from.clock clock to.clock × ReportsClosing from.closed r to.closed
+    × (honest → StepOrFault from.closed clock asked from.timeline r to.timeline to.closed)
 
 -- Forward simulation: from each state that is represented before, a step leads to one that is represented
 -- after.
@@ -99,25 +99,25 @@ RepliesTo step from (faulty f) r to = ((r ≡ reply.Fault (number_of f)) ⊎ (r 
 -- ---- transitions caused by a stream, whether its bytes are known or not
 
 -- At most one transition.
-abbrev pub MayHear : {C : Type 0} → Transition C → State C → State C → Type 0
-MayHear step from to = (to ≡ from) ⊎ ((asked : Request) × (r : Reply) × step from asked r to)
+abbrev pub MayStep : {C : Type 0} → Transition C → State C → State C → Type 0
+MayStep step from to = (to ≡ from) ⊎ ((asked : Request) × (r : Reply) × step from asked r to)
 
 -- A trace: these requests, in order, get these replies.
-abbrev pub HearsAll : {C : Type 0} → Transition C → State C → List Request → List Reply → State C → Type 0
-HearsAll step from [] [] to = to ≡ from
-HearsAll {C} step from (asked ∷ requests) (r ∷ replies) to =
-    (mid : State C) × step from asked r mid × HearsAll step mid requests replies to
-HearsAll step from [] (r ∷ replies) to = ⊥
-HearsAll step from (asked ∷ requests) [] to = ⊥
+abbrev pub Trace : {C : Type 0} → Transition C → State C → List Request → List Reply → State C → Type 0
+Trace step from [] [] to = to ≡ from
+Trace {C} step from (asked ∷ requests) (r ∷ replies) to =
+    (mid : State C) × step from asked r mid × Trace step mid requests replies to
+Trace step from [] (r ∷ replies) to = ⊥
+Trace step from (asked ∷ requests) [] to = ⊥
 
 -- `to` is reachable from `from` by requests, and by nothing else.
 abbrev pub Reachable : {C : Type 0} → Transition C → State C → State C → Type 0
 Reachable step from to =
-    (requests : List Request) × (replies : List Reply) × HearsAll step from requests replies to
+    (requests : List Request) × (replies : List Reply) × Trace step from requests replies to
 
 -- Some state that is represented after the call is reachable.
-abbrev pub MovesTo : {C : Type 0} → Transition C → State C → (stands : State C → Type 0) → Type 0
-MovesTo {C} step from stands = (to : State C) × Reachable step from to × stands to
+abbrev pub ReachesSome : {C : Type 0} → Transition C → State C → (stands : State C → Type 0) → Type 0
+ReachesSome {C} step from stands = (to : State C) × Reachable step from to × stands to
 
 -- ---- items of known bytes
 
@@ -125,7 +125,7 @@ MovesTo {C} step from stands = (to : State C) × Reachable step from to × stand
 abbrev pub ServesItem : {C : Type 0} → Transition C → List ℕ → State C → Exchange → List ℕ → State C → Type 0
 ServesItem step bytes from x rest to =
     IsItem bytes x.item rest × RepliesTo step from x.item x.reply to
-    × IsResponse x.reply (closing x) (asks_head x.item) x.sent
+    × IsResponse x.reply (closing x) (is_head_request x.item) x.sent
 
 -- These items are answered in order, and none of them closes the connection. `rest` follows them.
 abbrev pub ServesPrefix : {C : Type 0} → Transition C → List ℕ → State C → List Exchange → List ℕ → State C
@@ -136,50 +136,50 @@ ServesPrefix {C} step bytes from (x ∷ xs) rest to =
     × ServesPrefix step mid next xs rest to
 
 -- The items of the bytes are answered, until no byte is left or one of them closes the connection.
-abbrev pub IsServed : {C : Type 0} → Transition C → List ℕ → State C → List Exchange → State C → Type 0
-IsServed step bytes from [] to = (bytes ≡ []) × (to ≡ from)
-IsServed {C} step bytes from (x ∷ xs) to =
+abbrev pub ServesAll : {C : Type 0} → Transition C → List ℕ → State C → List Exchange → State C → Type 0
+ServesAll step bytes from [] to = (bytes ≡ []) × (to ≡ from)
+ServesAll {C} step bytes from (x ∷ xs) to =
     (mid : List ℕ) × (next : State C) × ServesItem step bytes from x mid next
-    × (closing x ≡ true → (xs ≡ []) × (to ≡ next)) × (closing x ≡ false → IsServed step mid next xs to)
+    × (closing x ≡ true → (xs ≡ []) × (to ≡ next)) × (closing x ≡ false → ServesAll step mid next xs to)
 
 -- This number of items was answered, exactly their responses were written, and `rest` follows them.
-abbrev pub SoFar : {C : Type 0} → Transition C → (bytes rest : List ℕ) → (from to : State C)
+abbrev pub HasServed : {C : Type 0} → Transition C → (bytes rest : List ℕ) → (from to : State C)
     → (old new : Option (List ℕ)) → (replies : ℕ) → Type 0
-SoFar step bytes rest from to old new replies =
-    (xs : List Exchange) × ServesPrefix step bytes from xs rest to × Appends old new (said_all xs)
+HasServed step bytes rest from to old new replies =
+    (xs : List Exchange) × ServesPrefix step bytes from xs rest to × Appends old new (all_sent xs)
     × (length xs ≡ replies)
 
 -- Serving known bytes. Without a fault, all responses are written, and counted.
 abbrev pub Serves : {C : Type 0} → Transition C → List ℕ → State C → State C → (old new : Option (List ℕ))
     → Result Served DeskFault → Type 0
 Serves step bytes from to old new (Ok served) =
-    (xs : List Exchange) × IsServed step bytes from xs to × Appends old new (said_all xs)
+    (xs : List Exchange) × ServesAll step bytes from xs to × Appends old new (all_sent xs)
     × (served.replies ≡ length xs)
 -- After a failed write a prefix of the last response is written, and its change is committed.
 Serves {C} step bytes from to old new (Err desk.Write) =
     (xs : List Exchange) × (x : Exchange) × (rest after : List ℕ) × (now : State C) × (n : ℕ)
     × ServesPrefix step bytes from xs rest now × ServesItem step rest now x after to
-    × Appends old new (said_all xs ++ take n x.sent)
+    × Appends old new (all_sent xs ++ take n x.sent)
 -- After a failed read, or out of memory for the input, the responses to all items before it are written.
 Serves step bytes from to old new (Err desk.Read) =
-    (rest : List ℕ) × (n : ℕ) × SoFar step bytes rest from to old new n
+    (rest : List ℕ) × (n : ℕ) × HasServed step bytes rest from to old new n
 Serves step bytes from to old new (Err desk.NoMemory) =
-    (rest : List ℕ) × (n : ℕ) × SoFar step bytes rest from to old new n
+    (rest : List ℕ) × (n : ℕ) × HasServed step bytes rest from to old new n
 
 -- Serving known bytes up to a state that is represented after the call.
-abbrev pub ServesTo : {C : Type 0} → Transition C → List ℕ → State C → (stands : State C → Type 0)
+abbrev pub ServesToSome : {C : Type 0} → Transition C → List ℕ → State C → (stands : State C → Type 0)
     → (old new : Option (List ℕ)) → Result Served DeskFault → Type 0
-ServesTo {C} step bytes from stands old new result =
+ServesToSome {C} step bytes from stands old new result =
     (to : State C) × Serves step bytes from to old new result × stands to
 
 -- Serving known bytes by a run of the model, over a store that is honest.
-abbrev pub IsServing : {C : Type 0} → (C → ℤ → C → Type 0) → List ℕ → State C → State C
+abbrev pub ServesByRun : {C : Type 0} → (C → ℤ → C → Type 0) → List ℕ → State C → State C
     → (old new : Option (List ℕ)) → Result Served DeskFault → Type 0
-IsServing reads bytes from to old new result = Serves (Hears reads) bytes from to old new result
+ServesByRun reads bytes from to old new result = Serves (StepOf reads) bytes from to old new result
 
 -- The items that are answered are the first items of the stream, in their order.
-abbrev pub ServedItems : {C : Type 0} → Transition C → Type 0
-ServedItems {C} step =
+abbrev pub ServesItemsInOrder : {C : Type 0} → Transition C → Type 0
+ServesItemsInOrder {C} step =
     (bytes : List ℕ) (from to : State C) (xs : List Exchange) (items : List Item)
-    → IsServed step bytes from xs to → AreItems bytes items → (more : List Item)
+    → ServesAll step bytes from xs to → AreItems bytes items → (more : List Item)
     × (items ≡ map (λ x. x.item) xs ++ more)

@@ -1,6 +1,6 @@
 //! Theorems about the definitions, without reference to code.
 ghost use Rattle.land_desk.specs.Responses.{OneResponse};
-ghost use Rattle.land_desk.specs.Serving.{Hears, ServedItems};
+ghost use Rattle.land_desk.specs.Serving.{StepOf, ServesItemsInOrder};
 
 use land_keep::clock::Clock;
 
@@ -12,6 +12,6 @@ pub fn responses_are_unique()
 }
 
 /// The items that are served are the first items of the stream, in their order.
-pub fn served_items_are_those_of_the_stream<C: Clock>()
-    ensures { ServedItems (Hears C.reads) }
+pub fn items_are_served_in_order<C: Clock>()
+    ensures { ServesItemsInOrder (StepOf C.reads) }
 {}

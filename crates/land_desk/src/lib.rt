@@ -1,9 +1,9 @@
 //! The HTTP server: parses requests from byte streams, and answers them in order.
 #![tactic(auto)]
 
-pub mod exchange;
+pub mod handler;
 pub mod laws;
 pub mod response;
 pub mod serve;
 pub mod service;
-mod turn;
+mod next_item;

@@ -1,6 +1,6 @@
 //! Builds HTTP responses.
 ghost use Rattle.std.specs.Prelude.{◌≡◌, ℕ, IfOk, true, false, string_bytes};
-ghost use Rattle.land_desk.specs.Responses.{HasMoment, IsBody, IsResponse, medium_of, medium_text, response};
+ghost use Rattle.land_desk.specs.Responses.{HasValidMoment, IsBody, IsResponse, medium_of, medium_text, response};
 ghost use Rattle.land_desk.specs.Responses.{status_of, status_text};
 ghost use Rattle.land_keep.specs.declared.reply.Reply.TheVariants as reply;
 ghost use Rattle.land_wire.specs.Replies.{IsStoreFault};
@@ -86,7 +86,7 @@ impl Medium {
 
 /// Builds the body of a reply: JSON, or a title sheet. The error is out of memory.
 pub fn body_text(alloc: Global, reply: &Reply) -> Result<String, AllocError>
-    requires { HasMoment reply.now }
+    requires { HasValidMoment reply.now }
     ensures { IfOk result (λ text. IsBody reply.now (string_bytes text)) }
 {
     match reply {
@@ -132,9 +132,9 @@ pub fn store_response(number: u16, closing: bool, head: bool) -> &'static [u8]
     if head {
         store_head(closing).as_bytes()
     } else if closing {
-        last_store_response(number).as_bytes()
+        closing_store_response(number).as_bytes()
     } else {
-        store_response_before_others(number).as_bytes()
+        keep_alive_store_response(number).as_bytes()
     }
 }
 
@@ -152,7 +152,7 @@ fn store_head(closing: bool) -> &'static str
 }
 
 /// Returns the response for a store fault that closes the connection.
-fn last_store_response(number: u16) -> &'static str
+fn closing_store_response(number: u16) -> &'static str
     requires { IsStoreFault number }
     ensures { IsResponse (reply.Store number) true false result.now }
 {
@@ -170,7 +170,7 @@ fn last_store_response(number: u16) -> &'static str
 }
 
 /// Returns the response for a store fault that keeps the connection open.
-fn store_response_before_others(number: u16) -> &'static str
+fn keep_alive_store_response(number: u16) -> &'static str
     requires { IsStoreFault number }
     ensures { IsResponse (reply.Store number) false false result.now }
 {

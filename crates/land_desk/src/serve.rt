@@ -2,18 +2,18 @@
 ghost use Rattle.std.specs.Prelude.{◌≡◌, ◌≤◌, ◌*◌, length};
 ghost use Rattle.land_desk.specs.Keepers.{Reaches, ServesStream};
 ghost use Rattle.land_desk.specs.Serving.Asking.{IfBoth, ReadsAtMost, ReadsOnlyItems};
-ghost use Rattle.land_desk.specs.Turns.{CountsFailedRead, IsSpent};
+ghost use Rattle.land_desk.specs.Turns.{CountsFailedRead, SpendsReadBudget};
 ghost use Rattle.land_keep.specs.Keepers.{WasHonest};
 ghost use Rattle.land_wire.specs.Framing.Stream.{field_room};
-ghost use Rattle.land_wire.specs.Routes.Table.{FindsRoutes};
+ghost use Rattle.land_wire.specs.Routes.Table.{RoutesCorrectly};
 
-use crate::turn::{Turn, take_turn};
+use crate::next_item::{AfterItem, serve_next_item};
 use httparse::spans::{EMPTY_HEADER_SPAN, HeaderSpan};
 use land_keep::clock::Clock;
 use land_keep::keeper::Keeper;
 use land_streams::counted_reader::CountedReader;
 use land_wire::framing::head::FIELD_ROOM;
-use land_wire::routes::table::{Goal, routes};
+use land_wire::routes::table::{Endpoint, routes};
 use matchit::Router;
 use std::alloc::Global;
 use std::io::{Read, Write};
@@ -75,14 +75,14 @@ pub fn serve<R: Read, W: Write, K: Keeper, C: Clock>(
 /// reader that are left.
 fn serve_items<R: Read, W: Write, K: Keeper, C: Clock>(
     alloc: Global,
-    router: &Router<Goal>,
+    router: &Router<Endpoint>,
     reader: &mut CountedReader<'_, R>,
     writer: &mut W,
     keeper: &mut K,
     clock: &mut C,
     headers: &mut [HeaderSpan],
 ) -> Result<Served, DeskFault>
-    requires routed { FindsRoutes router.now }
+    requires routed { RoutesCorrectly router.now }
     requires room { field_room ≤ length headers.old }
     requires budget { reader.old.left ≤ 10000000 }
     ensures served { ServesStream K.Keeper C.reads keeper.old clock.old keeper.new clock.new
@@ -92,14 +92,14 @@ fn serve_items<R: Read, W: Write, K: Keeper, C: Clock>(
     ensures reads { ReadsOnlyItems (R.remaining reader.old.reader.now)
         (R.remaining reader.new.reader.now) result }
     ensures budget { IfBoth (R.remaining reader.old.reader.now) (R.remaining reader.new.reader.now)
-        (IsSpent (1024 * reader.old.left) (1024 * reader.new.left)) }
+        (SpendsReadBudget (1024 * reader.old.left) (1024 * reader.new.left)) }
     ensures same_reference { reader.new.reader.ghost_name ≡ reader.old.reader.ghost_name }
     ensures read_fault { CountsFailedRead reader.old.left reader.new.left result }
 {
     let mut buffer = Vec::new(alloc);
     let mut replies = 0;
     loop {
-        match take_turn(
+        match serve_next_item(
             alloc,
             router,
             reader,
@@ -110,13 +110,13 @@ fn serve_items<R: Read, W: Write, K: Keeper, C: Clock>(
             headers,
         ) {
             Err(fault) => return Err(fault),
-            Ok(Turn::Eof) => return Ok(Served { replies }),
-            Ok(Turn::Close) => {
+            Ok(AfterItem::Eof) => return Ok(Served { replies }),
+            Ok(AfterItem::Close) => {
                 return Ok(Served {
                     replies: replies + 1,
                 });
             }
-            Ok(Turn::KeepAlive) => replies += 1,
+            Ok(AfterItem::KeepAlive) => replies += 1,
         }
     }
 }

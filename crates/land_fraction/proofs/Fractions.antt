@@ -6,8 +6,8 @@ use Rattle.std.proofs.lemmas.Nat.Gcd.{le_of_dvd}
 use Rattle.std.proofs.lemmas.Bool.{cases_lt, cases_eq}
 use Rattle.std.proofs.lemmas.Bool.Decides.{nat_tests}
 use Rattle.land_fraction.specs.Divisor.{IsGreatestDivisor}
-use Rattle.land_fraction.specs.Ratio.{Ratio, over, MeanSame, IsLeastDenominator, IsProper, IsFraction, finest}
-use Rattle.land_fraction.specs.Answer.{IsAnswer, is_multiple, least_denominator, reduced, fraction_of}
+use Rattle.land_fraction.specs.Ratio.{Ratio, over, MeanSame, IsLeastDenominator, IsProper, IsFraction, max_denominator}
+use Rattle.land_fraction.specs.Answer.{IsFractionOrFault, is_multiple, lowest_denominator, in_lowest_terms, fraction_of}
 use Rattle.land_fraction.specs.Least.{least_to}
 use Rattle.land_fraction.specs.declared.fault.FractionFault.{FractionFault}
 use Rattle.land_fraction.specs.declared.fault.FractionFault.TheVariants.{Zero, AboveOne, TooFine}
@@ -55,7 +55,7 @@ one_fraction f g h k e =
     whole
 
 -- the pair with the least denominator is a fraction, if it is not too fine
-pub lowest_fraction : (p : Ratio) (n d : ℕ) → IsProper p → IsLeastDenominator p d → MeanSame p (over n d) → d ≤ finest → IsFraction (over n d)
+pub lowest_fraction : (p : Ratio) (n d : ℕ) → IsProper p → IsLeastDenominator p d → MeanSame p (over n d) → d ≤ max_denominator → IsFraction (over n d)
 lowest_fraction p n d h least e fits =
     let above : 0 < p.denominator = denominator_pos p h in
     let pos_d : 0 < d = least.positive in
@@ -105,8 +105,8 @@ least_by_divisor n d g above h =
 true_false : {b : Bool} → b ≡ true → b ≡ false → ⊥
 true_false e f = cc
 
-pub least_denominator-is : (p : Ratio) → 0 < p.denominator → IsLeastDenominator p (least_denominator p)
-least_denominator-is p above = by_search (least_to p.denominator passes) refl
+pub lowest_denominator-is : (p : Ratio) → 0 < p.denominator → IsLeastDenominator p (lowest_denominator p)
+lowest_denominator-is p above = by_search (least_to p.denominator passes) refl
   where
     passes : ℕ → Bool
     passes d = is_multiple (p.numerator * d) p.denominator
@@ -127,29 +127,29 @@ least_denominator-is p above = by_search (least_to p.denominator passes) refl
           ];
         }
 
-pub reduced-same : (p : Ratio) → 0 < p.denominator → MeanSame p (reduced p)
-reduced-same p above =
-    let least : IsLeastDenominator p (least_denominator p) = least_denominator-is p above in
-    by_quotient (p.numerator * least_denominator p) p.denominator (subst (λ (t : ℕ). p.denominator ∣ t) (sym least.reached.1) (dvd-mul_left p.denominator least.reached.0))
+pub in_lowest_terms-same : (p : Ratio) → 0 < p.denominator → MeanSame p (in_lowest_terms p)
+in_lowest_terms-same p above =
+    let least : IsLeastDenominator p (lowest_denominator p) = lowest_denominator-is p above in
+    by_quotient (p.numerator * lowest_denominator p) p.denominator (subst (λ (t : ℕ). p.denominator ∣ t) (sym least.reached.1) (dvd-mul_left p.denominator least.reached.0))
   where
     by_quotient : (m d : ℕ) → d ∣ m → m ≡ m / d * d
     by_quotient m d h = sym (div-mul_cancel d h)
 
 -- a pair that means the same and has the least denominator is the reduced one
-reduced-is : (p f : Ratio) → 0 < p.denominator → f.denominator ≡ least_denominator p → MeanSame p f → f ≡ reduced p
-reduced-is p f above e same =
-    let other : MeanSame p (reduced p) = reduced-same p above in
-    let numerators : f.numerator ≡ (reduced p).numerator = eq_of_mul-eq-mul_right p.denominator above f.numerator (reduced p).numerator (sym same ∙ ap (λ (d : ℕ). p.numerator * d) e ∙ other) in
-    same_fields f (reduced p) numerators e
+in_lowest_terms-is : (p f : Ratio) → 0 < p.denominator → f.denominator ≡ lowest_denominator p → MeanSame p f → f ≡ in_lowest_terms p
+in_lowest_terms-is p f above e same =
+    let other : MeanSame p (in_lowest_terms p) = in_lowest_terms-same p above in
+    let numerators : f.numerator ≡ (in_lowest_terms p).numerator = eq_of_mul-eq-mul_right p.denominator above f.numerator (in_lowest_terms p).numerator (sym same ∙ ap (λ (d : ℕ). p.numerator * d) e ∙ other) in
+    same_fields f (in_lowest_terms p) numerators e
   where
     same_fields : (f g : Ratio) → f.numerator ≡ g.numerator → f.denominator ≡ g.denominator → f ≡ g
     same_fields f g e h = let whole : over f.numerator f.denominator ≡ over g.numerator g.denominator = cc in whole
 
 abbrev answer_by : Ratio → Bool → Bool → Bool → Result Ratio FractionFault
-answer_by p none large fine = if none then Err Zero else if large then Err AboveOne else if fine then Err TooFine else Ok (reduced p)
+answer_by p none large fine = if none then Err Zero else if large then Err AboveOne else if fine then Err TooFine else Ok (in_lowest_terms p)
 
 -- the function by the results of its three tests
-by_tests : (p : Ratio) (none large fine : Bool) → (nat_eq p.numerator 0 || nat_eq p.denominator 0) ≡ none → nat_lt p.denominator p.numerator ≡ large → nat_lt finest (least_denominator p) ≡ fine → answer_by p none large fine ≡ fraction_of p
+by_tests : (p : Ratio) (none large fine : Bool) → (nat_eq p.numerator 0 || nat_eq p.denominator 0) ≡ none → nat_lt p.denominator p.numerator ≡ large → nat_lt max_denominator (lowest_denominator p) ≡ fine → answer_by p none large fine ≡ fraction_of p
 unfolding fraction_of
 by_tests p none large fine e f g = rw (← e, ← f, ← g) refl
 
@@ -166,33 +166,33 @@ none_none : (m n : ℕ) → 0 < m → 0 < n → (nat_eq m 0 || nat_eq n 0) ≡ f
 none_none m n h k = grind (arith, nat_tests)
 
 -- the correct result is the function's
-pub the_answer : (p : Ratio) (r : Result Ratio FractionFault) → IsAnswer p r → r ≡ fraction_of p
-the_answer p (Err Zero) h = by_tests p true (nat_lt p.denominator p.numerator) (nat_lt finest (least_denominator p)) (some_none p.numerator p.denominator h) refl refl
-the_answer p (Err AboveOne) h = by_tests p false true (nat_lt finest (least_denominator p)) (none_none p.numerator p.denominator h.0 h.1) (below p.denominator p.numerator h.2) refl
+pub the_answer : (p : Ratio) (r : Result Ratio FractionFault) → IsFractionOrFault p r → r ≡ fraction_of p
+the_answer p (Err Zero) h = by_tests p true (nat_lt p.denominator p.numerator) (nat_lt max_denominator (lowest_denominator p)) (some_none p.numerator p.denominator h) refl refl
+the_answer p (Err AboveOne) h = by_tests p false true (nat_lt max_denominator (lowest_denominator p)) (none_none p.numerator p.denominator h.0 h.1) (below p.denominator p.numerator h.2) refl
 the_answer p (Err TooFine) h =
     let above : 0 < p.denominator = denominator_pos p h.0 in
-    let least : h.1.0 ≡ least_denominator p = one_least p h.1.0 (least_denominator p) h.1.1 (least_denominator-is p above) in
+    let least : h.1.0 ≡ lowest_denominator p = one_least p h.1.0 (lowest_denominator p) h.1.1 (lowest_denominator-is p above) in
     by_tests p false false true (none_none p.numerator p.denominator h.0.above_zero above) (not_below p.denominator p.numerator h.0.at_most_one)
-    (below finest (least_denominator p) (subst (λ (d : ℕ). finest < d) least h.1.2))
+    (below max_denominator (lowest_denominator p) (subst (λ (d : ℕ). max_denominator < d) least h.1.2))
 the_answer p (Ok f) h =
     let above : 0 < p.denominator = denominator_pos p h.0 in
     let lowest : IsLeastDenominator p f.denominator = least_of_same f p f.denominator h.1.lowest.positive above (sym h.2) h.1.lowest in
-    let least : f.denominator ≡ least_denominator p = one_least p f.denominator (least_denominator p) lowest (least_denominator-is p above) in
-    ap (λ (q : Ratio). Ok q) (reduced-is p f above least h.2)
+    let least : f.denominator ≡ lowest_denominator p = one_least p f.denominator (lowest_denominator p) lowest (lowest_denominator-is p above) in
+    ap (λ (q : Ratio). Ok q) (in_lowest_terms-is p f above least h.2)
     ∙ by_tests p false false false (none_none p.numerator p.denominator h.0.above_zero above) (not_below p.denominator p.numerator h.0.at_most_one)
-    (not_below finest (least_denominator p) (subst (λ (d : ℕ). d ≤ finest) least h.1.not_too_fine))
+    (not_below max_denominator (lowest_denominator p) (subst (λ (d : ℕ). d ≤ max_denominator) least h.1.not_too_fine))
 
-proper_answer : (p : Ratio) → IsProper p → (r : Result Ratio FractionFault) × IsAnswer p r
+proper_answer : (p : Ratio) → IsProper p → (r : Result Ratio FractionFault) × IsFractionOrFault p r
 proper_answer p h =
     let above : 0 < p.denominator = denominator_pos p h in
-    let least : IsLeastDenominator p (least_denominator p) = least_denominator-is p above in
-    elim (cases_lt finest (least_denominator p)) [
-      | inl fine ↦ (Err TooFine, (h, (least_denominator p, least, fine)))
-      | inr fits ↦ (Ok (reduced p), (h, lowest_fraction p _ _ h least (reduced-same p above) fits, reduced-same p above))
+    let least : IsLeastDenominator p (lowest_denominator p) = lowest_denominator-is p above in
+    elim (cases_lt max_denominator (lowest_denominator p)) [
+      | inl fine ↦ (Err TooFine, (h, (lowest_denominator p, least, fine)))
+      | inr fits ↦ (Ok (in_lowest_terms p), (h, lowest_fraction p _ _ h least (in_lowest_terms-same p above) fits, in_lowest_terms-same p above))
     ]
 
 -- each pair has a correct result
-pub some_answer : (p : Ratio) → (r : Result Ratio FractionFault) × IsAnswer p r
+pub some_answer : (p : Ratio) → (r : Result Ratio FractionFault) × IsFractionOrFault p r
 some_answer p =
     elim (cases_eq p.numerator 0) [
       | inl zero_above ↦ (Err Zero, inl zero_above)
@@ -205,5 +205,5 @@ some_answer p =
       ]
     ]
 
-pub answered : (p : Ratio) → IsAnswer p (fraction_of p)
-answered p = let some = some_answer p in subst (λ (r : Result Ratio FractionFault). IsAnswer p r) (the_answer p some.0 some.1) some.1
+pub answered : (p : Ratio) → IsFractionOrFault p (fraction_of p)
+answered p = let some = some_answer p in subst (λ (r : Result Ratio FractionFault). IsFractionOrFault p r) (the_answer p some.0 some.1) some.1

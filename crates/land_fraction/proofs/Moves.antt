@@ -6,7 +6,7 @@ use Rattle.std.proofs.Math.Nat.{dvd-mul_left, dvd-mul_right, dvd-mul_right_of_dv
 use Rattle.std.proofs.lemmas.List.Elements.{All-cons, All-head, All-tail, All-weaker}
 use Rattle.std.proofs.lemmas.List.Sorted.{sum_by-IsPermutation, IsPermutation-sym, All-permutation}
 use Rattle.land_fraction.specs.Ratio.{Ratio, MeanSame, IsProper, sum_of, difference_of}
-use Rattle.land_fraction.specs.Answer.{IsAnswer, fraction_of}
+use Rattle.land_fraction.specs.Answer.{IsFractionOrFault, fraction_of}
 use Rattle.land_fraction.specs.Wholeness.{IsCommonMultiple, IsTooFine, IsWhole, IsWholeness, IsCommon, parts_of, common_of, wholeness}
 use Rattle.land_fraction.specs.declared.lists.Whole.{Whole}
 use Rattle.land_fraction.specs.declared.lists.Whole.TheVariants.{Yes, No, TooFine}
@@ -64,14 +64,14 @@ added_back a b c d n m above h =
 
 -- ---- results of a sum and of a difference
 
-pub sum_answer : (p q r : Ratio) → fraction_of (sum_of p q) ≡ Ok r → IsAnswer (sum_of p q) (Ok r)
-sum_answer p q r e = subst (λ (a : Result Ratio FractionFault). IsAnswer (sum_of p q) a) e (answered (sum_of p q))
+pub sum_answer : (p q r : Ratio) → fraction_of (sum_of p q) ≡ Ok r → IsFractionOrFault (sum_of p q) (Ok r)
+sum_answer p q r e = subst (λ (a : Result Ratio FractionFault). IsFractionOrFault (sum_of p q) a) e (answered (sum_of p q))
 
-pub difference_answer : (p q r : Ratio) → fraction_of (difference_of p q) ≡ Ok r → IsAnswer (difference_of p q) (Ok r)
-difference_answer p q r e = subst (λ (a : Result Ratio FractionFault). IsAnswer (difference_of p q) a) e (answered (difference_of p q))
+pub difference_answer : (p q r : Ratio) → fraction_of (difference_of p q) ≡ Ok r → IsFractionOrFault (difference_of p q) (Ok r)
+difference_answer p q r e = subst (λ (a : Result Ratio FractionFault). IsFractionOrFault (difference_of p q) a) e (answered (difference_of p q))
 
 -- the difference and the subtrahend sum to the minuend
-pub left_and_taken : (p q r : Ratio) → IsAnswer (difference_of p q) (Ok r) → MeanSame (sum_of r q) p
+pub left_and_taken : (p q r : Ratio) → IsFractionOrFault (difference_of p q) (Ok r) → MeanSame (sum_of r q) p
 left_and_taken p q r h = added_back p.numerator p.denominator q.numerator q.denominator r.numerator r.denominator h.0.above_zero h.2
 
 taken_pos : (p q : Ratio) → IsProper (difference_of p q) → 0 < q.denominator

@@ -8,7 +8,7 @@ use Rattle.std.proofs.lemmas.List.{take_more, take_all}
 use Rattle.std.proofs.lemmas.List.Sums.{sum_by-cons}
 use Rattle.std.proofs.lemmas.Bool.{and_parts}
 use Rattle.land_fraction.specs.Divisor.{IsGreatestDivisor, IsLeastMultiple}
-use Rattle.land_fraction.specs.Ratio.{Ratio, finest, IsFraction}
+use Rattle.land_fraction.specs.Ratio.{Ratio, max_denominator, IsFraction}
 use Rattle.land_fraction.specs.Answer.{is_multiple}
 use Rattle.land_fraction.specs.Wholeness.{IsCommonMultiple, IsTooFine, IsCommon, parts_of, is_common_multiple}
 use Rattle.land_fraction.proofs.Divisors.{multiple, dvd_of_multiple}
@@ -110,12 +110,12 @@ least_of_more m n i shares s below is above step before =
           step.least k (before.least k both.0) both.1;
     })
 
-pub too_fine_from : (n i : ℕ) (shares : List Ratio) → IsLeastOf n (take i shares) → finest < n → IsTooFine shares
+pub too_fine_from : (n i : ℕ) (shares : List Ratio) → IsLeastOf n (take i shares) → max_denominator < n → IsTooFine shares
 too_fine_from n i shares least fine k h =
     let upto : n ≤ k = le_of_dvd h.positive (least.least k (All-take (λ (share : Ratio). share.denominator ∣ k) i shares h.of_all)) in
     omega arith
 
-pub common_from : (m i : ℕ) (shares : List Ratio) → length shares ≤ i → IsLeastOf m (take i shares) → m ≤ finest → IsCommon shares (Some m)
+pub common_from : (m i : ℕ) (shares : List Ratio) → length shares ≤ i → IsLeastOf m (take i shares) → m ≤ max_denominator → IsCommon shares (Some m)
 common_from m i shares all least fits =
     let whole : IsLeastOf m shares = subst (λ (some : List Ratio). IsLeastOf m some) (take_all i shares all) least in
     (fits, whole.common, λ k h. le_of_dvd h.positive (whole.least k h.of_all))

@@ -6,7 +6,7 @@ use Rattle.std.proofs.Math.Nat.{mul-le-mul, mul-le-mul_right, div-mul-le_self, l
 use Rattle.std.proofs.lemmas.Bool.{cases_lt}
 use Rattle.std.proofs.lemmas.Bool.Decides.{nat_tests}
 use Rattle.land_fraction.specs.Ratio.{Ratio, IsFraction}
-use Rattle.land_fraction.specs.Order.{place_of, ratio_cmp}
+use Rattle.land_fraction.specs.Order.{scaled_value, ratio_cmp}
 use Rattle.land_fraction.proofs.Fractions.{one_fraction}
 
 less : (x y : ℕ) → x < y → nat_cmp x y ≡ Less
@@ -30,17 +30,17 @@ place_rises m b n d pos_b pos_d fits_b fits_d h =
     let more : q + 1 ≤ n * 1000000000000000000 / d = (le-div_iff_mul-le pos_d).1 (le_of_mul-le-mul_right room pos_b) in
     omega arith
 
-place_below : (f g : Ratio) → IsFraction f → IsFraction g → f.numerator * g.denominator < g.numerator * f.denominator → place_of f < place_of g
+place_below : (f g : Ratio) → IsFraction f → IsFraction g → f.numerator * g.denominator < g.numerator * f.denominator → scaled_value f < scaled_value g
 place_below f g h k e = place_rises f.numerator f.denominator g.numerator g.denominator h.lowest.positive k.lowest.positive h.not_too_fine k.not_too_fine e
 
-first_less : (f g : Ratio) → place_of f < place_of g → ratio_cmp f g ≡ Less
-first_less f g e = rw (less (place_of f) (place_of g) e) refl
+first_less : (f g : Ratio) → scaled_value f < scaled_value g → ratio_cmp f g ≡ Less
+first_less f g e = rw (less (scaled_value f) (scaled_value g) e) refl
 
-first_greater : (f g : Ratio) → place_of g < place_of f → ratio_cmp f g ≡ Greater
-first_greater f g e = rw (greater (place_of f) (place_of g) e) refl
+first_greater : (f g : Ratio) → scaled_value g < scaled_value f → ratio_cmp f g ≡ Greater
+first_greater f g e = rw (greater (scaled_value f) (scaled_value g) e) refl
 
 itself : (f : Ratio) → ratio_cmp f f ≡ Equal
-itself f = rw (equal (place_of f), equal f.numerator, equal f.denominator) refl
+itself f = rw (equal (scaled_value f), equal f.numerator, equal f.denominator) refl
 
 tied : (f g : Ratio) → IsFraction f → IsFraction g → f.numerator * g.denominator ≡ g.numerator * f.denominator → nat_cmp (f.numerator * g.denominator) (g.numerator * f.denominator) ≡ ratio_cmp f g
 tied f g h k e =

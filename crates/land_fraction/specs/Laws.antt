@@ -2,7 +2,7 @@
 use Rattle.std.specs.Prelude.{◌≡◌, ◌≢◌, ◌↔◌, ◌<◌, ℕ, List, [], ◌∷◌, Option, Result, Ok}
 use Rattle.std.specs.Int.{◌∣◌}
 use Rattle.std.specs.List.Sorted.{IsPermutation}
-use Rattle.land_fraction.specs.Answer.{IsAnswer, fraction_of}
+use Rattle.land_fraction.specs.Answer.{IsFractionOrFault, fraction_of}
 use Rattle.land_fraction.specs.Order.{cross_cmp, ratio_cmp}
 use Rattle.land_fraction.specs.Ratio.{Ratio, MeanSame, IsFraction, sum_of, difference_of}
 use Rattle.land_fraction.specs.Wholeness.{IsCommon, IsCommonMultiple, IsWholeness, common_of, parts_of}
@@ -13,7 +13,7 @@ use Rattle.land_fraction.specs.declared.lists.Whole.TheVariants.{Yes, TooFine}
 
 -- each pair has one correct result, and the function returns it
 abbrev pub AnswerLaw : Type 0
-AnswerLaw = (p : Ratio) (r : Result Ratio FractionFault) → IsAnswer p r ↔ (r ≡ fraction_of p)
+AnswerLaw = (p : Ratio) (r : Result Ratio FractionFault) → IsFractionOrFault p r ↔ (r ≡ fraction_of p)
 
 -- each list has one right least common multiple
 abbrev pub CommonLaw : Type 0

@@ -10,11 +10,11 @@ cross_cmp f g = nat_cmp (f.numerator * g.denominator) (g.numerator * f.denominat
 
 -- how many of 10^18 equal parts a fraction has, rounded down. Fractions that differ are at least one such
 -- part apart
-abbrev pub place_of : Ratio → ℕ
-place_of f = f.numerator * 1000000000000000000 / f.denominator
+abbrev pub scaled_value : Ratio → ℕ
+scaled_value f = f.numerator * 1000000000000000000 / f.denominator
 
 -- The cross products order fractions, but not all pairs: a denominator of 0 breaks the laws of an order. This
 -- one orders all pairs, and fractions as the cross products do (`laws::order_of_fractions`)
 abbrev pub ratio_cmp : Ratio → Ratio → Ordering
-ratio_cmp = then_cmp (on place_of nat_cmp)
+ratio_cmp = then_cmp (on scaled_value nat_cmp)
     (then_cmp (on (λ f. f.numerator) nat_cmp) (on (λ f. f.denominator) nat_cmp))

@@ -21,8 +21,8 @@ pub record IsLeastDenominator (p : Ratio) (d : ℕ) : Type 0 where
   pub least : (q : Ratio) → 0 < q.denominator → MeanSame p q → d ≤ q.denominator
 
 -- the greatest denominator that a fraction may have
-abbrev pub finest : ℕ
-finest = 1000000000
+abbrev pub max_denominator : ℕ
+max_denominator = 1000000000
 
 -- above zero and at most one
 pub record IsProper (p : Ratio) : Type 0 where
@@ -33,7 +33,7 @@ pub record IsProper (p : Ratio) : Type 0 where
 pub record IsFraction (f : Ratio) : Type 0 where
   pub proper : IsProper f
   pub lowest : IsLeastDenominator f f.denominator
-  pub not_too_fine : f.denominator ≤ finest
+  pub not_too_fine : f.denominator ≤ max_denominator
 
 -- a/b + c/d is (a * d + c * b)/(b * d)
 abbrev pub sum_of : Ratio → Ratio → Ratio

@@ -3,7 +3,7 @@
 ghost use Rattle.std.specs.Prelude.{◌≡◌, Some};
 ghost use Rattle.land_fraction.specs.Ratio.{over, sum_of, difference_of, IsFraction};
 ghost use Rattle.land_fraction.specs.Text.{text_of};
-ghost use Rattle.land_fraction.specs.Answer.{IsAnswer, fraction_of};
+ghost use Rattle.land_fraction.specs.Answer.{IsFractionOrFault, fraction_of};
 
 use crate::divisor::greatest_divisor;
 use crate::fault::FractionFault;
@@ -11,7 +11,7 @@ use std::fmt;
 use std::marker::Model;
 
 /// The greatest denominator of a fraction.
-pub const FINEST: u64 = 1_000_000_000;
+pub const MAX_DENOMINATOR: u64 = 1_000_000_000;
 
 /// A share of a whole (the Rational of ISO 19152:2012, within this project's bounds): above zero, at most
 /// one, in lowest terms, its denominator at most 1_000_000_000.
@@ -42,7 +42,7 @@ impl Fraction {
     /// - 102 `AboveOne`: `n` is above `d`.
     /// - 103 `TooFine`: the denominator in lowest terms is above 1_000_000_000.
     pub fn new(n: u64, d: u64) -> Result<Fraction, FractionFault>
-        ensures meaning { IsAnswer (over n d) result }
+        ensures meaning { IsFractionOrFault (over n d) result }
         ensures value { result ≡ fraction_of (over n d) }
     {
         if n == 0 || d == 0 {
@@ -53,7 +53,7 @@ impl Fraction {
         }
         let divisor = greatest_divisor(n, d);
         let denominator = d / divisor;
-        if denominator > FINEST {
+        if denominator > MAX_DENOMINATOR {
             return Err(FractionFault::TooFine);
         }
         Ok(Fraction {
@@ -67,7 +67,7 @@ impl Fraction {
     /// - 102 `AboveOne`: the sum is above 1.
     /// - 103 `TooFine`: the denominator in lowest terms is above 1_000_000_000.
     pub fn plus(self, other: Fraction) -> Result<Fraction, FractionFault>
-        ensures meaning { IsAnswer (sum_of self other) result }
+        ensures meaning { IsFractionOrFault (sum_of self other) result }
         ensures value { result ≡ fraction_of (sum_of self other) }
     {
         let own = self.numerator * other.denominator;
@@ -80,7 +80,7 @@ impl Fraction {
     /// - 101 `Zero`: the result is 0, or `other` is greater.
     /// - 103 `TooFine`: the denominator in lowest terms is above 1_000_000_000.
     pub fn minus(self, other: Fraction) -> Result<Fraction, FractionFault>
-        ensures meaning { IsAnswer (difference_of self other) result }
+        ensures meaning { IsFractionOrFault (difference_of self other) result }
         ensures value { result ≡ fraction_of (difference_of self other) }
     {
         let own = self.numerator * other.denominator;

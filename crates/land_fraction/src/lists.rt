@@ -2,11 +2,11 @@
 
 ghost use Rattle.std.specs.Prelude.{◌≡◌, ◌*◌, ◌<◌, ◌≤◌, ◌^◌, ◌↔◌, IsTrue};
 ghost use Rattle.land_fraction.specs.Divisor.{IsLeastMultiple};
-ghost use Rattle.land_fraction.specs.Ratio.{finest};
+ghost use Rattle.land_fraction.specs.Ratio.{max_denominator};
 ghost use Rattle.land_fraction.specs.Wholeness.{IsCommon, IsCommonMultiple, IsWholeness, common_of, parts_of};
 ghost use Rattle.land_fraction.specs.Wholeness.{wholeness};
 
-use crate::bounded::{FINEST, Fraction};
+use crate::bounded::{MAX_DENOMINATOR, Fraction};
 use crate::divisor::greatest_divisor;
 
 /// Whether the fractions of a list sum to one.
@@ -29,7 +29,7 @@ pub fn common(shares: &[Fraction]) -> Option<u64>
     let mut multiple = 1;
     for share in shares {
         multiple = least_multiple(multiple, share.denominator());
-        if multiple > FINEST {
+        if multiple > MAX_DENOMINATOR {
             return None;
         }
     }
@@ -61,7 +61,7 @@ fn least_multiple(a: u64, b: u64) -> u64
 
 /// Whether the shares together have all of `multiple` equal parts.
 fn has_all_parts(shares: &[Fraction], multiple: u64) -> bool
-    requires bound { multiple ≤ finest }
+    requires bound { multiple ≤ max_denominator }
     ensures { IsTrue result ↔ (parts_of multiple shares.now ≡ multiple) }
 {
     let mut parts = 0;

@@ -1,9 +1,9 @@
 -- Lemma on keepers that are open after a call.
 use Rattle.std.proofs.Common.{◌≡◌, true, false, refl}
-use Rattle.land_keep.specs.Laws.{OpenKeepersLackMemoryAlone}
+use Rattle.land_keep.specs.Laws.{OpenKeepersFailOnlyForMemory}
 use Rattle.land_keep.specs.declared.store_fault.StoreFault.TheVariants.{NoMemory, Store, Closed}
 
-pub memory_alone : OpenKeepersLackMemoryAlone
+pub memory_alone : OpenKeepersFailOnlyForMemory
 memory_alone true fault h = absurd (closed_is_open h.1)
   where
     closed_is_open : false ≡ true → ⊥

@@ -5,7 +5,7 @@ use Rattle.std.specs.Option.{option_map}
 use Rattle.std.proofs.lemmas.Int.{ints}
 use Rattle.land_core.specs.Changes.{after}
 use Rattle.land_core.specs.Register.{nothing}
-use Rattle.land_keep.specs.Laws.{PastStays, ChangeStands}
+use Rattle.land_keep.specs.Laws.{PastStays, ChangeApplies}
 use Rattle.land_keep.specs.Timeline.{Timeline, register_at, version_at, last_register}
 use Rattle.land_keep.specs.declared.timeline.Version.{Version}
 
@@ -34,5 +34,5 @@ from_stamp tl w t less =
     ap (λ (o : Option Version). unwrap_or (option_map (λ (v : Version). v.register) o) nothing)
     (found_last t None tl w ∙ ap (λ b. cond b (Some w) (version_at tl t)) (not_after t w.stamp less))
 
-pub change_stands : ChangeStands
+pub change_stands : ChangeApplies
 change_stands tl change stamp t less = from_stamp tl (record { stamp = stamp; register = after change (last_register tl) }) t less

@@ -18,8 +18,8 @@ use Rattle.land_core.specs.declared.ask.Request.{Request}
 use Rattle.land_core.specs.declared.caller.Caller.{Caller}
 use Rattle.land_core.specs.declared.kind.Kind.TheVariants as kind
 use Rattle.land_keep.specs.Faults.{number_of}
-use Rattle.land_keep.specs.Keeping.{CanWrite, Closes, IsAnswered, IsPrepared, Leads, RunsTo, ShowsAsked, ShowsAt, TellsOf, after_writing, preparation}
-use Rattle.land_keep.specs.Machine.{Run, State, Element, Next, step, allowed, acted, verdict_at, at_of, moment_of, now_of, stamp_of}
+use Rattle.land_keep.specs.Keeping.{CanWrite, Closes, AnswersByStep, CommitsStep, Commits, RunsToState, SheetHasRequestedMoment, SheetHasMoment, ReportsClosing, apply_pending, prepared_of}
+use Rattle.land_keep.specs.Machine.{Run, State, StepOrFault, Next, step, next_if_allowed, outcome_next, verdict_at, at_of, moment_of, now_of, stamp_of}
 use Rattle.land_keep.specs.Moments.{IsMoment, last_moment, now_after, stamp_after}
 use Rattle.land_keep.specs.Timeline.{Timeline, last_stamp, last_register, register_at}
 use Rattle.land_keep.specs.declared.prepared.Prepared.{Prepared}
@@ -33,7 +33,7 @@ use Rattle.land_rules.specs.declared.verdict.Verdict.TheVariants.{Allowed, Denie
 
 -- a run is extended by one request
 pub run_more : {C : Type 0} (reads : C → ℤ → C → Type 0) (from mid to : State C) (reading : ℤ) (qs : List Request) (q : Request) (rs : List Reply) (r : Reply)
-    → Run reads from qs rs mid → reads mid.clock reading to.clock → Element mid.closed reading q mid.timeline r to.timeline to.closed
+    → Run reads from qs rs mid → reads mid.clock reading to.clock → StepOrFault mid.closed reading q mid.timeline r to.timeline to.closed
     → Run reads from (qs ++ q ∷ []) (rs ++ r ∷ []) to
 run_more {C} reads from mid to reading [] q [] r is rd el =
     subst (λ (s : State C). Run reads s (q ∷ []) (r ∷ []) to) is (reading, to, rd, el, refl)
@@ -45,19 +45,19 @@ run_more {C} reads from mid to reading (x ∷ xs) q [] r run rd el = absurd run
 -- an element of a keeper that showed another timeline than the machine's, since it was closed, is one of the
 -- machine's
 element_from : (closed closed_after : Bool) (tl shown new shown_after : Timeline) (reading : ℤ) (q : Request) (r : Reply)
-    → (closed ≡ false → shown ≡ tl) → Element closed reading q shown r new closed_after → (closed_after ≡ false → shown_after ≡ new)
-    → (to : Timeline) × Element closed reading q tl r to closed_after × (closed_after ≡ false → shown_after ≡ to)
+    → (closed ≡ false → shown ≡ tl) → StepOrFault closed reading q shown r new closed_after → (closed_after ≡ false → shown_after ≡ new)
+    → (to : Timeline) × StepOrFault closed reading q tl r to closed_after × (closed_after ≡ false → shown_after ≡ to)
 element_from true closed_after tl shown new shown_after reading q r same el shows =
     (tl, (el.0, refl, el.2), λ is_open. absurd (false≢true (sym is_open ∙ el.2)))
 element_from false closed_after tl shown new shown_after reading q r same el shows =
-    (new, subst (λ (t : Timeline). Element false reading q t r new closed_after) (same refl) el, shows)
+    (new, subst (λ (t : Timeline). StepOrFault false reading q t r new closed_after) (same refl) el, shows)
 
 -- a run to a state that the keeper represents is extended by the keeper's reply
 pub runs_on : {C : Type 0} (reads : C → ℤ → C → Type 0) (from : State C) (honest honest_after : Type 0) (closed closed_after : Bool)
     (shown shown_after : Timeline) (clock clock_after : C) (reading : ℤ) (qs : List Request) (q : Request) (rs : List Reply) (r : Reply)
-    → honest → RunsTo reads from qs rs honest closed shown clock → reads clock reading clock_after
-    → IsAnswered closed reading q shown r shown_after closed_after
-    → RunsTo reads from (qs ++ q ∷ []) (rs ++ r ∷ []) honest_after closed_after shown_after clock_after
+    → honest → RunsToState reads from qs rs honest closed shown clock → reads clock reading clock_after
+    → AnswersByStep closed reading q shown r shown_after closed_after
+    → RunsToState reads from (qs ++ q ∷ []) (rs ++ r ∷ []) honest_after closed_after shown_after clock_after
 runs_on {C} reads from honest honest_after closed closed_after shown shown_after clock clock_after reading qs q rs r trust so rd answered =
     let mid = so.0 in
     let here = so.2 in
@@ -66,7 +66,7 @@ runs_on {C} reads from honest honest_after closed closed_after shown shown_after
       to,
       run_more reads from mid to reading qs q rs r so.1
           (subst (λ (c : C). reads c reading clock_after) (sym here.1) rd)
-          (subst (λ (b : Bool). Element b reading q mid.timeline r next.0 closed_after) (sym here.0) next.1),
+          (subst (λ (b : Bool). StepOrFault b reading q mid.timeline r next.0 closed_after) (sym here.0) next.1),
       (refl, refl, λ live. next.2 live.1),
     )
 
@@ -74,7 +74,7 @@ runs_on {C} reads from honest honest_after closed closed_after shown shown_after
 pub step_allowed : (clock : ℤ) (request : Request) (tl : Timeline)
     → int_lt (now_of clock tl) (moment_of request.ask (now_of clock tl)) ≡ false
     → verdict_at tl request.caller request.ask (now_of clock tl) ≡ Allowed
-    → step clock request tl ≡ allowed clock request.caller request.ask (moment_of request.ask (now_of clock tl)) tl
+    → step clock request tl ≡ next_if_allowed clock request.caller request.ask (moment_of request.ask (now_of clock tl)) tl
 step_allowed clock request tl late free = rw (late, free) refl
 
 -- a stamp is a moment after the last one
@@ -85,7 +85,7 @@ stamp_bounds clock last s e = (grind (arith, ints), grind (arith, ints))
 pub leads_to : (tl : Timeline) (clock : ℤ) (caller : Caller) (a : Act) (p : Result Planned Refusal)
     → is_well_formed a ≡ true → holds (last_register tl) caller.party caller.role ≡ true
     → outcome_of (last_register tl) caller a (stamp_of clock tl) ≡ p
-    → Leads (preparation p) (acted p tl) tl
+    → Commits (prepared_of p) (outcome_next p tl) tl
 leads_to tl clock caller a (Err refusal) wf role e = record { reply = refl; timeline = refl; can_finish = tt }
 leads_to tl clock caller a (Ok (Repeat done)) wf role e = record { reply = refl; timeline = refl; can_finish = tt }
 leads_to tl clock caller a (Ok (New change done)) wf role e =
@@ -100,7 +100,7 @@ leads_to tl clock caller a (Ok (New change done)) wf role e =
         (record { moment = bounds.0; later = bounds.1; made = accepted })
 
 -- the reply prepared for an act is not a sheet
-pub shows_no_sheet : (t : ℤ) (p : Result Planned Refusal) → ShowsAt t (preparation p).reply
+pub shows_no_sheet : (t : ℤ) (p : Result Planned Refusal) → SheetHasMoment t (prepared_of p).reply
 shows_no_sheet t (Err refusal) = tt
 shows_no_sheet t (Ok (Repeat done)) = tt
 shows_no_sheet t (Ok (New change done)) = tt
@@ -139,12 +139,12 @@ role_is_held tl caller (ask.Sheet unit at) now free = second_passes (first_fails
 role_is_held tl caller (ask.Do it) now free = second_passes (first_fails tl caller) (holds (last_register tl) caller.party caller.role) (later_rules tl caller (ask.Do it) now) free
 
 -- a reply without a change leaves the timeline unchanged
-pub without_change_leads : (p : Prepared) (r : Reply) (next : Next) (tl : Timeline) → p.reply ≡ r → p.writing ≡ None → next ≡ (r, tl) → Leads p next tl
+pub without_change_leads : (p : Prepared) (r : Reply) (next : Next) (tl : Timeline) → p.reply ≡ r → p.writing ≡ None → next ≡ (r, tl) → Commits p next tl
 without_change_leads p r next tl is none e =
-    subst (λ (n : Next). Leads p n tl) (sym e)
+    subst (λ (n : Next). Commits p n tl) (sym e)
     (record {
       reply = is;
-      timeline = ap (λ (w : Option Writing). after_writing w tl) none;
+      timeline = ap (λ (w : Option Writing). apply_pending w tl) none;
       can_finish = subst (λ (o : Option Writing). MatchOption o (Unit {0}) (λ w. CanWrite tl w.change w.stamp)) (sym none) tt;
     })
 
@@ -154,7 +154,7 @@ pub now_is_moment : (clock last : ℤ) → last ≤ℤ last_moment → IsMoment 
 now_is_moment clock last late = (omega (arith, ints, clamps), omega (arith, ints, clamps, late))
 
 -- a sheet has the requested moment, or now
-pub shows_asked : (a : Ask) (t now : ℤ) (r : Reply) → t ≡ unwrap_or (at_of a) now → IsMoment now → ShowsAt t r → ShowsAsked a r
+pub shows_asked : (a : Ask) (t now : ℤ) (r : Reply) → t ≡ unwrap_or (at_of a) now → IsMoment now → SheetHasMoment t r → SheetHasRequestedMoment a r
 shows_asked a t now (reply.Object it) e is shows = tt
 shows_asked a t now (reply.Numbers it) e is shows = tt
 shows_asked a t now (reply.Sheet view) e is shows = named (at_of a) (shows ∙ e)
@@ -177,7 +177,7 @@ opens false closed it closes = (refl, closes)
 
 -- a store fault is an element that changes nothing
 pub fault_element : (T : Type 0) (before closed : Bool) (reading : ℤ) (q : Request) (tl : Timeline) (fault : StoreFault)
-    → Closes {T = T} before closed (Err fault) → Element before reading q tl (reply.Store (number_of fault)) tl closed
+    → Closes {T = T} before closed (Err fault) → StepOrFault before reading q tl (reply.Store (number_of fault)) tl closed
 fault_element T true closed reading q tl fault closes = (ap (λ (f : StoreFault). reply.Store (number_of f)) closes.0, refl, closes.1)
 fault_element T false closed reading q tl NoMemory closes = inr (inl (refl, refl, closes))
 fault_element T false closed reading q tl Store closes = inr (inr (refl, refl, closes))
@@ -189,7 +189,7 @@ was_open T true closed fault closes is_open = absurd (false≢true (sym is_open 
 was_open T false closed fault closes is_open = refl
 
 -- a store fault reports whether the store is closed
-pub fault_tells : (T : Type 0) (before closed : Bool) (fault : StoreFault) → Closes {T = T} before closed (Err fault) → TellsOf before (reply.Store (number_of fault)) closed
+pub fault_tells : (T : Type 0) (before closed : Bool) (fault : StoreFault) → Closes {T = T} before closed (Err fault) → ReportsClosing before (reply.Store (number_of fault)) closed
 fault_tells T true closed fault closes = (ap (λ (f : StoreFault). reply.Store (number_of f)) closes.0, closes.1)
 fault_tells T false closed NoMemory closes = λ shut. absurd (false≢true (sym closes ∙ shut))
 fault_tells T false closed Store closes = λ shut. refl
@@ -197,6 +197,6 @@ fault_tells T false closed Closed closes = absurd closes
 
 -- a reply that was prepared and finished is a step
 pub finished_element : (before closed : Bool) (reading : ℤ) (q : Request) (tl : Timeline) (p : Prepared)
-    → before ≡ false → closed ≡ false → IsPrepared p reading q tl → Element before reading q tl p.reply (after_writing p.writing tl) closed
+    → before ≡ false → closed ≡ false → CommitsStep p reading q tl → StepOrFault before reading q tl p.reply (apply_pending p.writing tl) closed
 finished_element before closed reading q tl p was is leads =
-    subst (λ (b : Bool). Element b reading q tl p.reply (after_writing p.writing tl) closed) (sym was) (inl (leads.reply, leads.timeline, is))
+    subst (λ (b : Bool). StepOrFault b reading q tl p.reply (apply_pending p.writing tl) closed) (sym was) (inl (leads.reply, leads.timeline, is))

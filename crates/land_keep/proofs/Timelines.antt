@@ -11,7 +11,7 @@ use Rattle.land_core.specs.Soundness.{IsSound}
 use Rattle.land_core.specs.declared.register.Register.{Register}
 use Rattle.land_keep.specs.Laws.{WritingKeepsSound}
 use Rattle.land_keep.specs.Moments.{IsMoment, last_moment}
-use Rattle.land_keep.specs.Timeline.{Timeline, IsSoundTimeline, Rises, last_from, last_register, last_version, last_stamp, register_at}
+use Rattle.land_keep.specs.Timeline.{Timeline, IsSoundTimeline, IncreasesFrom, last_from, last_register, last_version, last_stamp, register_at}
 use Rattle.land_keep.specs.declared.timeline.Version.{Version}
 use Rattle.land_rules.specs.Laws.{IsSoundOrNothing}
 
@@ -32,7 +32,7 @@ all_more : (P : Version → Type 0) (vs : Timeline) (w : Version) → AllByRecur
 all_more P [] w h last = (last, tt)
 all_more P (v ∷ vs) w h last = (h.0, all_more P vs w h.1 last)
 
-rises_more : (v : Version) (vs : Timeline) (w : Version) → Rises v vs → (last_from v vs).stamp <ℤ w.stamp → (last_from v vs).register.next ≤ w.register.next → Rises v (vs ++ w ∷ [])
+rises_more : (v : Version) (vs : Timeline) (w : Version) → IncreasesFrom v vs → (last_from v vs).stamp <ℤ w.stamp → (last_from v vs).register.next ≤ w.register.next → IncreasesFrom v (vs ++ w ∷ [])
 rises_more v [] w h later more = (later, more, tt)
 rises_more v (u ∷ us) w h later more = (h.0, h.1, rises_more u us w h.2 later more)
 

@@ -29,9 +29,9 @@ use Rattle.land_core.specs.declared.rrr.Rrr.{Rrr}
 use Rattle.land_core.specs.declared.rrr.RrrRecord.{RrrRecord}
 use Rattle.land_keep.proofs.Timelines.{sound_or_nothing}
 use Rattle.land_keep.proofs.TwoRegisters.{by_verdict, shows, step_told, told}
-use Rattle.land_keep.specs.Laws.{RepliesTellNothingUnseen}
-use Rattle.land_keep.specs.Machine.{moment_of, now_of, shown_sheet, step, viewed}
-use Rattle.land_keep.specs.Sheets.{entries_seen, name_at, named_rrr, parcels_at, shown_parcel, view_at}
+use Rattle.land_keep.specs.Laws.{RepliesRevealNothingUnseen}
+use Rattle.land_keep.specs.Machine.{moment_of, now_of, sheet_reply, step, view_reply}
+use Rattle.land_keep.specs.Sheets.{visible_entries, name_at, named_rrr, parcels_at, numbered_parcel, view_at}
 use Rattle.land_keep.specs.Timeline.{Timeline, IsSoundTimeline, last_register, register_at}
 use Rattle.land_keep.specs.declared.reply.Reply.{Reply}
 use Rattle.land_keep.specs.declared.reply.Reply.TheVariants as reply
@@ -39,9 +39,9 @@ use Rattle.land_keep.specs.declared.timeline.Version.{Version}
 use Rattle.land_keep.specs.declared.view.NamedRrr.{NamedRrr}
 use Rattle.land_keep.specs.declared.view.View.{View}
 use Rattle.land_rules.proofs.Alike.{flip, inside, parcel_in_sight, party_in_sight, same_objects, same_sight, same_verdicts}
-use Rattle.land_rules.specs.Alike.{IsRead, LookAlike, WorldsLookAlike, shown_of}
+use Rattle.land_rules.specs.Alike.{IsReadRequest, LookAlike, WorldsLookAlike, visible_objects}
 use Rattle.land_rules.specs.Laws.{IsSoundOrNothing}
-use Rattle.land_rules.specs.Rules.{first_denial, is_allowed, is_of_the_present, seen_of, sees, verdict_of, view_rules}
+use Rattle.land_rules.specs.Rules.{first_denial, is_allowed, sees_only_present, seen_of, sees, verdict_of, view_rules}
 use Rattle.land_rules.specs.declared.verdict.Verdict.{Verdict}
 use Rattle.land_rules.specs.declared.verdict.Verdict.TheVariants.{Allowed, Denied}
 
@@ -138,14 +138,14 @@ module _ (at : Register) (caller : Caller) where
   all_in_sight : AllByRecursion IsInSight in_sight
   all_in_sight = all_passing (λ e. map.get at.rrrs e.0 ≡ Some e.1) (λ e. sees at caller kind.Rrr e.0) (map.entries at.rrrs) (each_there nat_cmp_total nat_cmp-IsAntisymmetric at.rrrs)
 
-  shown_entries : shown_of at caller kind.Rrr ≡ map_list shown_entry in_sight
+  shown_entries : visible_objects at caller kind.Rrr ≡ map_list shown_entry in_sight
   shown_entries =
       twice_mapped (λ (e : ℕ × RrrRecord). e.0) (λ n. let it : ℕ × Option Object = (n, object_at at kind.Rrr n) in it) in_sight
       ∙ same_items (λ (e : ℕ × RrrRecord). let it : ℕ × Option Object = (e.0, object_at at kind.Rrr e.0) in it) shown_entry in_sight
       (all_more IsInSight (λ e. (let it : ℕ × Option Object = (e.0, object_at at kind.Rrr e.0) in it) ≡ shown_entry e)
       (λ e is. ap (λ o. (e.0, option_map object.Rrr (option_map (λ (x : RrrRecord). shown_rrr (e.0, x)) o))) is.0) in_sight all_in_sight)
 
-  seen_entries : (unit : ℕ) → entries_seen at caller unit ≡ map_list (λ e. named_rrr at e.0 e.1) (filter (λ e. nat_eq e.1.unit unit) in_sight)
+  seen_entries : (unit : ℕ) → visible_entries at caller unit ≡ map_list (λ e. named_rrr at e.0 e.1) (filter (λ e. nat_eq e.1.unit unit) in_sight)
   seen_entries unit = ap (map_list (λ e. named_rrr at e.0 e.1)) (two_tests (λ e. nat_eq e.1.unit unit) (λ e. sees at caller kind.Rrr e.0) (map.entries at.rrrs))
 
 -- ---- a sheet depends only on the objects in sight
@@ -159,7 +159,7 @@ module _ (one other : Register) (caller : Caller) (sound : IsSoundOrNothing one)
 
   same_parcel : (n : ℕ) → sees one caller kind.Parcel n ≡ true → map.get one.parcels n ≡ map.get other.parcels n
   same_parcel n h =
-      inside (λ (p : ParcelRecord). shown_parcel n p) (λ a b same. ap kept_parcel same) (map.get one.parcels n) (map.get other.parcels n)
+      inside (λ (p : ParcelRecord). numbered_parcel n p) (λ a b same. ap kept_parcel same) (map.get one.parcels n) (map.get other.parcels n)
       (inside object.Parcel (λ a b same. cc) (parcel_at one n) (parcel_at other n) (same_objects one other caller alike kind.Parcel n h))
 
   same_parcels : one.parcels ≡ other.parcels
@@ -172,7 +172,7 @@ module _ (one other : Register) (caller : Caller) (sound : IsSoundOrNothing one)
   same_in_sight = exact_items shown_entry exact_entry (in_sight one caller) (in_sight other caller)
       (sym (shown_entries one caller) ∙ alike.shown kind.Rrr ∙ shown_entries other caller)
 
-  same_entries : (unit : ℕ) → entries_seen one caller unit ≡ entries_seen other caller unit
+  same_entries : (unit : ℕ) → visible_entries one caller unit ≡ visible_entries other caller unit
   same_entries unit =
       let AreNamedAlike : ℕ × RrrRecord → Type 0 = λ e. named_rrr one e.0 e.1 ≡ named_rrr other e.0 e.1 in
       let named : AllByRecursion AreNamedAlike (in_sight one caller) = all_more (IsInSight one caller) AreNamedAlike
@@ -190,8 +190,8 @@ module _ (one other : Register) (caller : Caller) (sound : IsSoundOrNothing one)
 
   same_sheet : (unit : ℕ) (moment : ℤ) → sees one caller kind.Unit unit ≡ true → view_at one caller unit moment ≡ view_at other caller unit moment
   same_sheet unit moment h =
-      ap (option_map (λ u. let it : View = record { unit = u; parcels = parcels_at one unit; rrrs = entries_seen one caller unit; at = moment } in it)) (same_unit unit h)
-      ∙ ap (λ ps. option_map (λ u. let it : View = record { unit = u; parcels = map_list (λ e. shown_parcel e.0 e.1) (filter (λ e. nat_eq e.1.unit unit) (map.entries ps)); rrrs = entries_seen one caller unit; at = moment } in it) (unit_at other unit)) same_parcels
+      ap (option_map (λ u. let it : View = record { unit = u; parcels = parcels_at one unit; rrrs = visible_entries one caller unit; at = moment } in it)) (same_unit unit h)
+      ∙ ap (λ ps. option_map (λ u. let it : View = record { unit = u; parcels = map_list (λ e. numbered_parcel e.0 e.1) (filter (λ e. nat_eq e.1.unit unit) (map.entries ps)); rrrs = visible_entries one caller unit; at = moment } in it) (unit_at other unit)) same_parcels
       ∙ ap (λ es. option_map (λ u. let it : View = record { unit = u; parcels = parcels_at other unit; rrrs = es; at = moment } in it) (unit_at other unit)) (same_entries unit)
 
 -- ---- replies
@@ -209,25 +209,25 @@ view_passes true false late v e = absurd (let it : Denied 2 ≡ Allowed = e in c
 view_passes false h late v e = absurd (let it : Denied 1 ≡ Allowed = e in cc)
 
 same_shown : (now : ℤ) (last other_last at other_at : Register) (caller : Caller) (a : Ask) (past : Bool) → WorldsLookAlike last other_last at other_at caller
-    → IsRead a → verdict_of last at caller a past ≡ Allowed → shows now at caller a ≡ shows now other_at caller a
+    → IsReadRequest a → verdict_of last at caller a past ≡ Allowed → shows now at caller a ≡ shows now other_at caller a
 same_shown now last other_last at other_at caller (ask.View k number moment) past alike read free =
-    ap (λ o. Rattle.land_keep.specs.Machine.shown o) (same_objects at other_at caller alike.asked k number (view_passes _ _ (past && is_of_the_present caller) (first_denial (view_rules at caller k number)) free))
+    ap (λ o. Rattle.land_keep.specs.Machine.shown o) (same_objects at other_at caller alike.asked k number (view_passes _ _ (past && sees_only_present caller) (first_denial (view_rules at caller k number)) free))
 same_shown now last other_last at other_at caller (ask.List k moment) past alike read free = ap reply.Numbers (Rattle.land_rules.proofs.Alike.same_numbers at other_at caller alike.asked k)
 same_shown now last other_last at other_at caller (ask.Sheet unit moment) past alike read free =
-    ap shown_sheet (same_sheet at other_at caller alike.one alike.asked unit (unwrap_or moment now)
-    (view_passes _ _ (past && is_of_the_present caller) (first_denial (view_rules at caller kind.Unit unit)) free))
+    ap sheet_reply (same_sheet at other_at caller alike.one alike.asked unit (unwrap_or moment now)
+    (view_passes _ _ (past && sees_only_present caller) (first_denial (view_rules at caller kind.Unit unit)) free))
 same_shown now last other_last at other_at caller (ask.Do it) past alike read free = absurd read
 
 same_told : (now : ℤ) (last other_last at other_at : Register) (caller : Caller) (a : Ask) → WorldsLookAlike last other_last at other_at caller
-    → IsRead a → told now last at caller a ≡ told now other_last other_at caller a
+    → IsReadRequest a → told now last at caller a ≡ told now other_last other_at caller a
 same_told now last other_last at other_at caller a alike read =
     let past = int_lt (moment_of a now) now in
     ap (cond (int_lt now (moment_of a now)) (reply.Fault 135))
     (same_reply (verdict_of last at caller a past) (shows now at caller a) (shows now other_at caller a) (same_shown now last other_last at other_at caller a past alike read)
     ∙ ap (λ v. by_verdict v (shows now other_at caller a)) (same_verdicts last other_last at other_at caller a past alike read))
 
-pub replies_tell_nothing_unseen : RepliesTellNothingUnseen
-replies_tell_nothing_unseen clock other_clock request one other sound also read now last at =
+pub replies_reveal_nothing_unseen : RepliesRevealNothingUnseen
+replies_reveal_nothing_unseen clock other_clock request one other sound also read now last at =
     let a = request.ask in
     let t = moment_of a (now_of clock one) in
     let same_moment : register_at other t ≡ register_at other (moment_of a (now_of other_clock other)) = ap (λ n. register_at other (moment_of a n)) now in

@@ -9,7 +9,7 @@ use Rattle.land_acts.specs.declared.mutations.refusal.Refusal.{Refusal}
 use Rattle.land_core.specs.declared.ask.Ask.{Ask}
 use Rattle.land_core.specs.declared.ask.Request.{Request}
 use Rattle.land_core.specs.declared.change.Change.{Change}
-use Rattle.land_keep.specs.Machine.{Element, Next, Run, State, at_of, step, written}
+use Rattle.land_keep.specs.Machine.{StepOrFault, Next, Run, State, at_of, step, written}
 use Rattle.land_keep.specs.Moments.{IsMoment, last_moment}
 use Rattle.land_keep.specs.Timeline.{Timeline, last_stamp, last_register}
 use Rattle.land_keep.specs.declared.prepared.Prepared.{Prepared}
@@ -31,8 +31,8 @@ Closes false after (Err Store) = after ≡ true
 Closes false after (Err Closed) = ⊥
 
 -- a keeper shows its timeline if its store is honest and open
-abbrev pub IsLive : (honest : Type 0) → (closed : Bool) → Type 0
-IsLive honest closed = honest × (closed ≡ false)
+abbrev pub IsHonestAndOpen : (honest : Type 0) → (closed : Bool) → Type 0
+IsHonestAndOpen honest closed = honest × (closed ≡ false)
 
 -- a change can be written if its stamp is a moment after the last one and an act makes it on the last
 -- register
@@ -43,75 +43,75 @@ pub record CanWrite (tl : Timeline) (change : Change) (stamp : ℤ) : Type 0 whe
 
 -- ---- prepared replies
 
-abbrev pub after_writing : Option Writing → Timeline → Timeline
-after_writing None tl = tl
-after_writing (Some w) tl = written tl w.change w.stamp
+abbrev pub apply_pending : Option Writing → Timeline → Timeline
+apply_pending None tl = tl
+apply_pending (Some w) tl = written tl w.change w.stamp
 
 -- a prepared reply can be finished on a timeline
 abbrev pub CanFinish : Prepared → Timeline → Type 0
 CanFinish p tl = MatchOption p.writing (Unit {0}) (λ w. CanWrite tl w.change w.stamp)
 
 -- finishing a prepared reply yields this reply and this timeline
-pub record Leads (p : Prepared) (next : Next) (tl : Timeline) : Type 0 where
+pub record Commits (p : Prepared) (next : Next) (tl : Timeline) : Type 0 where
   pub reply : p.reply ≡ next.0
-  pub timeline : after_writing p.writing tl ≡ next.1
+  pub timeline : apply_pending p.writing tl ≡ next.1
   pub can_finish : CanFinish p tl
 
 -- finishing the reply prepared for a request yields the machine's step
-abbrev pub IsPrepared : Prepared → ℤ → Request → Timeline → Type 0
-IsPrepared p clock request tl = Leads p (step clock request tl) tl
+abbrev pub CommitsStep : Prepared → ℤ → Request → Timeline → Type 0
+CommitsStep p clock request tl = Commits p (step clock request tl) tl
 
 -- the reply prepared for the outcome of an act
-abbrev pub preparation : Result Planned Refusal → Prepared
-preparation (Ok (New change done)) =
+abbrev pub prepared_of : Result Planned Refusal → Prepared
+prepared_of (Ok (New change done)) =
     record { reply = reply.Done done; writing = Some (record { change = change; stamp = done.stamp }) }
-preparation (Ok (Repeat done)) = record { reply = reply.Done done; writing = None }
-preparation (Err refusal) = record { reply = reply.Refused (number_of refusal); writing = None }
+prepared_of (Ok (Repeat done)) = record { reply = reply.Done done; writing = None }
+prepared_of (Err refusal) = record { reply = reply.Refused (number_of refusal); writing = None }
 
 -- ---- the moment of a sheet
 
 -- a property of a reply's sheet, if the reply is one
-abbrev pub OnSheet : Reply → (View → Type 0) → Type 0
-OnSheet (reply.Object it) P = Unit {0}
-OnSheet (reply.Numbers it) P = Unit {0}
-OnSheet (reply.Sheet view) P = P view
-OnSheet (reply.Done it) P = Unit {0}
-OnSheet (reply.Denied rule) P = Unit {0}
-OnSheet (reply.Fault number) P = Unit {0}
-OnSheet (reply.Refused number) P = Unit {0}
-OnSheet (reply.Store number) P = Unit {0}
+abbrev pub IfSheet : Reply → (View → Type 0) → Type 0
+IfSheet (reply.Object it) P = Unit {0}
+IfSheet (reply.Numbers it) P = Unit {0}
+IfSheet (reply.Sheet view) P = P view
+IfSheet (reply.Done it) P = Unit {0}
+IfSheet (reply.Denied rule) P = Unit {0}
+IfSheet (reply.Fault number) P = Unit {0}
+IfSheet (reply.Refused number) P = Unit {0}
+IfSheet (reply.Store number) P = Unit {0}
 
 -- a sheet has this moment
-abbrev pub ShowsAt : ℤ → Reply → Type 0
-ShowsAt t r = OnSheet r (λ view. view.at ≡ t)
+abbrev pub SheetHasMoment : ℤ → Reply → Type 0
+SheetHasMoment t r = IfSheet r (λ view. view.at ≡ t)
 
 -- a sheet has the moment that the request states, or else a valid moment
-abbrev pub ShowsAsked : Ask → Reply → Type 0
-ShowsAsked a r = OnSheet r (λ view. MatchOption (at_of a) (IsMoment view.at) (λ named. view.at ≡ named))
+abbrev pub SheetHasRequestedMoment : Ask → Reply → Type 0
+SheetHasRequestedMoment a r = IfSheet r (λ view. MatchOption (at_of a) (IsMoment view.at) (λ named. view.at ≡ named))
 
 -- ---- replies and runs
 
 -- a closed store replies 503 and stays closed; an open one is closed only with reply 502
-abbrev pub TellsOf : (closed : Bool) → Reply → (closed_after : Bool) → Type 0
-TellsOf true r closed_after = (r ≡ reply.Store 503) × (closed_after ≡ true)
-TellsOf false r closed_after = closed_after ≡ true → r ≡ reply.Store 502
+abbrev pub ReportsClosing : (closed : Bool) → Reply → (closed_after : Bool) → Type 0
+ReportsClosing true r closed_after = (r ≡ reply.Store 503) × (closed_after ≡ true)
+ReportsClosing false r closed_after = closed_after ≡ true → r ≡ reply.Store 502
 
 -- a request is answered by an element, and the keeper then shows the element's timeline, unless it is closed
-abbrev pub IsAnswered : (closed : Bool) → ℤ → Request → Timeline → Reply → (shown : Timeline)
+abbrev pub AnswersByStep : (closed : Bool) → ℤ → Request → Timeline → Reply → (shown : Timeline)
     → (closed_after : Bool) → Type 0
-IsAnswered closed clock request tl r shown closed_after =
-    (new : Timeline) × Element closed clock request tl r new closed_after
+AnswersByStep closed clock request tl r shown closed_after =
+    (new : Timeline) × StepOrFault closed clock request tl r new closed_after
     × (closed_after ≡ false → shown ≡ new)
 
 -- the abstraction relation: closed and clock are the state's, and so is the timeline if the keeper is honest
 -- and open
-abbrev pub IsAt : {C : Type 0} → (honest : Type 0) → (closed : Bool) → (shown : Timeline) → (clock : C)
+abbrev pub IsStateOf : {C : Type 0} → (honest : Type 0) → (closed : Bool) → (shown : Timeline) → (clock : C)
     → State C → Type 0
-IsAt honest closed shown clock state =
-    (state.closed ≡ closed) × (state.clock ≡ clock) × (IsLive honest closed → shown ≡ state.timeline)
+IsStateOf honest closed shown clock state =
+    (state.closed ≡ closed) × (state.clock ≡ clock) × (IsHonestAndOpen honest closed → shown ≡ state.timeline)
 
 -- replies are a run of the machine from a state to one that the keeper represents
-abbrev pub RunsTo : {C : Type 0} → (C → ℤ → C → Type 0) → State C → List Request → List Reply
+abbrev pub RunsToState : {C : Type 0} → (C → ℤ → C → Type 0) → State C → List Request → List Reply
     → (honest : Type 0) → (closed : Bool) → (shown : Timeline) → (clock : C) → Type 0
-RunsTo {C} reads from requests replies honest closed shown clock =
-    (to : State C) × Run reads from requests replies to × IsAt honest closed shown clock to
+RunsToState {C} reads from requests replies honest closed shown clock =
+    (to : State C) × Run reads from requests replies to × IsStateOf honest closed shown clock to

@@ -15,7 +15,7 @@ use Rattle.land_keep.specs.Machine.{step, written, now_of, moment_of}
 use Rattle.land_keep.specs.Timeline.{Timeline, IsSoundTimeline, register_at, last_register}
 use Rattle.land_keep.specs.declared.store_fault.StoreFault.{StoreFault}
 use Rattle.land_keep.specs.declared.store_fault.StoreFault.TheVariants.{NoMemory}
-use Rattle.land_rules.specs.Alike.{IsRead, LookAlike}
+use Rattle.land_rules.specs.Alike.{IsReadRequest, LookAlike}
 
 -- a timeline stays sound after a change that may be written
 abbrev pub WritingKeepsSound : Type 0
@@ -28,8 +28,8 @@ PastStays = (tl : Timeline) (change : Change) (stamp t : ℤ) → t <ℤ stamp
     → register_at (written tl change stamp) t ≡ register_at tl t
 
 -- a change applies from its stamp
-abbrev pub ChangeStands : Type 0
-ChangeStands = (tl : Timeline) (change : Change) (stamp t : ℤ) → stamp ≤ℤ t
+abbrev pub ChangeApplies : Type 0
+ChangeApplies = (tl : Timeline) (change : Change) (stamp t : ℤ) → stamp ≤ℤ t
     → register_at (written tl change stamp) t ≡ after change (last_register tl)
 
 -- in each checked unit the shares of each type of right that occurs sum to 1, and so do those of each group's
@@ -51,15 +51,15 @@ ChangesKeepSharesWhole = (tl : Timeline) (change : Change) (stamp t : ℤ) → I
 
 -- if a keeper is open after a call, as one in memory always is, the only fault it can return is 501 (out of
 -- memory), never 502 or 503
-abbrev pub OpenKeepersLackMemoryAlone : Type 0
-OpenKeepersLackMemoryAlone = (closed : Bool) (fault : StoreFault)
+abbrev pub OpenKeepersFailOnlyForMemory : Type 0
+OpenKeepersFailOnlyForMemory = (closed : Bool) (fault : StoreFault)
     → Closes {T = Unit {0}} closed false (Err fault) → fault ≡ NoMemory
 
 -- the reply to a read depends only on now, the last register and the register at the requested moment, on
 -- nothing else of the timeline
-abbrev pub ReadsLookAtTwoRegisters : Type 0
-ReadsLookAtTwoRegisters = (clock : ℤ) (request : Request) (one other : Timeline)
-    → IsRead request.ask → now_of clock one ≡ now_of clock other → last_register one ≡ last_register other
+abbrev pub ReadsUseTwoRegisters : Type 0
+ReadsUseTwoRegisters = (clock : ℤ) (request : Request) (one other : Timeline)
+    → IsReadRequest request.ask → now_of clock one ≡ now_of clock other → last_register one ≡ last_register other
     → register_at one (moment_of request.ask (now_of clock one))
     ≡ register_at other (moment_of request.ask (now_of clock one))
     → (step clock request one).0 ≡ (step clock request other).0
@@ -68,10 +68,10 @@ ReadsLookAtTwoRegisters = (clock : ℤ) (request : Request) (one other : Timelin
 -- clock and the same now. If their last registers look alike to a caller, and so do their registers at the
 -- requested moment, even one before the first commit, then each view, list and sheet has the same reply in
 -- both, including the number of a denial.
-abbrev pub RepliesTellNothingUnseen : Type 0
-RepliesTellNothingUnseen = (clock other_clock : ℤ) (request : Request) (one other : Timeline)
+abbrev pub RepliesRevealNothingUnseen : Type 0
+RepliesRevealNothingUnseen = (clock other_clock : ℤ) (request : Request) (one other : Timeline)
     → IsSoundTimeline one → IsSoundTimeline other
-    → IsRead request.ask → now_of clock one ≡ now_of other_clock other
+    → IsReadRequest request.ask → now_of clock one ≡ now_of other_clock other
     → LookAlike (last_register one) (last_register other) request.caller
     → LookAlike (register_at one (moment_of request.ask (now_of clock one)))
     (register_at other (moment_of request.ask (now_of clock one))) request.caller

@@ -58,35 +58,35 @@ shown None = reply.Denied 27
 shown (Some it) = reply.Object it
 
 -- the reply to an allowed view; it depends only on the register at the requested moment
-abbrev pub viewed : (at : Register) → Kind → ℕ → Reply
-viewed at k number = shown (object_at at k number)
+abbrev pub view_reply : (at : Register) → Kind → ℕ → Reply
+view_reply at k number = shown (object_at at k number)
 
 -- the reply with a sheet; denied by rule 27 if the unit does not exist
-abbrev pub shown_sheet : Option View → Reply
-shown_sheet None = reply.Denied 27
-shown_sheet (Some it) = reply.Sheet it
+abbrev pub sheet_reply : Option View → Reply
+sheet_reply None = reply.Denied 27
+sheet_reply (Some it) = reply.Sheet it
 
 -- the timeline with a change of the last register appended
 abbrev pub written : Timeline → Change → ℤ → Timeline
 written tl change stamp = tl ++ record { stamp = stamp; register = after change (last_register tl) } ∷ []
 
 -- the result of an allowed act: a change applies from the stamp that its receipt states
-abbrev pub acted : Result Planned Refusal → Timeline → Next
-acted (Ok (New change done)) tl = (reply.Done done, written tl change done.stamp)
-acted (Ok (Repeat done)) tl = (reply.Done done, tl)
-acted (Err refusal) tl = (reply.Refused (number_of refusal), tl)
+abbrev pub outcome_next : Result Planned Refusal → Timeline → Next
+outcome_next (Ok (New change done)) tl = (reply.Done done, written tl change done.stamp)
+outcome_next (Ok (Repeat done)) tl = (reply.Done done, tl)
+outcome_next (Err refusal) tl = (reply.Refused (number_of refusal), tl)
 
 -- the result of an allowed request at moment t; an act reads only the last register
-abbrev pub allowed : (clock : ℤ) → Caller → Ask → (t : ℤ) → Timeline → Next
-allowed clock caller (ask.View k number at) t tl = (viewed (register_at tl t) k number, tl)
-allowed clock caller (ask.List k at) t tl = (reply.Numbers (seen_of (register_at tl t) caller k), tl)
-allowed clock caller (ask.Sheet unit at) t tl = (shown_sheet (view_at (register_at tl t) caller unit t), tl)
-allowed clock caller (ask.Do it) t tl = acted (outcome_of (last_register tl) caller it (stamp_of clock tl)) tl
+abbrev pub next_if_allowed : (clock : ℤ) → Caller → Ask → (t : ℤ) → Timeline → Next
+next_if_allowed clock caller (ask.View k number at) t tl = (view_reply (register_at tl t) k number, tl)
+next_if_allowed clock caller (ask.List k at) t tl = (reply.Numbers (seen_of (register_at tl t) caller k), tl)
+next_if_allowed clock caller (ask.Sheet unit at) t tl = (sheet_reply (view_at (register_at tl t) caller unit t), tl)
+next_if_allowed clock caller (ask.Do it) t tl = outcome_next (outcome_of (last_register tl) caller it (stamp_of clock tl)) tl
 
 -- the result by verdict; a denied request changes nothing
-abbrev pub judged : Verdict → Next → Timeline → Next
-judged Allowed next tl = next
-judged (Denied rule) next tl = (reply.Denied rule, tl)
+abbrev pub next_by_verdict : Verdict → Next → Timeline → Next
+next_by_verdict Allowed next tl = next
+next_by_verdict (Denied rule) next tl = (reply.Denied rule, tl)
 
 -- the verdict on a request at time `now`: standing rules read the last register, sight rules the one at the
 -- requested moment
@@ -101,17 +101,17 @@ step clock request tl =
     let now = now_of clock tl in
     let t = moment_of request.ask now in
     if int_lt now t then (reply.Fault 135, tl)
-    else judged (verdict_at tl request.caller request.ask now)
-    (allowed clock request.caller request.ask t tl) tl
+    else next_by_verdict (verdict_at tl request.caller request.ask now)
+    (next_if_allowed clock request.caller request.ask t tl) tl
 
 -- ---- runs, in which the store may fail
 
 -- one request: a step, or a store fault that changes nothing. 502 closes the store, and a closed store
 -- replies only 503
-abbrev pub Element : (closed : Bool) → ℤ → Request → Timeline → Reply → Timeline → (closed_after : Bool)
+abbrev pub StepOrFault : (closed : Bool) → ℤ → Request → Timeline → Reply → Timeline → (closed_after : Bool)
     → Type 0
-Element true clock request tl r new closed = (r ≡ reply.Store 503) × (new ≡ tl) × (closed ≡ true)
-Element false clock request tl r new closed =
+StepOrFault true clock request tl r new closed = (r ≡ reply.Store 503) × (new ≡ tl) × (closed ≡ true)
+StepOrFault false clock request tl r new closed =
     ((r ≡ (step clock request tl).0) × (new ≡ (step clock request tl).1) × (closed ≡ false))
     ⊎ ((r ≡ reply.Store 501) × (new ≡ tl) × (closed ≡ false))
     ⊎ ((r ≡ reply.Store 502) × (new ≡ tl) × (closed ≡ true))
@@ -127,7 +127,7 @@ abbrev pub Run : {C : Type 0} → (C → ℤ → C → Type 0) → State C → L
 Run reads from [] [] to = to ≡ from
 Run {C} reads from (request ∷ requests) (r ∷ replies) to =
     (reading : ℤ) × (mid : State C) × reads from.clock reading mid.clock
-    × Element from.closed reading request from.timeline r mid.timeline mid.closed
+    × StepOrFault from.closed reading request from.timeline r mid.timeline mid.closed
     × Run reads mid requests replies to
 Run reads from [] (r ∷ replies) to = ⊥
 Run reads from (request ∷ requests) [] to = ⊥

@@ -21,16 +21,16 @@ listed (object.Source it) = object.Source it
 listed (object.Mutation it) = object.Mutation it
 
 -- the name in the row of an object: that of the party of an entry; empty for another object
-abbrev pub name_beside : Register → Object → List ℕ
-name_beside r (object.Party it) = []
-name_beside r (object.Unit it) = []
-name_beside r (object.Parcel it) = []
-name_beside r (object.Rrr it) = name_at r it.party
-name_beside r (object.Source it) = []
-name_beside r (object.Mutation it) = []
+abbrev pub party_name_beside : Register → Object → List ℕ
+party_name_beside r (object.Party it) = []
+party_name_beside r (object.Unit it) = []
+party_name_beside r (object.Parcel it) = []
+party_name_beside r (object.Rrr it) = name_at r it.party
+party_name_beside r (object.Source it) = []
+party_name_beside r (object.Mutation it) = []
 
 abbrev pub named : Register → Object → NamedObject
-named r it = record { object = listed it; name = name_beside r it }
+named r it = record { object = listed it; name = party_name_beside r it }
 
 -- the object of a number, if it exists
 abbrev pub named_at : Register → Kind → (number : ℕ) → List NamedObject

@@ -14,14 +14,14 @@ use Rattle.land_keep.specs.declared.view.View.{View}
 use Rattle.land_rules.specs.Rules.{sees}
 
 -- a parcel with its number
-abbrev pub shown_parcel : ℕ → ParcelRecord → Parcel
-shown_parcel n p =
+abbrev pub numbered_parcel : ℕ → ParcelRecord → Parcel
+numbered_parcel n p =
     record { number = n; unit = p.unit; label = p.label; outline = p.outline; source = p.source }
 
 -- the parcels of a unit, ordered by number
 abbrev pub parcels_at : Register → (unit : ℕ) → List Parcel
 parcels_at at unit =
-    map_list (λ e. shown_parcel e.0 e.1) (filter (λ e. nat_eq e.1.unit unit) (map.entries at.parcels))
+    map_list (λ e. numbered_parcel e.0 e.1) (filter (λ e. nat_eq e.1.unit unit) (map.entries at.parcels))
 
 -- the name of a party; empty if it does not exist
 abbrev pub name_at : Register → (party : ℕ) → List ℕ
@@ -35,8 +35,8 @@ named_rrr at n e = record {
 }
 
 -- the entries of a unit that the caller sees, ordered by number
-abbrev pub entries_seen : Register → Caller → (unit : ℕ) → List NamedRrr
-entries_seen at caller unit =
+abbrev pub visible_entries : Register → Caller → (unit : ℕ) → List NamedRrr
+visible_entries at caller unit =
     map_list (λ e. named_rrr at e.0 e.1)
     (filter (λ e. nat_eq e.1.unit unit && sees at caller kind.Rrr e.0) (map.entries at.rrrs))
 
@@ -44,5 +44,5 @@ entries_seen at caller unit =
 abbrev pub view_at : Register → Caller → (unit : ℕ) → (moment : ℤ) → Option View
 view_at at caller unit moment =
     option_map
-    (λ u. record { unit = u; parcels = parcels_at at unit; rrrs = entries_seen at caller unit; at = moment })
+    (λ u. record { unit = u; parcels = parcels_at at unit; rrrs = visible_entries at caller unit; at = moment })
     (unit_at at unit)

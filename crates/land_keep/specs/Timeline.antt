@@ -42,18 +42,18 @@ abbrev pub last_register : Timeline → Register
 last_register tl = unwrap_or (option_map (λ v. v.register) (last_version tl)) nothing
 
 -- from a version on, stamps are strictly increasing and the next numbers never decrease
-abbrev pub Rises : Version → Timeline → Type 0
-Rises before [] = Unit {0}
-Rises before (v ∷ vs) = (before.stamp <ℤ v.stamp) × (before.register.next ≤ v.register.next) × Rises v vs
+abbrev pub IncreasesFrom : Version → Timeline → Type 0
+IncreasesFrom before [] = Unit {0}
+IncreasesFrom before (v ∷ vs) = (before.stamp <ℤ v.stamp) × (before.register.next ≤ v.register.next) × IncreasesFrom v vs
 
 -- the timeline has a version, and stamps are strictly increasing
-abbrev pub IsRising : Timeline → Type 0
-IsRising [] = ⊥
-IsRising (v ∷ vs) = Rises v vs
+abbrev pub IsIncreasing : Timeline → Type 0
+IsIncreasing [] = ⊥
+IsIncreasing (v ∷ vs) = IncreasesFrom v vs
 
 -- a sound timeline has a version, strictly increasing stamps that are moments, next numbers that never
 -- decrease, and sound registers
 pub record IsSoundTimeline (tl : Timeline) : Type 0 where
-  pub rising : IsRising tl
+  pub rising : IsIncreasing tl
   pub moments : AllByRecursion (λ v. IsMoment v.stamp) tl
   pub sound : AllByRecursion (λ v. IsSound v.register) tl

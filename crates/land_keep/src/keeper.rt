@@ -2,7 +2,7 @@
 ghost use Rattle.std.specs.Prelude.{◌≡◌, ◌≤ℤ◌, Bool, IfOk, IfSome, OnOk, OnErr};
 ghost use Rattle.land_acts.specs.Slices.{slice_of};
 ghost use Rattle.land_core.specs.Register.{object_at};
-ghost use Rattle.land_keep.specs.Keeping.{Closes, CanWrite, IsLive};
+ghost use Rattle.land_keep.specs.Keeping.{Closes, CanWrite, IsHonestAndOpen};
 ghost use Rattle.land_keep.specs.Machine.{verdict_at, moment_of, written};
 ghost use Rattle.land_keep.specs.Moments.{last_moment};
 ghost use Rattle.land_keep.specs.Named.{objects_at};
@@ -42,9 +42,9 @@ pub trait Keeper {
 
     /// Returns the stamp of the last accepted change; 0 in a new register.
     fn last(&self) -> i64
-        ensures last { IsLive (honest self.now) (closed self.now) → result ≡ last_stamp (timeline self.now) }
+        ensures last { IsHonestAndOpen (honest self.now) (closed self.now) → result ≡ last_stamp (timeline self.now) }
         ensures moment { result ≤ℤ last_moment }
-        ensures sound { IsLive (honest self.now) (closed self.now) → IsSoundTimeline (timeline self.now) };
+        ensures sound { IsHonestAndOpen (honest self.now) (closed self.now) → IsSoundTimeline (timeline self.now) };
 
     /// Whether the keeper is closed.
     fn is_closed(&self) -> bool
@@ -58,11 +58,11 @@ pub trait Keeper {
         ask: &Ask,
         now: i64,
     ) -> Result<Verdict, StoreFault>
-        requires last { IsLive (honest self.old) (closed self.old) → last_stamp (timeline self.old) ≤ℤ now }
+        requires last { IsHonestAndOpen (honest self.old) (closed self.old) → last_stamp (timeline self.old) ≤ℤ now }
         requires asked { moment_of ask.now now ≤ℤ now }
         ensures value { honest self.new
             → IfOk result (λ it. it ≡ verdict_at (timeline self.old) caller ask.now now) }
-        ensures same { IsLive (honest self.new) (closed self.new) → timeline self.new ≡ timeline self.old }
+        ensures same { IsHonestAndOpen (honest self.new) (closed self.new) → timeline self.new ≡ timeline self.old }
         ensures was { honest self.new → honest self.old }
         ensures closes { Closes (closed self.old) (closed self.new) result };
 
@@ -76,7 +76,7 @@ pub trait Keeper {
     ) -> Result<NumberList, StoreFault>
         ensures value { honest self.new
             → IfOk result (λ it. it ≡ seen_of (register_at (timeline self.old) at) caller kind) }
-        ensures same { IsLive (honest self.new) (closed self.new) → timeline self.new ≡ timeline self.old }
+        ensures same { IsHonestAndOpen (honest self.new) (closed self.new) → timeline self.new ≡ timeline self.old }
         ensures was { honest self.new → honest self.old }
         ensures closes { Closes (closed self.old) (closed self.new) result };
 
@@ -90,7 +90,7 @@ pub trait Keeper {
     ) -> Result<Option<Object>, StoreFault>
         ensures value { honest self.new
             → IfOk result (λ it. it ≡ object_at (register_at (timeline self.old) at) kind number) }
-        ensures same { IsLive (honest self.new) (closed self.new) → timeline self.new ≡ timeline self.old }
+        ensures same { IsHonestAndOpen (honest self.new) (closed self.new) → timeline self.new ≡ timeline self.old }
         ensures was { honest self.new → honest self.old }
         ensures closes { Closes (closed self.old) (closed self.new) result };
 
@@ -105,7 +105,7 @@ pub trait Keeper {
     ) -> Result<Sequence<NamedObject>, StoreFault>
         ensures value { honest self.new
             → IfOk result (λ it. it ≡ objects_at (register_at (timeline self.old) at) kind numbers.now) }
-        ensures same { IsLive (honest self.new) (closed self.new) → timeline self.new ≡ timeline self.old }
+        ensures same { IsHonestAndOpen (honest self.new) (closed self.new) → timeline self.new ≡ timeline self.old }
         ensures was { honest self.new → honest self.old }
         ensures closes { Closes (closed self.old) (closed self.new) result };
 
@@ -121,7 +121,7 @@ pub trait Keeper {
         ensures value { honest self.new
             → IfOk result (λ it. it ≡ view_at (register_at (timeline self.old) at) caller unit at) }
         ensures moment { IfOk result (λ it. IfSome it (λ view. view.at ≡ at)) }
-        ensures same { IsLive (honest self.new) (closed self.new) → timeline self.new ≡ timeline self.old }
+        ensures same { IsHonestAndOpen (honest self.new) (closed self.new) → timeline self.new ≡ timeline self.old }
         ensures was { honest self.new → honest self.old }
         ensures closes { Closes (closed self.old) (closed self.new) result };
 
@@ -129,17 +129,17 @@ pub trait Keeper {
     fn slice(&mut self, alloc: Global, caller: Caller, act: &Act) -> Result<Slice, StoreFault>
         ensures value { honest self.new
             → IfOk result (λ it. it ≡ slice_of (last_register (timeline self.old)) caller act.now) }
-        ensures same { IsLive (honest self.new) (closed self.new) → timeline self.new ≡ timeline self.old }
+        ensures same { IsHonestAndOpen (honest self.new) (closed self.new) → timeline self.new ≡ timeline self.old }
         ensures was { honest self.new → honest self.old }
         ensures closes { Closes (closed self.old) (closed self.new) result };
 
     /// Writes a change that an act makes on the last register, with its stamp.
     fn write(&mut self, alloc: Global, change: &Change, stamp: i64) -> Result<(), StoreFault>
-        requires { IsLive (honest self.old) (closed self.old)
+        requires { IsHonestAndOpen (honest self.old) (closed self.old)
             → CanWrite (timeline self.old) change.now stamp }
-        ensures ok { IsLive (honest self.new) (closed self.new)
+        ensures ok { IsHonestAndOpen (honest self.new) (closed self.new)
             → OnOk result (timeline self.new ≡ written (timeline self.old) change.now stamp) }
-        ensures err { IsLive (honest self.new) (closed self.new)
+        ensures err { IsHonestAndOpen (honest self.new) (closed self.new)
             → OnErr result (timeline self.new ≡ timeline self.old) }
         ensures was { honest self.new → honest self.old }
         ensures closes { Closes (closed self.old) (closed self.new) result };

@@ -4,14 +4,14 @@ ghost use Rattle.land_acts.specs.Outcome.{outcome_of};
 ghost use Rattle.land_core.specs.Acts.{is_well_formed, is_well_formed_request};
 ghost use Rattle.land_core.specs.Register.{holds};
 ghost use Rattle.land_keep.specs.Keepers.{LeavesTimeline, WasHonest, state_of};
-ghost use Rattle.land_keep.specs.Keeping.{Closes, CanFinish, IsAnswered, IsLive, IsPrepared, Leads, RunsTo};
-ghost use Rattle.land_keep.specs.Keeping.{ShowsAsked, ShowsAt, TellsOf, preparation, after_writing};
-ghost use Rattle.land_keep.specs.Machine.{stamp_of, allowed, acted};
+ghost use Rattle.land_keep.specs.Keeping.{Closes, CanFinish, AnswersByStep, IsHonestAndOpen, CommitsStep, Commits, RunsToState};
+ghost use Rattle.land_keep.specs.Keeping.{SheetHasRequestedMoment, SheetHasMoment, ReportsClosing, prepared_of, apply_pending};
+ghost use Rattle.land_keep.specs.Machine.{stamp_of, next_if_allowed, outcome_next};
 ghost use Rattle.land_keep.specs.Timeline.{last_register};
 
 use crate::clock::Clock;
 use crate::keeper::Keeper;
-use crate::moments::{named_moment, now_at, stamp_at};
+use crate::moments::{explicit_moment, now_at, stamp_at};
 use crate::prepared::{Prepared, Writing};
 use crate::reply::Reply;
 use crate::store_fault::StoreFault;
@@ -34,8 +34,8 @@ pub fn prepare<K: Keeper>(
 ) -> Result<Prepared, StoreFault>
     requires { is_well_formed_request request.now ≡ true }
     ensures prepared { K.honest keeper.new
-        → IfOk result (λ it. IsPrepared it clock request.now (K.timeline keeper.old)) }
-    ensures moment { IfOk result (λ it. ShowsAsked request.now.ask it.reply) }
+        → IfOk result (λ it. CommitsStep it clock request.now (K.timeline keeper.old)) }
+    ensures moment { IfOk result (λ it. SheetHasRequestedMoment request.now.ask it.reply) }
     ensures was { WasHonest K.Keeper keeper.old keeper.new }
     ensures same { LeavesTimeline K.Keeper keeper.old keeper.new }
     ensures closes { Closes (K.closed keeper.old) (K.closed keeper.new) result }
@@ -44,7 +44,7 @@ pub fn prepare<K: Keeper>(
         return Err(StoreFault::Closed);
     }
     let now = now_at(clock, keeper.last());
-    let at = named_moment(&request.ask).unwrap_or(now);
+    let at = explicit_moment(&request.ask).unwrap_or(now);
     if now < at {
         return Ok(without_change(Reply::Fault(135)));
     }
@@ -68,10 +68,10 @@ fn prepare_allowed<K: Keeper>(
         → holds (last_register (K.timeline keeper.old)) request.now.caller.party request.now.caller.role
         ≡ true }
     ensures prepared { K.honest keeper.new
-        → IfOk result (λ it. Leads it
-        (allowed clock request.now.caller request.now.ask at (K.timeline keeper.old))
+        → IfOk result (λ it. Commits it
+        (next_if_allowed clock request.now.caller request.now.ask at (K.timeline keeper.old))
         (K.timeline keeper.old)) }
-    ensures moment { IfOk result (λ it. ShowsAt at it.reply) }
+    ensures moment { IfOk result (λ it. SheetHasMoment at it.reply) }
     ensures was { WasHonest K.Keeper keeper.old keeper.new }
     ensures same { LeavesTimeline K.Keeper keeper.old keeper.new }
     ensures closes { Closes (K.closed keeper.old) (K.closed keeper.new) result }
@@ -111,11 +111,11 @@ fn prepare_act<K: Keeper>(
     requires well_formed { is_well_formed act.now ≡ true }
     requires role_held { K.honest keeper.old
         → holds (last_register (K.timeline keeper.old)) caller.party caller.role ≡ true }
-    ensures prepared { K.honest keeper.new → IfOk result (λ it. Leads it
-        (acted (outcome_of (last_register (K.timeline keeper.old)) caller act.now
+    ensures prepared { K.honest keeper.new → IfOk result (λ it. Commits it
+        (outcome_next (outcome_of (last_register (K.timeline keeper.old)) caller act.now
         (stamp_of clock (K.timeline keeper.old))) (K.timeline keeper.old))
         (K.timeline keeper.old)) }
-    ensures moment { IfOk result (λ it. (t : ℤ) → ShowsAt t it.reply) }
+    ensures moment { IfOk result (λ it. (t : ℤ) → SheetHasMoment t it.reply) }
     ensures was { WasHonest K.Keeper keeper.old keeper.new }
     ensures same { LeavesTimeline K.Keeper keeper.old keeper.new }
     ensures closes { Closes (K.closed keeper.old) (K.closed keeper.new) result }
@@ -123,12 +123,12 @@ fn prepare_act<K: Keeper>(
     let stamp = stamp_at(clock, keeper.last());
     let slice = keeper.slice(alloc, caller, act)?;
     slices_suffice();
-    prepared_by(plan(alloc, &slice, caller, act, stamp))
+    prepare_outcome(plan(alloc, &slice, caller, act, stamp))
 }
 
 /// Prepares the reply for the outcome of an act. Error: `NoMemory`.
-fn prepared_by(outcome: Result<Planned, Refusal>) -> Result<Prepared, StoreFault>
-    ensures ok { IfOk result (λ it. (outcome ≢ Err Refusal.NoMemory) × (it ≡ preparation outcome)) }
+fn prepare_outcome(outcome: Result<Planned, Refusal>) -> Result<Prepared, StoreFault>
+    ensures ok { IfOk result (λ it. (outcome ≢ Err Refusal.NoMemory) × (it ≡ prepared_of outcome)) }
     ensures err { OnErr result (result ≡ Err StoreFault.NoMemory) }
 {
     match outcome {
@@ -166,10 +166,10 @@ pub fn finish<K: Keeper>(
     requires open { K.closed keeper.old ≡ false }
     requires can_finish { K.honest keeper.old → CanFinish prepared (K.timeline keeper.old) }
     ensures reply { IfOk result (λ it. it ≡ prepared.reply) }
-    ensures ok { IsLive (K.honest keeper.new) (K.closed keeper.new)
-        → OnOk result (K.timeline keeper.new ≡ after_writing prepared.writing (K.timeline keeper.old)) }
+    ensures ok { IsHonestAndOpen (K.honest keeper.new) (K.closed keeper.new)
+        → OnOk result (K.timeline keeper.new ≡ apply_pending prepared.writing (K.timeline keeper.old)) }
     ensures was { WasHonest K.Keeper keeper.old keeper.new }
-    ensures err { IsLive (K.honest keeper.new) (K.closed keeper.new)
+    ensures err { IsHonestAndOpen (K.honest keeper.new) (K.closed keeper.new)
         → OnErr result (K.timeline keeper.new ≡ K.timeline keeper.old) }
     ensures closes { Closes (K.closed keeper.old) (K.closed keeper.new) result }
 {
@@ -185,10 +185,10 @@ pub fn finish<K: Keeper>(
 pub fn answer<K: Keeper>(alloc: Global, keeper: &mut K, clock: i64, request: &Request) -> Reply
     requires { is_well_formed_request request.now ≡ true }
     ensures answered { K.honest keeper.new
-        → IsAnswered (K.closed keeper.old) clock request.now (K.timeline keeper.old) result
+        → AnswersByStep (K.closed keeper.old) clock request.now (K.timeline keeper.old) result
         (K.timeline keeper.new) (K.closed keeper.new) }
     ensures was { WasHonest K.Keeper keeper.old keeper.new }
-    ensures tells { TellsOf (K.closed keeper.old) result (K.closed keeper.new) }
+    ensures tells { ReportsClosing (K.closed keeper.old) result (K.closed keeper.new) }
 {
     match prepare(alloc, keeper, clock, request) {
         Err(fault) => Reply::Store(fault.number()),
@@ -215,7 +215,7 @@ pub fn run<K: Keeper, C: Clock>(
     requests: &[Request],
 ) -> Result<Vec<Reply>, AllocError>
     requires { All (λ request. is_well_formed_request request ≡ true) requests.now }
-    ensures run { K.honest keeper.new → IfOk result (λ replies. RunsTo C.reads
+    ensures run { K.honest keeper.new → IfOk result (λ replies. RunsToState C.reads
         (state_of K.Keeper keeper.old clock.old)
         requests.now replies.items
         (K.honest keeper.new) (K.closed keeper.new) (K.timeline keeper.new) clock.new) }

@@ -27,7 +27,7 @@ pub(crate) fn stamp_at(clock: i64, last: i64) -> Option<i64>
 }
 
 /// Returns the moment that a request states, if any.
-pub fn named_moment(ask: &Ask) -> Option<i64>
+pub fn explicit_moment(ask: &Ask) -> Option<i64>
     ensures { result ≡ at_of ask.now }
 {
     match ask {

@@ -1,6 +1,6 @@
 //! Objects in lists, each with the name of its party.
 ghost use Rattle.std.specs.Prelude.{◌≡◌, IfOk};
-ghost use Rattle.land_keep.specs.Named.{listed, name_beside, objects_at};
+ghost use Rattle.land_keep.specs.Named.{listed, party_name_beside, objects_at};
 
 use crate::view::name_of;
 use land_core::kind::Kind;
@@ -46,8 +46,8 @@ fn listed(alloc: Global, object: Object) -> Object
 }
 
 /// Returns the name of an entry's party; an empty text for any other object.
-fn name_beside(alloc: Global, register: &Register, object: &Object) -> Result<Text, AllocError>
-    ensures { IfOk result (λ it. it ≡ name_beside register.now object.now) }
+fn party_name_beside(alloc: Global, register: &Register, object: &Object) -> Result<Text, AllocError>
+    ensures { IfOk result (λ it. it ≡ party_name_beside register.now object.now) }
 {
     match object {
         Object::Rrr(entry) => name_of(alloc, register, entry.party),
@@ -67,7 +67,7 @@ pub fn objects_of(
     let mut objects = Sequence::new(alloc);
     for number in numbers {
         if let Some(object) = register.object(alloc, kind, *number)? {
-            let name = name_beside(alloc, register, &object)?;
+            let name = party_name_beside(alloc, register, &object)?;
             let object = listed(alloc, object);
             objects.push(NamedObject { object, name })?;
         }

@@ -7,7 +7,7 @@ ghost use Rattle.land_keep.specs.Timeline.{register_at, last_register};
 
 use crate::keeper::Keeper;
 use crate::laws::writing_keeps_soundness;
-use crate::moments::named_moment;
+use crate::moments::explicit_moment;
 use crate::named::{NamedObject, objects_of};
 use crate::store_fault::StoreFault;
 use crate::timeline::Version;
@@ -138,7 +138,7 @@ impl Keeper for PlainKeeper {
         ask: &Ask,
         now: i64,
     ) -> Result<Verdict, StoreFault> {
-        let at = named_moment(ask).unwrap_or(now);
+        let at = explicit_moment(ask).unwrap_or(now);
         let nothing = Register::nothing(alloc);
         let last = self.last_register(&nothing);
         let then = self.register_at(at, &nothing);
@@ -202,7 +202,7 @@ impl Keeper for PlainKeeper {
     fn write(&mut self, alloc: Global, change: &Change, stamp: i64) -> Result<(), StoreFault> {
         let nothing = Register::nothing(alloc);
         let last = self.last_register(&nothing);
-        let register = last.changed(alloc, change)?;
+        let register = last.with_change(alloc, change)?;
         writing_keeps_soundness();
         self.append(Version { stamp, register })?;
         Ok(())

@@ -1,6 +1,6 @@
 //! A unit as a caller sees it at a moment: the data of a title sheet.
 ghost use Rattle.std.specs.Prelude.{◌≡◌, IfOk};
-ghost use Rattle.land_keep.specs.Sheets.{entries_seen, name_at, parcels_at, view_at};
+ghost use Rattle.land_keep.specs.Sheets.{visible_entries, name_at, parcels_at, view_at};
 
 use land_core::caller::Caller;
 use land_core::duplicate::Duplicate;
@@ -88,7 +88,7 @@ fn entries_of(
     caller: Caller,
     unit: u64,
 ) -> Result<Sequence<NamedRrr>, AllocError>
-    ensures { IfOk result (λ it. it ≡ entries_seen register.now caller unit) }
+    ensures { IfOk result (λ it. it ≡ visible_entries register.now caller unit) }
 {
     let mut entries = Sequence::new(alloc);
     for (number, entry) in register.rrrs.iter() {

@@ -3,8 +3,8 @@ use Rattle.std.proofs.Common.{◌≡◌, ℕ, Bool, true, false, refl, sym, ◌�
 use Rattle.std.specs.Prelude.{◌||◌}
 use Rattle.std.proofs.lemmas.Bool.{false≢true}
 use Rattle.land_rules.proofs.Denied.{none_from_allowed}
-use Rattle.land_rules.proofs.SightLaws.{may_ask}
-use Rattle.land_rules.specs.ActLaws.{AdministratorsDecideForOthers, LodgersDoNotDecide, to_approve, to_refuse}
+use Rattle.land_rules.proofs.SightLaws.{may_make_request}
+use Rattle.land_rules.specs.ActLaws.{AdministratorsDecideForOthers, LodgersDoNotDecide, approve_request, refuse_request}
 use Rattle.land_rules.specs.Rules.{Rules, denies, first_denial, is_allowed, rules_on}
 use Rattle.land_rules.specs.declared.verdict.Verdict.{Verdict}
 use Rattle.land_rules.specs.declared.verdict.Verdict.TheVariants.{Allowed, Denied}
@@ -24,12 +24,12 @@ last_denies false e = e
 
 pub lodgers_do_not_decide : LodgersDoNotDecide
 lodgers_do_not_decide now at caller number past h = record {
-  approval = denied_by 10 (rules_on now at caller (to_approve number) past) (last_denies _ h);
-  refusal = denied_by 10 (rules_on now at caller (to_refuse number) past) (last_denies _ h);
+  approval = denied_by 10 (rules_on now at caller (approve_request number) past) (last_denies _ h);
+  refusal = denied_by 10 (rules_on now at caller (refuse_request number) past) (last_denies _ h);
 }
 
 pub administrators_decide : AdministratorsDecideForOthers
 administrators_decide now at party number past asks = record {
-  approval = may_ask _ _ past _ asks;
-  refusal = may_ask _ _ past _ asks;
+  approval = may_make_request _ _ past _ asks;
+  refusal = may_make_request _ _ past _ asks;
 }

@@ -26,11 +26,11 @@ use Rattle.land_core.specs.declared.rrr.RrrRecord.{RrrRecord}
 use Rattle.land_rules.proofs.Seeing.{seen_exactly}
 use Rattle.land_rules.proofs.SightDenials.{party_stands, told_by_references}
 use Rattle.land_rules.proofs.SightLaws.{sees_lodged}
-use Rattle.land_rules.specs.Alike.{LookAlike, VerdictsTellNothingUnseen}
+use Rattle.land_rules.specs.Alike.{LookAlike, VerdictsRevealNothingUnseen}
 use Rattle.land_rules.specs.Circles.{circle_of, is_group_of, is_in_circle}
-use Rattle.land_rules.specs.Laws.{IsSoundOrNothing, is_itself, is_named_by_itself, rule_of_role}
-use Rattle.land_rules.specs.Relations.{is_lodger_of, is_lodger_on, is_pending_on}
-use Rattle.land_rules.specs.Rules.{first_denial, is_allowed, is_of_the_present, is_party_in_sight, is_rrr_in_sight, seen_of, sees, view_rules}
+use Rattle.land_rules.specs.Laws.{IsSoundOrNothing, views_itself, is_named_by_own_mutation, rule_of_role}
+use Rattle.land_rules.specs.Relations.{is_lodger_of, has_pending_mutation_on, is_pending_on}
+use Rattle.land_rules.specs.Rules.{first_denial, is_allowed, sees_only_present, is_party_in_sight, is_rrr_in_sight, seen_of, sees, view_rules}
 use Rattle.land_rules.specs.declared.verdict.Verdict.{Verdict}
 use Rattle.land_rules.specs.declared.verdict.Verdict.TheVariants.{Allowed, Denied}
 
@@ -99,7 +99,7 @@ mutation_is one other n e =
 abbrev conveyancer : ℕ → Caller
 conveyancer party = record { party = party; role = Conveyancer }
 
-lodger_forth : (one other : Register) (party unit : ℕ) → LookAlike one other (conveyancer party) → is_lodger_on one party unit ≡ true → is_lodger_on other party unit ≡ true
+lodger_forth : (one other : Register) (party unit : ℕ) → LookAlike one other (conveyancer party) → has_pending_mutation_on one party unit ≡ true → has_pending_mutation_on other party unit ≡ true
 lodger_forth one other party unit alike h =
     let it = some_passes nat_cmp_total nat_cmp-IsAntisymmetric (λ n m. is_pending_on party unit m) one.mutations h in
     let own : is_lodger_of party it.value ≡ true = (and_parts _ _ (and_parts _ _ it.passes).0).1 in
@@ -107,13 +107,13 @@ lodger_forth one other party unit alike h =
     let there = sym (mutation_is one other it.key (same_objects one other (conveyancer party) alike kind.Mutation it.key seen)) ∙ it.there in
     some_at nat_cmp_total nat_cmp-IsAntisymmetric (λ n m. is_pending_on party unit m) other.mutations it.key it.value there it.passes
 
-same_lodger : (one other : Register) (party unit : ℕ) → LookAlike one other (conveyancer party) → is_lodger_on one party unit ≡ is_lodger_on other party unit
+same_lodger : (one other : Register) (party unit : ℕ) → LookAlike one other (conveyancer party) → has_pending_mutation_on one party unit ≡ has_pending_mutation_on other party unit
 same_lodger one other party unit alike =
-    same_tests (is_lodger_on one party unit) (is_lodger_on other party unit) (lodger_forth one other party unit alike)
+    same_tests (has_pending_mutation_on one party unit) (has_pending_mutation_on other party unit) (lodger_forth one other party unit alike)
     (lodger_forth other one party unit (flip one other (conveyancer party) alike))
 
 same_named : (one other : Register) (party : ℕ) (role : Role) (k : Kind) (n : ℕ) → let caller : Caller = record { party = party; role = role } in
-    LookAlike one other caller → is_named_by_itself one caller k n ≡ is_named_by_itself other caller k n
+    LookAlike one other caller → is_named_by_own_mutation one caller k n ≡ is_named_by_own_mutation other caller k n
 same_named one other party role kind.Party n alike = refl
 same_named one other party Citizen kind.Unit n alike = refl
 same_named one other party Conveyancer kind.Unit n alike = same_lodger one other party n alike
@@ -132,8 +132,8 @@ pub same_view : (one other : Register) (caller : Caller) → IsSoundOrNothing on
     → first_denial (view_rules one caller k n) ≡ first_denial (view_rules other caller k n)
 same_view one other caller sound also alike k n =
     told_by_references one sound caller k n
-    ∙ ap (λ b. cond b Allowed (Denied (cond (is_named_by_itself one caller k n || is_itself caller k n) 27 (rule_of_role caller.role k)))) (same_sight one other caller alike k n)
-    ∙ ap (λ b. cond (sees other caller k n) Allowed (Denied (cond (b || is_itself caller k n) 27 (rule_of_role caller.role k)))) (same_named one other caller.party caller.role k n alike)
+    ∙ ap (λ b. cond b Allowed (Denied (cond (is_named_by_own_mutation one caller k n || views_itself caller k n) 27 (rule_of_role caller.role k)))) (same_sight one other caller alike k n)
+    ∙ ap (λ b. cond (sees other caller k n) Allowed (Denied (cond (b || views_itself caller k n) 27 (rule_of_role caller.role k)))) (same_named one other caller.party caller.role k n alike)
     ∙ sym (told_by_references other also caller k n)
 
 -- for a read, the standing rules read only the caller
@@ -143,13 +143,13 @@ asked stands holds late v = cond (not stands) (Denied 1) (cond (not holds) (Deni
 same_asked : (s t h i : Bool) (late : Bool) (v w : Verdict) → s ≡ t → h ≡ i → v ≡ w → asked s h late v ≡ asked t i late w
 same_asked s t h i late v w e f g = ap (λ b. asked b h late v) e ∙ ap (λ b. asked t b late v) f ∙ ap (asked t i late) g
 
-pub same_verdicts : VerdictsTellNothingUnseen
+pub same_verdicts : VerdictsRevealNothingUnseen
 same_verdicts now other_now at other_at caller (ask.View k n moment) past alike read =
-    same_asked _ _ _ _ (past && is_of_the_present caller) _ _ alike.last.party (alike.last.roles caller.role) (same_view at other_at caller alike.one alike.other alike.asked k n)
+    same_asked _ _ _ _ (past && sees_only_present caller) _ _ alike.last.party (alike.last.roles caller.role) (same_view at other_at caller alike.one alike.other alike.asked k n)
 same_verdicts now other_now at other_at caller (ask.List k moment) past alike read =
-    same_asked _ _ _ _ (past && is_of_the_present caller) Allowed Allowed alike.last.party (alike.last.roles caller.role) refl
+    same_asked _ _ _ _ (past && sees_only_present caller) Allowed Allowed alike.last.party (alike.last.roles caller.role) refl
 same_verdicts now other_now at other_at caller (ask.Sheet unit moment) past alike read =
-    same_asked _ _ _ _ (past && is_of_the_present caller) _ _ alike.last.party (alike.last.roles caller.role) (same_view at other_at caller alike.one alike.other alike.asked kind.Unit unit)
+    same_asked _ _ _ _ (past && sees_only_present caller) _ _ alike.last.party (alike.last.roles caller.role) (same_view at other_at caller alike.one alike.other alike.asked kind.Unit unit)
 same_verdicts now other_now at other_at caller (ask.Do it) past alike read = absurd read
 
 -- ---- the party of a visible entry is visible

@@ -7,8 +7,8 @@ use Rattle.land_core.proofs.Booleans.{or_nothing}
 use Rattle.land_core.specs.declared.register.Register.{Register}
 use Rattle.land_core.specs.declared.rrr.RrrRecord.{RrrRecord}
 use Rattle.land_rules.proofs.InCircles.{alone, told_together}
-use Rattle.land_rules.specs.Circles.{circle_of, is_group_of, is_held_by, is_in_circle, is_name_of, is_told_to_circle}
-use Rattle.land_rules.specs.Relations.{holds_as, is_holder, is_member_of, is_told_to_holder}
+use Rattle.land_rules.specs.Circles.{circle_of, is_group_of, is_held_by, is_in_circle, is_name_of, is_visible_to_circle}
+use Rattle.land_rules.specs.Relations.{holds_under_name, is_holder, is_member_of, is_visible_to_holder}
 
 module _ (at : Register) (none : at.mandates ≡ map.empty) (party : ℕ) where
   -- a condition that a member of the circle satisfies
@@ -21,11 +21,11 @@ module _ (at : Register) (none : at.mandates ≡ map.empty) (party : ℕ) where
   pub group_alone : (group : ℕ) → is_group_of at (circle_of at party) group ≡ is_member_of at party group
   group_alone group = one_alone (λ p. is_member_of at p group)
 
-  pub name_alone : (named : ℕ) → is_name_of at (circle_of at party) named ≡ holds_as at party named
-  name_alone named = one_alone (λ p. holds_as at p named)
+  pub name_alone : (named : ℕ) → is_name_of at (circle_of at party) named ≡ holds_under_name at party named
+  name_alone named = one_alone (λ p. holds_under_name at p named)
 
   pub held_alone : (unit : ℕ) → is_held_by at (circle_of at party) unit ≡ is_holder at party unit
   held_alone unit = one_alone (λ p. is_holder at p unit)
 
-  pub told_alone : (e : RrrRecord) → is_told_to_circle at (circle_of at party) e ≡ is_told_to_holder at party e
-  told_alone e = told_together at (circle_of at party) e ∙ one_alone (λ p. is_told_to_holder at p e)
+  pub told_alone : (e : RrrRecord) → is_visible_to_circle at (circle_of at party) e ≡ is_visible_to_holder at party e
+  told_alone e = told_together at (circle_of at party) e ∙ one_alone (λ p. is_visible_to_holder at p e)

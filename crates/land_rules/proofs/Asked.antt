@@ -15,10 +15,10 @@ use Rattle.land_core.specs.declared.content.Mortgage.{Mortgage}
 use Rattle.land_core.specs.declared.mandates.Mandate.{Mandate}
 use Rattle.land_core.specs.declared.register.Register.{Register}
 use Rattle.land_core.specs.declared.rrr.RrrRecord.{RrrRecord}
-use Rattle.land_rules.specs.ActLaws.{to_approve, to_refuse}
-use Rattle.land_rules.specs.Acts.{decides, is_discharge_of_another, is_mortgage_of, is_mortgage_of_another, is_of_a_mortgage, is_of_mandates, is_of_outlines, is_office_act, is_transfer, lodges, withdraws}
+use Rattle.land_rules.specs.ActLaws.{approve_request, refuse_request}
+use Rattle.land_rules.specs.Acts.{decides, is_discharge_of_another, is_mortgage_of, is_mortgage_of_another, changes_mortgages, is_mandate_act, changes_outlines, is_office_act, is_transfer, lodges, withdraws}
 use Rattle.land_rules.specs.Relations.{has_lodged, is_rrr_where}
-use Rattle.land_rules.specs.StandingLaws.{HasMortgage, IsOfTheOffice, Lodges, LodgesMortgageOrDischarge, LodgesSubdivisionOrMerger, LodgesTransfer, is_lodging}
+use Rattle.land_rules.specs.StandingLaws.{HasMortgage, IsOfficeRequest, Lodges, LodgesMortgageOrDischarge, LodgesSubdivisionOrMerger, LodgesTransfer, is_lodging_act}
 use Rattle.land_rules.proofs.StandingTests.{not_both}
 
 -- whether the request is an act that satisfies a condition
@@ -60,47 +60,47 @@ lodges_as_no_office passes a h =
     subst (λ (x : Ask). asks_for is_office_act x ≡ false) (sym it.lodged.asked) refl
 
 -- an act that is neither a lodging nor on a mandate is an act of the office, and lodges nothing
-lodging_or_office : (it : Act) → is_office_act it ≡ not (is_lodging it || is_of_mandates it)
+lodging_or_office : (it : Act) → is_office_act it ≡ not (is_lodging_act it || is_mandate_act it)
 lodging_or_office (act.Lodge it) = refl
 lodging_or_office (act.Mandate it) = refl
 lodging_or_office (act.Withdraw it) = refl
 lodging_or_office other = refl
 
-pub office_lodges_nothing : (passes : Content → Bool) (it : Act) → is_lodging it ≡ false → lodges passes it ≡ false
+pub office_lodges_nothing : (passes : Content → Bool) (it : Act) → is_lodging_act it ≡ false → lodges passes it ≡ false
 office_lodges_nothing passes (act.Lodge it) h = absurd (false≢true (sym h))
 office_lodges_nothing passes other h = refl
 
-pub of_the_office : (a : Ask) → asks_for is_office_act a ≡ true → IsOfTheOffice a
+pub of_the_office : (a : Ask) → asks_for is_office_act a ≡ true → IsOfficeRequest a
 of_the_office (ask.Do it) h =
     let parts = or_parts _ _ (not-true _ (sym (lodging_or_office it) ∙ h)) in
     record { act = it; asked = refl; no_lodging = parts.0; no_mandate = parts.1 }
 of_the_office other h = absurd (false≢true h)
 
-pub asks_the_office : (a : Ask) → IsOfTheOffice a → asks_for is_office_act a ≡ true
+pub asks_the_office : (a : Ask) → IsOfficeRequest a → asks_for is_office_act a ≡ true
 asks_the_office a it = subst (λ (x : Ask). asks_for is_office_act x ≡ true) (sym it.asked) (lodging_or_office it.act ∙ ap not (or_from _ _ it.no_lodging it.no_mandate))
 
 -- an act that is not on a mandate withdraws none
-pub withdraws_nothing : (passes : Mandate → Bool) (it : Act) → is_of_mandates it ≡ false → withdraws passes it ≡ false
+pub withdraws_nothing : (passes : Mandate → Bool) (it : Act) → is_mandate_act it ≡ false → withdraws passes it ≡ false
 withdraws_nothing passes (act.Withdraw it) h = absurd (false≢true (sym h))
 withdraws_nothing passes other h = refl
 
 -- a decision on a mutation that the party did not lodge
 pub decides_for_others : (now : Register) (party : ℕ) (it : Act)
-    → ((number : ℕ) → has_lodged now party number ≡ true → (ask.Do it ≢ to_approve number) × (ask.Do it ≢ to_refuse number))
+    → ((number : ℕ) → has_lodged now party number ≡ true → (ask.Do it ≢ approve_request number) × (ask.Do it ≢ refuse_request number))
     → decides (has_lodged now party) it ≡ false
 decides_for_others now party (act.Approve it) others = false_from_ne_true _ (λ h. (others it.mutation h).0 refl)
 decides_for_others now party (act.Refuse it) others = false_from_ne_true _ (λ h. (others it.mutation h).1 refl)
 decides_for_others now party other others = refl
 
-pub outlines_are_no_transfer : (c : Content) → is_of_outlines c ≡ true → is_transfer c ≡ false
+pub outlines_are_no_transfer : (c : Content) → changes_outlines c ≡ true → is_transfer c ≡ false
 outlines_are_no_transfer (content.Transfer it) h = absurd (false≢true h)
 outlines_are_no_transfer other h = refl
 
-pub mortgages_are_no_transfer : (c : Content) → is_of_a_mortgage c ≡ true → is_transfer c ≡ false
+pub mortgages_are_no_transfer : (c : Content) → changes_mortgages c ≡ true → is_transfer c ≡ false
 mortgages_are_no_transfer (content.Transfer it) h = absurd (false≢true h)
 mortgages_are_no_transfer other h = refl
 
-pub mortgages_are_no_outlines : (c : Content) → is_of_a_mortgage c ≡ true → is_of_outlines c ≡ false
+pub mortgages_are_no_outlines : (c : Content) → changes_mortgages c ≡ true → changes_outlines c ≡ false
 mortgages_are_no_outlines (content.Subdivision it) h = absurd (false≢true h)
 mortgages_are_no_outlines (content.Merger it) h = absurd (false≢true h)
 mortgages_are_no_outlines other h = refl
@@ -115,29 +115,29 @@ transfer_of a h = let it = lodging_of is_transfer a h in by_content it.content i
 pub lodges_transfer : (a : Ask) → LodgesTransfer a → asks_for (lodges is_transfer) a ≡ true
 lodges_transfer a (it, lodged) = lodges_it is_transfer a (content.Transfer it) lodged true refl
 
-pub outlines_of : (a : Ask) → asks_for (lodges is_of_outlines) a ≡ true → LodgesSubdivisionOrMerger a
-outlines_of a h = let it = lodging_of is_of_outlines a h in by_content it.content it.lodged it.meets
+pub outlines_of : (a : Ask) → asks_for (lodges changes_outlines) a ≡ true → LodgesSubdivisionOrMerger a
+outlines_of a h = let it = lodging_of changes_outlines a h in by_content it.content it.lodged it.meets
   where
-    by_content : (c : Content) → Lodges c a → is_of_outlines c ≡ true → LodgesSubdivisionOrMerger a
+    by_content : (c : Content) → Lodges c a → changes_outlines c ≡ true → LodgesSubdivisionOrMerger a
     by_content (content.Subdivision it) lodged h = inl (it, lodged)
     by_content (content.Merger it) lodged h = inr (it, lodged)
     by_content other lodged h = absurd (false≢true h)
 
-pub lodges_outlines : (a : Ask) → LodgesSubdivisionOrMerger a → asks_for (lodges is_of_outlines) a ≡ true
-lodges_outlines a (inl (it, lodged)) = lodges_it is_of_outlines a (content.Subdivision it) lodged true refl
-lodges_outlines a (inr (it, lodged)) = lodges_it is_of_outlines a (content.Merger it) lodged true refl
+pub lodges_outline_change : (a : Ask) → LodgesSubdivisionOrMerger a → asks_for (lodges changes_outlines) a ≡ true
+lodges_outline_change a (inl (it, lodged)) = lodges_it changes_outlines a (content.Subdivision it) lodged true refl
+lodges_outline_change a (inr (it, lodged)) = lodges_it changes_outlines a (content.Merger it) lodged true refl
 
-pub mortgage_or_discharge_of : (a : Ask) → asks_for (lodges is_of_a_mortgage) a ≡ true → LodgesMortgageOrDischarge a
-mortgage_or_discharge_of a h = let it = lodging_of is_of_a_mortgage a h in by_content it.content it.lodged it.meets
+pub mortgage_or_discharge_of : (a : Ask) → asks_for (lodges changes_mortgages) a ≡ true → LodgesMortgageOrDischarge a
+mortgage_or_discharge_of a h = let it = lodging_of changes_mortgages a h in by_content it.content it.lodged it.meets
   where
-    by_content : (c : Content) → Lodges c a → is_of_a_mortgage c ≡ true → LodgesMortgageOrDischarge a
+    by_content : (c : Content) → Lodges c a → changes_mortgages c ≡ true → LodgesMortgageOrDischarge a
     by_content (content.Mortgage it) lodged h = inl (it, lodged)
     by_content (content.Discharge it) lodged h = inr (it, lodged)
     by_content other lodged h = absurd (false≢true h)
 
-pub lodges_mortgage_or_discharge : (a : Ask) → LodgesMortgageOrDischarge a → asks_for (lodges is_of_a_mortgage) a ≡ true
-lodges_mortgage_or_discharge a (inl (it, lodged)) = lodges_it is_of_a_mortgage a (content.Mortgage it) lodged true refl
-lodges_mortgage_or_discharge a (inr (it, lodged)) = lodges_it is_of_a_mortgage a (content.Discharge it) lodged true refl
+pub lodges_mortgage_or_discharge : (a : Ask) → LodgesMortgageOrDischarge a → asks_for (lodges changes_mortgages) a ≡ true
+lodges_mortgage_or_discharge a (inl (it, lodged)) = lodges_it changes_mortgages a (content.Mortgage it) lodged true refl
+lodges_mortgage_or_discharge a (inr (it, lodged)) = lodges_it changes_mortgages a (content.Discharge it) lodged true refl
 
 -- a mortgage of another creditor, and a discharge of a number at which the party has no mortgage
 pub record LodgesForAnother (party : ℕ) (a : Ask) : Type 0 where

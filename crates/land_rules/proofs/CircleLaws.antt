@@ -19,9 +19,9 @@ use Rattle.land_rules.proofs.InCircles.{named_together, no_principals, told_toge
 use Rattle.land_rules.proofs.Seeing.{seen_exactly}
 use Rattle.land_rules.proofs.SomeOf.{and_any, any_alike, any_and, any_either, any_none, any_or, any_same}
 use Rattle.land_rules.specs.CircleLaws.{CirclesSeeTogether, MandatesServeCitizens, without_mandates}
-use Rattle.land_rules.specs.Circles.{circle_of, is_group_of, is_held_by, is_told_to_circle, names_held_by, principals_of}
+use Rattle.land_rules.specs.Circles.{circle_of, is_group_of, is_held_by, is_visible_to_circle, names_held_by, principals_of}
 use Rattle.land_rules.specs.Laws.{citizen}
-use Rattle.land_rules.specs.Relations.{is_holder, is_member_of, is_mutation_where, is_rrr_where, is_told_to_holder, names_holding}
+use Rattle.land_rules.specs.Relations.{is_holder, is_member_of, is_mutation_where, is_rrr_where, is_visible_to_holder, names_holding}
 use Rattle.land_rules.specs.Rules.{is_allowed, seen_of, sees, view_rules}
 use Rattle.land_rules.specs.declared.verdict.Verdict.TheVariants.{Allowed, Denied}
 
@@ -46,20 +46,20 @@ any_there all one circle same (Some v) = same v
 module _ (at : Register) where
   -- the objects that a circle sees
   abbrev sees_met : (circle : List ℕ) (party : ℕ) → Bool
-  sees_met circle party = some (λ n e. nat_eq e.party party && is_allowed (cond (not (is_rrr_where (is_told_to_circle at circle) at n)) (Denied 12) (cond (not (stands at kind.Rrr n)) (Denied 27) Allowed))) at.rrrs
+  sees_met circle party = some (λ n e. nat_eq e.party party && is_allowed (cond (not (is_rrr_where (is_visible_to_circle at circle) at n)) (Denied 12) (cond (not (stands at kind.Rrr n)) (Denied 27) Allowed))) at.rrrs
 
   abbrev circle_sees : (circle : List ℕ) → Kind → (number : ℕ) → Bool
   circle_sees circle kind.Party n =
       is_allowed (cond (not (list_any (nat_eq n) circle || is_group_of at circle n || sees_met circle n)) (Denied 13) (cond (not (stands at kind.Party n)) (Denied 27) Allowed))
   circle_sees circle kind.Unit n = is_allowed (cond (not (is_held_by at circle n)) (Denied 11) (cond (not (stands at kind.Unit n)) (Denied 27) Allowed))
   circle_sees circle kind.Parcel n = is_allowed (cond (not (stands at kind.Parcel n)) (Denied 27) Allowed)
-  circle_sees circle kind.Rrr n = is_allowed (cond (not (is_rrr_where (is_told_to_circle at circle) at n)) (Denied 12) (cond (not (stands at kind.Rrr n)) (Denied 27) Allowed))
+  circle_sees circle kind.Rrr n = is_allowed (cond (not (is_rrr_where (is_visible_to_circle at circle) at n)) (Denied 12) (cond (not (stands at kind.Rrr n)) (Denied 27) Allowed))
   circle_sees circle kind.Source n = false
   circle_sees circle kind.Mutation n = is_allowed (cond (not (is_mutation_where (names_held_by at circle) at n)) (Denied 14) (cond (not (stands at kind.Mutation n)) (Denied 27) Allowed))
 
   -- the objects that one party sees by itself
   abbrev is_told : (party number : ℕ) → Bool
-  is_told p n = is_rrr_where (is_told_to_holder at p) at n
+  is_told p n = is_rrr_where (is_visible_to_holder at p) at n
 
   abbrev meets : (party number : ℕ) → Bool
   meets p q = some (λ n e. nat_eq e.party q && is_told p n) at.rrrs
@@ -69,8 +69,8 @@ module _ (at : Register) where
 
   entries_together : (n : ℕ) (circle : List ℕ) → circle_sees circle kind.Rrr n ≡ list_any (λ p. is_told p n) circle
   entries_together n circle =
-      passes_there (is_told_to_circle at circle) (map.get at.rrrs n) 12
-      ∙ any_there (is_told_to_circle at circle) (is_told_to_holder at) circle (told_together at circle) (map.get at.rrrs n)
+      passes_there (is_visible_to_circle at circle) (map.get at.rrrs n) 12
+      ∙ any_there (is_visible_to_circle at circle) (is_visible_to_holder at) circle (told_together at circle) (map.get at.rrrs n)
 
   mutations_together : (n : ℕ) (circle : List ℕ) → circle_sees circle kind.Mutation n ≡ list_any (λ p. is_mutation_where (names_holding at p) at n) circle
   mutations_together n circle =

@@ -14,7 +14,7 @@ use Rattle.land_rules.proofs.CircleLaws.{passes_both}
 use Rattle.land_rules.proofs.InCircles.{names_in_parts}
 use Rattle.land_rules.proofs.SomeOf.{any_says}
 use Rattle.land_rules.specs.Circles.{circle_of, is_group_of, is_held_by, is_in_circle, is_name_of}
-use Rattle.land_rules.specs.Holdings.{is_its_name, meets_parties}
+use Rattle.land_rules.specs.Holdings.{is_name_of_caller, sees_parties_of_entries}
 use Rattle.land_rules.specs.Laws.{citizen}
 use Rattle.land_rules.specs.Relations.{is_holder}
 use Rattle.land_rules.specs.Rules.{is_allowed, is_party_in_sight, sees}
@@ -50,8 +50,8 @@ module _ (at : Register) (caller : Caller) (role : caller.role ≡ Citizen) wher
 of_others : (itself met there : Bool) (k : ℕ) → is_allowed (cond (not (itself || met)) (Denied k) (cond (not there) (Denied 27) Allowed)) ≡ (there && (itself || met))
 of_others itself met there k = passes_both (itself || met) there k ∙ and_turned (itself || met) there
 
-by_role : (at : Register) (party : ℕ) (role : Role) → let caller : Caller = record { party = party; role = role } in meets_parties caller ≡ true → (n : ℕ)
-    → sees at caller kind.Party n ≡ (stands at kind.Party n && (is_its_name role at party n || is_party_in_sight at caller n))
+by_role : (at : Register) (party : ℕ) (role : Role) → let caller : Caller = record { party = party; role = role } in sees_parties_of_entries caller ≡ true → (n : ℕ)
+    → sees at caller kind.Party n ≡ (stands at kind.Party n && (is_name_of_caller role at party n || is_party_in_sight at caller n))
 by_role at party Citizen h n = party_of_citizen at party n
 by_role at party Conveyancer h n = let caller : Caller = record { party = party; role = Conveyancer } in
     of_others (nat_eq n party) (is_party_in_sight at caller n) (stands at kind.Party n) 21
@@ -61,6 +61,6 @@ by_role at party Bank h n = let caller : Caller = record { party = party; role =
 by_role at party CertifiedSurveyor h n = absurd (false≢true h)
 by_role at party StateAdministrator h n = absurd (false≢true h)
 
-pub sees_named : (at : Register) (caller : Caller) → meets_parties caller ≡ true → (n : ℕ)
-    → sees at caller kind.Party n ≡ (stands at kind.Party n && (is_its_name caller.role at caller.party n || is_party_in_sight at caller n))
+pub sees_named : (at : Register) (caller : Caller) → sees_parties_of_entries caller ≡ true → (n : ℕ)
+    → sees at caller kind.Party n ≡ (stands at kind.Party n && (is_name_of_caller caller.role at caller.party n || is_party_in_sight at caller n))
 sees_named at caller h n = by_role at caller.party caller.role h n

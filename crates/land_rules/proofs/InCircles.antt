@@ -12,7 +12,7 @@ use Rattle.land_core.proofs.Booleans.{same_tests}
 use Rattle.land_core.proofs.FiniteMaps.{nothing_from_length}
 use Rattle.land_core.proofs.FiniteSets.{exact_mandates, mandates_total}
 use Rattle.land_core.proofs.Reflection.{list_any-map, some_at, some_passes}
-use Rattle.land_core.specs.Contents.{names_where}
+use Rattle.land_core.specs.Contents.{refers_to_unit_where}
 use Rattle.land_core.specs.Entries.{has, some}
 use Rattle.land_core.specs.Mandates.{has_mandate, mandate_cmp, mandate_of, mandates_in}
 use Rattle.land_core.specs.Members.{Members}
@@ -27,10 +27,10 @@ use Rattle.land_core.specs.declared.rrr.RightType.TheVariants.{Ownership}
 use Rattle.land_core.specs.declared.rrr.RrrRecord.{RrrRecord}
 use Rattle.land_rules.proofs.SightLaws.{owner_is_holder}
 use Rattle.land_rules.proofs.SomeOf.{and_any, any_alike, any_and, any_either, any_implied, any_kept, any_none, any_or}
-use Rattle.land_rules.specs.CircleLaws.{AloneWithoutMandates, CirclesAreOfMandates}
-use Rattle.land_rules.specs.Circles.{is_held_by, is_name_of, is_owned_by, is_told_to_circle, principals_of}
+use Rattle.land_rules.specs.CircleLaws.{CirclesWithoutMandates, CirclesAreOfMandates}
+use Rattle.land_rules.specs.Circles.{is_held_by, is_name_of, is_owned_by, is_visible_to_circle, principals_of}
 use Rattle.land_rules.specs.Holdings.{has_member_among, is_name_among}
-use Rattle.land_rules.specs.Relations.{holds_as, is_holder, is_member_of, is_mortgage, is_owner, is_right, is_told_to_holder}
+use Rattle.land_rules.specs.Relations.{holds_under_name, is_holder, is_member_of, is_mortgage, is_owner, is_right, is_visible_to_holder}
 
 -- ---- principals
 
@@ -79,7 +79,7 @@ pub no_principals : (at : Register) (party : ℕ) → at.mandates ≡ map.empty 
 unfolding mandates_in
 no_principals at party none = ap (λ es. map_list (λ (m : Mandate). m.principal) (filter (λ m. nat_eq m.agent party) (map_list (λ e. e.0) es))) (ap map.entries none ∙ none_in)
 
-pub alone : AloneWithoutMandates
+pub alone : CirclesWithoutMandates
 alone at party none = ap (λ ps. party ∷ ps) (no_principals at party none)
 
 -- ---- relations of the members of a circle
@@ -91,7 +91,7 @@ implied false false h = refl
 
 module _ (at : Register) (circle : List ℕ) where
   -- a circle sees an entry exactly if a member sees it as a holder
-  pub told_together : (e : RrrRecord) → is_told_to_circle at circle e ≡ list_any (λ p. is_told_to_holder at p e) circle
+  pub told_together : (e : RrrRecord) → is_visible_to_circle at circle e ≡ list_any (λ p. is_visible_to_holder at p e) circle
   told_together e = by_class (is_mortgage e.class)
     where
       by_class : (m : Bool) → (is_held_by at circle e.unit && (not m || is_owned_by at circle e.unit)) ≡ list_any (λ p. is_holder at p e.unit && (not m || is_owner at p e.unit)) circle
@@ -100,7 +100,7 @@ module _ (at : Register) (circle : List ℕ) where
           implied (is_held_by at circle e.unit) (is_owned_by at circle e.unit) (any_implied (λ p. is_holder at p e.unit) (λ p. is_owner at p e.unit) (λ p. owner_is_holder at p e.unit) circle)
           ∙ any_alike (λ p. is_owner at p e.unit) (λ p. is_holder at p e.unit && is_owner at p e.unit) (λ p. sym (implied (is_holder at p e.unit) (is_owner at p e.unit) (owner_is_holder at p e.unit))) circle
 
-  pub named_together : (c : Content) → names_where (is_held_by at circle) c ≡ list_any (λ p. names_where (is_holder at p) c) circle
+  pub named_together : (c : Content) → refers_to_unit_where (is_held_by at circle) c ≡ list_any (λ p. refers_to_unit_where (is_holder at p) c) circle
   named_together (content.Transfer it) = refl
   named_together (content.Subdivision it) = refl
   named_together (content.Merger it) =
@@ -111,14 +111,14 @@ module _ (at : Register) (circle : List ℕ) where
 
   -- ---- relations by name
 
-  by_names : (is_of : RrrRecord → Bool) (unit : ℕ) → list_any (λ p. stands at kind.Unit unit && some (λ n e. is_of e && holds_as at p e.party) at.rrrs) circle
+  by_names : (is_of : RrrRecord → Bool) (unit : ℕ) → list_any (λ p. stands at kind.Unit unit && some (λ n e. is_of e && holds_under_name at p e.party) at.rrrs) circle
       ≡ (stands at kind.Unit unit && some (λ n e. is_of e && is_name_of at circle e.party) at.rrrs)
   by_names is_of unit =
-      sym (and_any (stands at kind.Unit unit) (λ p. some (λ n e. is_of e && holds_as at p e.party) at.rrrs) circle)
+      sym (and_any (stands at kind.Unit unit) (λ p. some (λ n e. is_of e && holds_under_name at p e.party) at.rrrs) circle)
       ∙ ap (λ b. stands at kind.Unit unit && b)
-      (any_either (λ p e. is_of e.1 && holds_as at p e.1.party) circle (map.entries at.rrrs)
-      ∙ any_alike (λ e. list_any (λ p. is_of e.1 && holds_as at p e.1.party) circle) (λ e. is_of e.1 && is_name_of at circle e.1.party)
-      (λ e. sym (and_any (is_of e.1) (λ p. holds_as at p e.1.party) circle)) (map.entries at.rrrs))
+      (any_either (λ p e. is_of e.1 && holds_under_name at p e.1.party) circle (map.entries at.rrrs)
+      ∙ any_alike (λ e. list_any (λ p. is_of e.1 && holds_under_name at p e.1.party) circle) (λ e. is_of e.1 && is_name_of at circle e.1.party)
+      (λ e. sym (and_any (is_of e.1) (λ p. holds_under_name at p e.1.party) circle)) (map.entries at.rrrs))
 
   pub held_by_names : (unit : ℕ) → is_held_by at circle unit ≡ (stands at kind.Unit unit && some (λ n e. nat_eq e.unit unit && is_right e.class && is_name_of at circle e.party) at.rrrs)
   held_by_names unit = by_names (λ e. nat_eq e.unit unit && is_right e.class) unit

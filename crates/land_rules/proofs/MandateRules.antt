@@ -21,10 +21,10 @@ use Rattle.land_rules.proofs.Denied.{none_from_allowed, verdicts_least}
 use Rattle.land_rules.proofs.StandingLaws.{none_of_three}
 use Rattle.land_rules.proofs.StandingRules.{allows, may}
 use Rattle.land_rules.proofs.StandingTests.{not_both}
-use Rattle.land_rules.specs.Acts.{decides, is_between_others, is_discharge_of_another, is_mortgage_of_another, is_of_a_mortgage, is_of_mandates, is_of_mortgages, is_of_outlines, is_of_transfers, is_office_act, is_transfer, lodges, withdraws}
+use Rattle.land_rules.specs.Acts.{decides, is_between_others, is_discharge_of_another, is_mortgage_of_another, changes_mortgages, is_mandate_act, may_lodge_mortgages, changes_outlines, may_lodge_transfers, is_office_act, is_transfer, lodges, withdraws}
 use Rattle.land_rules.specs.Relations.{has_lodged}
 use Rattle.land_rules.specs.Rules.{Rules, caller_rules, denies, first_denial, rules_on, verdict_of}
-use Rattle.land_rules.specs.StandingLaws.{CitizensGiveMandates, IsLeftTo, IsOnItsMandate, IsOnMandate, IsPartyTo, WithdrawsMandate, may_ask}
+use Rattle.land_rules.specs.StandingLaws.{CitizensGiveMandates, IsReservedTo, ActsOnOwnMandate, ActsOnMandate, IsPartyTo, WithdrawsMandate, may_make_request}
 use Rattle.land_rules.specs.declared.verdict.Verdict.TheVariants.{Allowed, Denied}
 
 -- a rule that denies if none of those before it does
@@ -37,29 +37,29 @@ first_of (rule ∷ before) k b later none here =
 
 -- ---- an act on a mandate is not an act of the office, a lodging or a decision
 
-no_office : (it : Act) → is_of_mandates it ≡ true → is_office_act it ≡ false
+no_office : (it : Act) → is_mandate_act it ≡ true → is_office_act it ≡ false
 no_office (act.Mandate it) h = refl
 no_office (act.Withdraw it) h = refl
 no_office other h = absurd (false≢true h)
 
-no_lodging : (passes : Content → Bool) (it : Act) → is_of_mandates it ≡ true → lodges passes it ≡ false
+no_lodging : (passes : Content → Bool) (it : Act) → is_mandate_act it ≡ true → lodges passes it ≡ false
 no_lodging passes (act.Mandate it) h = refl
 no_lodging passes (act.Withdraw it) h = refl
 no_lodging passes other h = absurd (false≢true h)
 
-no_decision : (passes : ℕ → Bool) (it : Act) → is_of_mandates it ≡ true → decides passes it ≡ false
+no_decision : (passes : ℕ → Bool) (it : Act) → is_mandate_act it ≡ true → decides passes it ≡ false
 no_decision passes (act.Mandate it) h = refl
 no_decision passes (act.Withdraw it) h = refl
 no_decision passes other h = absurd (false≢true h)
 
-on_mandate : (a : Ask) → asks_for is_of_mandates a ≡ true → IsOnMandate a
+on_mandate : (a : Ask) → asks_for is_mandate_act a ≡ true → ActsOnMandate a
 on_mandate (ask.Do (act.Mandate it)) h = inl (it, refl)
 on_mandate (ask.Do (act.Withdraw it)) h = inr (it, refl)
 on_mandate other h = absurd (false≢true h)
 
-is_on : (a : Ask) → IsOnMandate a → asks_for is_of_mandates a ≡ true
-is_on a (inl (it, asked)) = subst (λ (x : Ask). asks_for is_of_mandates x ≡ true) (sym asked) refl
-is_on a (inr (it, asked)) = subst (λ (x : Ask). asks_for is_of_mandates x ≡ true) (sym asked) refl
+is_on : (a : Ask) → ActsOnMandate a → asks_for is_mandate_act a ≡ true
+is_on a (inl (it, asked)) = subst (λ (x : Ask). asks_for is_mandate_act x ≡ true) (sym asked) refl
+is_on a (inr (it, asked)) = subst (λ (x : Ask). asks_for is_mandate_act x ≡ true) (sym asked) refl
 
 -- ---- principals and agents
 
@@ -84,7 +84,7 @@ withdrawal party other h = absurd (false≢true h)
 module _ (now at : Register) (caller : Caller) (past : Bool) where
   -- ---- rules 28 and 29 on any request
 
-  rule_28 : (a : Ask) → denies 28 (rules_on now at caller a past) ≡ (asks_for is_of_mandates a && not (is_role caller.role Citizen))
+  rule_28 : (a : Ask) → denies 28 (rules_on now at caller a past) ≡ (asks_for is_mandate_act a && not (is_role caller.role Citizen))
   rule_28 (ask.View kind.Party number moment) = refl
   rule_28 (ask.View kind.Unit number moment) = refl
   rule_28 (ask.View kind.Parcel number moment) = refl
@@ -112,48 +112,48 @@ module _ (now at : Register) (caller : Caller) (past : Bool) where
   earlier it =
       caller_rules now caller past
       ++ ((4, is_office_act it && not (is_role caller.role StateAdministrator))
-      ∷ (5, lodges is_transfer it && not (is_of_transfers caller))
-      ∷ (6, lodges is_of_outlines it && not (is_role caller.role CertifiedSurveyor))
-      ∷ (7, lodges is_of_a_mortgage it && not (is_of_mortgages caller))
+      ∷ (5, lodges is_transfer it && not (may_lodge_transfers caller))
+      ∷ (6, lodges changes_outlines it && not (is_role caller.role CertifiedSurveyor))
+      ∷ (7, lodges changes_mortgages it && not (may_lodge_mortgages caller))
       ∷ (8, is_role caller.role Bank && lodges (is_mortgage_of_another caller.party) it)
       ∷ (9, is_role caller.role Bank && lodges (is_discharge_of_another now caller.party) it)
       ∷ (10, decides (has_lodged now caller.party) it)
       ∷ [])
 
   abbrev of_role : Act → ℕ × Bool
-  of_role it = (28, is_of_mandates it && not (is_role caller.role Citizen))
+  of_role it = (28, is_mandate_act it && not (is_role caller.role Citizen))
 
   abbrev of_parties : Act → ℕ × Bool
   of_parties it = (29, withdraws (is_between_others caller.party) it)
 
-  quiet : (it : Act) → is_of_mandates it ≡ true → may_ask now caller past ≡ true → list_any (λ rule. rule.1) (earlier it) ≡ false
+  quiet : (it : Act) → is_mandate_act it ≡ true → may_make_request now caller past ≡ true → list_any (λ rule. rule.1) (earlier it) ≡ false
   quiet it is asker =
       none_of_three now at caller past asker _
       (or_from _ _ (and_left _ _ (no_office it is))
       (or_from _ _ (and_left _ _ (no_lodging is_transfer it is))
-      (or_from _ _ (and_left _ _ (no_lodging is_of_outlines it is))
-      (or_from _ _ (and_left _ _ (no_lodging is_of_a_mortgage it is))
+      (or_from _ _ (and_left _ _ (no_lodging changes_outlines it is))
+      (or_from _ _ (and_left _ _ (no_lodging changes_mortgages it is))
       (or_from _ _ (and_right _ _ (no_lodging (is_mortgage_of_another caller.party) it is))
       (or_from _ _ (and_right _ _ (no_lodging (is_discharge_of_another now caller.party) it is))
       (or_from _ _ (no_decision (has_lodged now caller.party) it is) refl)))))))
 
-  out_of_role : (it : Act) → is_of_mandates it ≡ true → may_ask now caller past ≡ true → is_role caller.role Citizen ≡ false
+  out_of_role : (it : Act) → is_mandate_act it ≡ true → may_make_request now caller past ≡ true → is_role caller.role Citizen ≡ false
       → verdict_of now at caller (ask.Do it) past ≡ Denied 28
   out_of_role it is asker other =
-      first_of (earlier it) 28 (is_of_mandates it && not (is_role caller.role Citizen)) (of_parties it ∷ []) (quiet it is asker) (and_from _ _ is (ap not other))
+      first_of (earlier it) 28 (is_mandate_act it && not (is_role caller.role Citizen)) (of_parties it ∷ []) (quiet it is asker) (and_from _ _ is (ap not other))
 
-  quiet_in_role : (it : Act) → is_of_mandates it ≡ true → may_ask now caller past ≡ true → is_role caller.role Citizen ≡ true
+  quiet_in_role : (it : Act) → is_mandate_act it ≡ true → may_make_request now caller past ≡ true → is_role caller.role Citizen ≡ true
       → list_any (λ rule. rule.1) (earlier it ++ (of_role it ∷ [])) ≡ false
   quiet_in_role it is asker citizen =
       list_any-append (λ rule. rule.1) (earlier it) (of_role it ∷ [])
       ∙ or_from _ _ (quiet it is asker) (or_from _ _ (and_right _ _ (ap not citizen)) refl)
 
-  of_others : (it : Act) → is_of_mandates it ≡ true → may_ask now caller past ≡ true → is_role caller.role Citizen ≡ true
+  of_others : (it : Act) → is_mandate_act it ≡ true → may_make_request now caller past ≡ true → is_role caller.role Citizen ≡ true
       → withdraws (is_between_others caller.party) it ≡ true → verdict_of now at caller (ask.Do it) past ≡ Denied 29
   of_others it is asker citizen others =
       first_of (earlier it ++ (of_role it ∷ [])) 29 (withdraws (is_between_others caller.party) it) [] (quiet_in_role it is asker citizen) others
 
-  its_own : (it : Act) → is_of_mandates it ≡ true → may_ask now caller past ≡ true → is_role caller.role Citizen ≡ true
+  its_own : (it : Act) → is_mandate_act it ≡ true → may_make_request now caller past ≡ true → is_role caller.role Citizen ≡ true
       → withdraws (is_between_others caller.party) it ≡ false → verdict_of now at caller (ask.Do it) past ≡ Allowed
   its_own it is asker citizen own =
       allows (rules_on now at caller (ask.Do it) past)
@@ -162,14 +162,14 @@ module _ (now at : Register) (caller : Caller) (past : Bool) where
 
   -- ---- the parts of the law
 
-  elsewhere : (a : Ask) → IsOnMandate a → may_ask now caller past ≡ true → is_role caller.role Citizen ≡ false
+  elsewhere : (a : Ask) → ActsOnMandate a → may_make_request now caller past ≡ true → is_role caller.role Citizen ≡ false
       → verdict_of now at caller a past ≡ Denied 28
   elsewhere a (inl (it, asked)) asker other =
       subst (λ (x : Ask). verdict_of now at caller x past ≡ Denied 28) (sym asked) (out_of_role (act.Mandate it) refl asker other)
   elsewhere a (inr (it, asked)) asker other =
       subst (λ (x : Ask). verdict_of now at caller x past ≡ Denied 28) (sym asked) (out_of_role (act.Withdraw it) refl asker other)
 
-  left_to_citizens : (a : Ask) → IsLeftTo (Citizen ∷ []) 28 IsOnMandate now at caller a past
+  left_to_citizens : (a : Ask) → IsReservedTo (Citizen ∷ []) 28 ActsOnMandate now at caller a past
   left_to_citizens a = record {
     denied = (
       λ e.
@@ -186,7 +186,7 @@ module _ (now at : Register) (caller : Caller) (past : Bool) where
         or_nothing _ ∙ not-false _ (second_false _ _ (is_on a asked) (sym (rule_28 a) ∙ none_from_allowed (rules_on now at caller a past) e 28));
   }
 
-  given_to_each : (a : Ask) → may_ask now caller past ≡ true → is_role caller.role Citizen ≡ true → IsOnItsMandate caller.party a
+  given_to_each : (a : Ask) → may_make_request now caller past ≡ true → is_role caller.role Citizen ≡ true → ActsOnOwnMandate caller.party a
       → verdict_of now at caller a past ≡ Allowed
   given_to_each a asker citizen (inl (it, asked)) =
       subst (λ (x : Ask). verdict_of now at caller x past ≡ Allowed) (sym asked) (its_own (act.Mandate it) refl asker citizen refl)

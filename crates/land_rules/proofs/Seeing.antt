@@ -20,8 +20,8 @@ use Rattle.land_core.specs.declared.kind.Kind.{Kind}
 use Rattle.land_core.specs.declared.kind.Kind.TheVariants as kind
 use Rattle.land_core.specs.declared.register.Register.{Register}
 use Rattle.land_rules.proofs.Denied.{none_from_allowed}
-use Rattle.land_rules.specs.Laws.{SeenIsExactly}
-use Rattle.land_rules.specs.Rules.{denies, first_denial, view_rules, ascends, sees, is_allowed}
+use Rattle.land_rules.specs.Laws.{SeenListsAreExact}
+use Rattle.land_rules.specs.Rules.{denies, first_denial, view_rules, is_ascending_list, sees, is_allowed}
 use Rattle.land_rules.specs.declared.verdict.Verdict.{Verdict}
 use Rattle.land_rules.specs.declared.verdict.Verdict.TheVariants.{Allowed, Denied}
 
@@ -69,12 +69,12 @@ module _ {V : Type 0} (p : ℕ → Bool) where
         | false ↦ above n es parts.1
       ]
 
-  ascending : (es : List (ℕ × V)) → is_sorted nat_cmp es ≡ true → ascends (map_list (λ e. e.0) (filter (λ e. p e.0) es)) ≡ true
+  ascending : (es : List (ℕ × V)) → is_sorted nat_cmp es ≡ true → is_ascending_list (map_list (λ e. e.0) (filter (λ e. p e.0) es)) ≡ true
   ascending [] h = refl
   ascending (e ∷ es) h =
       let parts = and_parts _ _ h in
-      elim (p e.0) as (λ b. ascends (map_list (λ e. e.0) (cond b (e ∷ filter (λ e. p e.0) es) (filter (λ e. p e.0) es))) ≡ true) [
-        | true ↦ ap (λ b. b && ascends (map_list (λ e. e.0) (filter (λ e. p e.0) es))) (above e.0 es parts.0) ∙ ascending es parts.1
+      elim (p e.0) as (λ b. is_ascending_list (map_list (λ e. e.0) (cond b (e ∷ filter (λ e. p e.0) es) (filter (λ e. p e.0) es))) ≡ true) [
+        | true ↦ ap (λ b. b && is_ascending_list (map_list (λ e. e.0) (filter (λ e. p e.0) es))) (above e.0 es parts.0) ∙ ascending es parts.1
         | false ↦ ascending es parts.1
       ]
 
@@ -109,10 +109,10 @@ module _ {V : Type 0} (m : FinMap nat_cmp V) (p : ℕ → Bool) where
           ] refl)
           ∙ sym e
 
-  numbers_ascend : ascends (numbers_where (λ k v. p k) m) ≡ true
+  numbers_ascend : is_ascending_list (numbers_where (λ k v. p k) m) ≡ true
   numbers_ascend = ascending p (map.entries m) (T_true _ (map.entries_sorted m))
 
-pub seen_exactly : SeenIsExactly
+pub seen_exactly : SeenListsAreExact
 seen_exactly at caller kind.Party = record { ascending = numbers_ascend at.parties (sees at caller kind.Party); exact = λ n. exactly at.parties (sees at caller kind.Party) n (sees_what_stands at caller kind.Party n) }
 seen_exactly at caller kind.Unit = record { ascending = numbers_ascend at.units (sees at caller kind.Unit); exact = λ n. exactly at.units (sees at caller kind.Unit) n (sees_what_stands at caller kind.Unit n) }
 seen_exactly at caller kind.Parcel = record { ascending = numbers_ascend at.parcels (sees at caller kind.Parcel); exact = λ n. exactly at.parcels (sees at caller kind.Parcel) n (sees_what_stands at caller kind.Parcel n) }

@@ -13,10 +13,10 @@ use Rattle.std.specs.Ordering.{nat_cmp}
 use Rattle.land_core.proofs.Booleans.{or_true, and_true, or_nothing, same_tests}
 use Rattle.land_core.proofs.FiniteMaps.{none_is_not_some}
 use Rattle.land_core.proofs.Pairs.{list_any_same}
-use Rattle.land_core.proofs.Reflection.{entries-only, some_passes}
-use Rattle.land_core.specs.Contents.{names_where}
+use Rattle.land_core.proofs.Reflection.{entries-entries_where, some_passes}
+use Rattle.land_core.specs.Contents.{refers_to_unit_where}
 use Rattle.land_core.specs.Entries.{has, some}
-use Rattle.land_core.specs.Laws.{SoundnessByLookUps}
+use Rattle.land_core.specs.Laws.{SoundnessByNumber}
 use Rattle.land_core.specs.Register.{nothing}
 use Rattle.land_core.specs.Units.{is_right_of}
 use Rattle.land_core.specs.declared.caller.Caller.{Caller}
@@ -32,13 +32,13 @@ use Rattle.land_core.specs.declared.rrr.Class.{Class}
 use Rattle.land_core.specs.declared.rrr.RightType.TheVariants.{Ownership}
 use Rattle.land_core.specs.declared.rrr.RrrRecord.{RrrRecord}
 use Rattle.land_rules.proofs.InCircles.{held_by_names, owned_by_names}
-use Rattle.land_rules.specs.Circles.{circle_of, is_held_by, is_name_of, is_owned_by, is_told_to_circle, names_held_by}
-use Rattle.land_rules.specs.Denials.Interests.{AreNamesOf, Entries, InterestsTellSight, NamesTellInterests, entries_of, interest_at, interest_of, is_shown_by_interest, names_shown, sees_by_interest, shows_entry, shows_unit}
+use Rattle.land_rules.specs.Circles.{circle_of, is_held_by, is_name_of, is_owned_by, is_visible_to_circle, names_held_by}
+use Rattle.land_rules.specs.Denials.Interests.{AreNamesOf, Entries, InterestsDecideSight, NamesDecideInterests, entries_in_unit, interest_at, interest_of, is_shown_by_interest, names_visible_unit, sees_by_interest, shows_entry, shows_unit}
 use Rattle.land_rules.specs.Laws.{IsSoundOrNothing}
-use Rattle.land_rules.specs.Relations.{is_credit, is_creditor_on, is_mortgage, is_mutation_where, is_right, is_rrr_where, is_told_to_creditor}
-use Rattle.land_rules.specs.Rules.{is_allowed, is_told_to_bank, sees}
+use Rattle.land_rules.specs.Relations.{is_held_mortgage, is_creditor_on, is_mortgage, is_mutation_where, is_right, is_rrr_where, is_visible_to_creditor}
+use Rattle.land_rules.specs.Rules.{is_allowed, is_visible_to_bank, sees}
 use Rattle.land_rules.specs.declared.denials.interests.Interest.{Interest}
-use Rattle.land_rules.specs.declared.denials.interests.Interest.TheVariants.{Stranger, Holder, Owner, Creditor}
+use Rattle.land_rules.specs.declared.denials.interests.Interest.TheVariants.{NoInterest, Holder, Owner, Creditor}
 use Rattle.land_rules.specs.declared.verdict.Verdict.TheVariants.{Allowed, Denied}
 
 -- ---- conditions
@@ -83,7 +83,7 @@ UnitsStand r = (n : ℕ) (e : RrrRecord) → map.get r.rrrs n ≡ Some e → has
 none_there : UnitsStand nothing
 none_there n e is = absurd (none_is_not_some (sym (map.get-empty nat_cmp n) ∙ is))
 
-pub units_stand : SoundnessByLookUps → (r : Register) → IsSoundOrNothing r → UnitsStand r
+pub units_stand : SoundnessByNumber → (r : Register) → IsSoundOrNothing r → UnitsStand r
 units_stand look_ups r (inl sound) = λ n e is. (((look_ups r).0 sound).entries n e is).unit
 units_stand look_ups r (inr none) = subst UnitsStand (sym none) none_there
 
@@ -95,9 +95,9 @@ module _ (r : Register) (refers : UnitsStand r) (is_of : Class → Bool) (is_his
   abbrev is_one_there : RrrRecord → Bool
   is_one_there e = nat_eq e.unit unit && is_of e.class && is_his e.party
 
-  some_there : some (λ n e. is_one e) (entries_of r unit) ≡ some (λ n e. is_one_there e) r.rrrs
+  some_there : some (λ n e. is_one e) (entries_in_unit r unit) ≡ some (λ n e. is_one_there e) r.rrrs
   some_there =
-      ap (list_any (λ e. is_one e.1)) (entries-only nat_cmp_total nat_cmp-IsAntisymmetric (λ n e. nat_eq e.unit unit) r.rrrs)
+      ap (list_any (λ e. is_one e.1)) (entries-entries_where nat_cmp_total nat_cmp-IsAntisymmetric (λ n e. nat_eq e.unit unit) r.rrrs)
       ∙ any_of (λ e. is_one e.1) (λ e. nat_eq e.1.unit unit) (map.entries r.rrrs)
       ∙ list_any_same (λ e. nat_eq e.1.unit unit && is_one e.1) (λ e. is_one_there e.1) (λ e. and_assoc (nat_eq e.1.unit unit) (is_of e.1.class) (is_his e.1.party)) (map.entries r.rrrs)
 
@@ -109,16 +109,16 @@ module _ (r : Register) (refers : UnitsStand r) (is_of : Class → Bool) (is_his
       let same : it.value.unit ≡ unit = (Decides-eqb it.value.unit unit).0 (and_parts (nat_eq it.value.unit unit) (is_of it.value.class) both.0).0 in
       subst (λ u. has r.units u ≡ true) same (refers it.key it.value it.there)
 
-  pub in_unit : (has r.units unit && some (λ n e. is_one_there e) r.rrrs) ≡ some (λ n e. is_one e) (entries_of r unit)
+  pub in_unit : (has r.units unit && some (λ n e. is_one_there e) r.rrrs) ≡ some (λ n e. is_one e) (entries_in_unit r unit)
   in_unit = implied (has r.units unit) (some (λ n e. is_one_there e) r.rrrs) unit_there ∙ sym some_there
 
 -- ---- the objects that an interest makes visible
 
 abbrev of_citizen : (holds owns : Bool) → Interest
-of_citizen holds owns = cond holds (cond owns Owner Holder) Stranger
+of_citizen holds owns = cond holds (cond owns Owner Holder) NoInterest
 
 abbrev of_bank : Bool → Interest
-of_bank credits = cond credits Creditor Stranger
+of_bank credits = cond credits Creditor NoInterest
 
 unit_to_citizen : (holds owns : Bool) → holds ≡ shows_unit (of_citizen holds owns)
 unit_to_citizen true true = refl
@@ -134,7 +134,7 @@ entry_to_citizen true true party e = or_true (not (is_mortgage e.class))
 entry_to_citizen true false party e = or_nothing (not (is_mortgage e.class))
 entry_to_citizen false owns party e = refl
 
-entry_to_bank : (credits : Bool) (party : ℕ) (e : RrrRecord) → (credits && is_told_to_creditor party e) ≡ shows_entry (of_bank credits) party e
+entry_to_bank : (credits : Bool) (party : ℕ) (e : RrrRecord) → (credits && is_visible_to_creditor party e) ≡ shows_entry (of_bank credits) party e
 entry_to_bank true party e = refl
 entry_to_bank false party e = refl
 
@@ -144,7 +144,7 @@ told_of told shown same None = refl
 told_of told shown same (Some x) = and_true (told x) ∙ same x
 
 -- conditions that are equal on units are equal on the mutations that refer to them
-named_alike : (p q : ℕ → Bool) → ((unit : ℕ) → p unit ≡ q unit) → (c : Content) → names_where p c ≡ names_where q c
+named_alike : (p q : ℕ → Bool) → ((unit : ℕ) → p unit ≡ q unit) → (c : Content) → refers_to_unit_where p c ≡ refers_to_unit_where q c
 named_alike p q same (content.Transfer it) = same it.unit
 named_alike p q same (content.Subdivision it) = same it.unit
 named_alike p q same (content.Merger it) = ap₂ (λ a b. a || b) (same it.unit) (list_any_same p q same it.others)
@@ -162,13 +162,13 @@ module _ (r : Register) (refers : UnitsStand r) (p : ℕ) where
   is_name named = is_name_of r (circle_of r p) named
 
   abbrev holds : ℕ → Bool
-  holds unit = some (λ n e. is_right e.class && is_name e.party) (entries_of r unit)
+  holds unit = some (λ n e. is_right e.class && is_name e.party) (entries_in_unit r unit)
 
   abbrev owns : ℕ → Bool
-  owns unit = some (λ n e. is_right_of Ownership e.class && is_name e.party) (entries_of r unit)
+  owns unit = some (λ n e. is_right_of Ownership e.class && is_name e.party) (entries_in_unit r unit)
 
   abbrev credits : ℕ → Bool
-  credits unit = some (λ n e. is_mortgage e.class && nat_eq e.party p) (entries_of r unit)
+  credits unit = some (λ n e. is_mortgage e.class && nat_eq e.party p) (entries_in_unit r unit)
 
   holder : (unit : ℕ) → is_held_by r (circle_of r p) unit ≡ holds unit
   holder unit = held_by_names r (circle_of r p) unit ∙ in_unit r refers is_right is_name unit
@@ -187,32 +187,32 @@ module _ (r : Register) (refers : UnitsStand r) (p : ℕ) where
       ∙ in_unit r refers is_right is_name unit ∙ unit_to_citizen (holds unit) (owns unit)
 
   unit_of_bank : (unit : ℕ) → sees r bank kind.Unit unit ≡ shows_unit (interest_at r bank unit)
-  unit_of_bank unit = passes_both (is_creditor_on r p unit) (has r.units unit) 15 ∙ again (has r.units unit) (some (λ n e. is_credit p unit e) r.rrrs) ∙ creditor unit ∙ unit_to_bank (credits unit)
+  unit_of_bank unit = passes_both (is_creditor_on r p unit) (has r.units unit) 15 ∙ again (has r.units unit) (some (λ n e. is_held_mortgage p unit e) r.rrrs) ∙ creditor unit ∙ unit_to_bank (credits unit)
 
-  told_to_citizen : (e : RrrRecord) → is_told_to_circle r (circle_of r p) e ≡ shows_entry (interest_at r citizen e.unit) p e
+  told_to_citizen : (e : RrrRecord) → is_visible_to_circle r (circle_of r p) e ≡ shows_entry (interest_at r citizen e.unit) p e
   told_to_citizen e = ap₂ (λ a b. a && (not (is_mortgage e.class) || b)) (holder e.unit) (owner e.unit) ∙ entry_to_citizen (holds e.unit) (owns e.unit) p e
 
-  told_to_bank : (e : RrrRecord) → is_told_to_bank r bank e ≡ shows_entry (interest_at r bank e.unit) p e
-  told_to_bank e = ap (λ a. a && is_told_to_creditor p e) (unit_of_bank e.unit ∙ sym (unit_to_bank (credits e.unit))) ∙ entry_to_bank (credits e.unit) p e
+  told_to_bank : (e : RrrRecord) → is_visible_to_bank r bank e ≡ shows_entry (interest_at r bank e.unit) p e
+  told_to_bank e = ap (λ a. a && is_visible_to_creditor p e) (unit_of_bank e.unit ∙ sym (unit_to_bank (credits e.unit))) ∙ entry_to_bank (credits e.unit) p e
 
   entry_of_citizen : (n : ℕ) → sees r citizen kind.Rrr n ≡ is_shown_by_interest r citizen kind.Rrr n
   entry_of_citizen n =
-      passes_both (is_rrr_where (is_told_to_circle r (circle_of r p)) r n) (has r.rrrs n) 12
-      ∙ told_of (is_told_to_circle r (circle_of r p)) (λ e. shows_entry (interest_at r citizen e.unit) p e) told_to_citizen (map.get r.rrrs n)
+      passes_both (is_rrr_where (is_visible_to_circle r (circle_of r p)) r n) (has r.rrrs n) 12
+      ∙ told_of (is_visible_to_circle r (circle_of r p)) (λ e. shows_entry (interest_at r citizen e.unit) p e) told_to_citizen (map.get r.rrrs n)
 
   entry_of_bank : (n : ℕ) → sees r bank kind.Rrr n ≡ is_shown_by_interest r bank kind.Rrr n
   entry_of_bank n =
-      passes_both (is_rrr_where (is_told_to_bank r bank) r n) (has r.rrrs n) 16
-      ∙ told_of (is_told_to_bank r bank) (λ e. shows_entry (interest_at r bank e.unit) p e) told_to_bank (map.get r.rrrs n)
+      passes_both (is_rrr_where (is_visible_to_bank r bank) r n) (has r.rrrs n) 16
+      ∙ told_of (is_visible_to_bank r bank) (λ e. shows_entry (interest_at r bank e.unit) p e) told_to_bank (map.get r.rrrs n)
 
-  names_to_citizen : (m : MutationRecord) → names_held_by r (circle_of r p) m ≡ names_shown r citizen m
+  names_to_citizen : (m : MutationRecord) → names_held_by r (circle_of r p) m ≡ names_visible_unit r citizen m
   names_to_citizen m =
       named_alike (is_held_by r (circle_of r p)) (λ unit. shows_unit (interest_at r citizen unit)) (λ unit. holder unit ∙ unit_to_citizen (holds unit) (owns unit)) m.content
 
   mutation_of_citizen : (n : ℕ) → sees r citizen kind.Mutation n ≡ is_shown_by_interest r citizen kind.Mutation n
   mutation_of_citizen n =
       passes_both (is_mutation_where (names_held_by r (circle_of r p)) r n) (has r.mutations n) 14
-      ∙ told_of (names_held_by r (circle_of r p)) (names_shown r citizen) names_to_citizen (map.get r.mutations n)
+      ∙ told_of (names_held_by r (circle_of r p)) (names_visible_unit r citizen) names_to_citizen (map.get r.mutations n)
 
   by_role : (role : Role) (k : Kind) (n : ℕ) → sees_by_interest role k ≡ true → sees r (record { party = p; role = role }) k n ≡ is_shown_by_interest r (record { party = p; role = role }) k n
   by_role roles.Citizen kind.Unit n h = unit_of_citizen n
@@ -237,8 +237,8 @@ module _ (r : Register) (refers : UnitsStand r) (p : ℕ) where
   by_role roles.StateAdministrator kind.Unit n h = absurd (false≢true h)
   by_role roles.StateAdministrator kind.Rrr n h = absurd (false≢true h)
 
-pub interests_tell_sight : SoundnessByLookUps → InterestsTellSight
-interests_tell_sight look_ups at premise caller k number h = by_role at (units_stand look_ups at premise) caller.party caller.role k number h
+pub interests_decide_sight : SoundnessByNumber → InterestsDecideSight
+interests_decide_sight look_ups at premise caller k number h = by_role at (units_stand look_ups at premise) caller.party caller.role k number h
 
 -- ---- the names
 
@@ -263,5 +263,5 @@ by_names r p roles.Bank names are entries = refl
 by_names r p roles.CertifiedSurveyor names are entries = refl
 by_names r p roles.StateAdministrator names are entries = refl
 
-pub names_tell_interests : NamesTellInterests
-names_tell_interests at caller names are entries = by_names at caller.party caller.role names are entries
+pub names_decide_interests : NamesDecideInterests
+names_decide_interests at caller names are entries = by_names at caller.party caller.role names are entries

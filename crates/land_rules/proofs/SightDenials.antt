@@ -16,7 +16,7 @@ use Rattle.land_core.specs.Grants.{grant_cmp}
 use Rattle.land_core.specs.Mandates.{mandate_of}
 use Rattle.land_core.specs.Members.{Members}
 use Rattle.land_core.specs.Register.{is_member, is_single, nothing}
-use Rattle.land_core.specs.Soundness.{are_loose}
+use Rattle.land_core.specs.Soundness.{are_dangling_members}
 use Rattle.land_core.specs.declared.caller.Caller.{Caller}
 use Rattle.land_core.specs.declared.kind.Kind.{Kind}
 use Rattle.land_core.specs.declared.kind.Kind.TheVariants as kind
@@ -27,10 +27,10 @@ use Rattle.land_core.specs.declared.role.Role.TheVariants.{Citizen, Conveyancer,
 use Rattle.land_core.specs.declared.soundness.Unsound.TheVariants.{Reference}
 use Rattle.land_rules.proofs.InCircles.{is_principal}
 use Rattle.land_rules.proofs.SomeOf.{any_says}
-use Rattle.land_rules.specs.Laws.{DenialsTellSight, IsSoundOrNothing, told_by_sight}
-use Rattle.land_rules.specs.Circles.{circle_of, is_group_of, is_held_by, is_told_to_circle, names_held_by, principals_of}
-use Rattle.land_rules.specs.Relations.{is_holder, is_lodger_of, is_lodger_on, is_member_of}
-use Rattle.land_rules.specs.Rules.{first_denial, is_allowed, is_party_in_sight, is_rrr_in_sight, is_told_to_bank, is_told_to_conveyancer, view_rules}
+use Rattle.land_rules.specs.Laws.{DenialsRevealOnlySight, IsSoundOrNothing, verdict_by_sight}
+use Rattle.land_rules.specs.Circles.{circle_of, is_group_of, is_held_by, is_visible_to_circle, names_held_by, principals_of}
+use Rattle.land_rules.specs.Relations.{is_holder, is_lodger_of, has_pending_mutation_on, is_member_of}
+use Rattle.land_rules.specs.Rules.{first_denial, is_allowed, is_party_in_sight, is_rrr_in_sight, is_visible_to_bank, is_visible_to_conveyancer, view_rules}
 use Rattle.land_rules.specs.declared.verdict.Verdict.{Verdict}
 use Rattle.land_rules.specs.declared.verdict.Verdict.TheVariants.{Allowed, Denied}
 
@@ -132,7 +132,7 @@ module _ (at : Register) (sound : IsSoundOrNothing at) where
       found : (o : Option Members) → map.get at.members group ≡ o → option_map_or (λ members. has members party) o false ≡ true → has at.parties group ≡ true
       found None e h = absurd (false≢true h)
       found (Some members) e h =
-          let whole = none_at nat_cmp_total nat_cmp-IsAntisymmetric (λ n m. are_loose at n m) at.members group members (references at sound).members e in
+          let whole = none_at nat_cmp_total nat_cmp-IsAntisymmetric (λ n m. are_dangling_members at n m) at.members group members (references at sound).members e in
           is_there (map.get at.parties group) (not-false _ (or_parts _ _ whole).0)
 
   -- principals exist
@@ -157,22 +157,22 @@ module _ (at : Register) (sound : IsSoundOrNothing at) where
       none_at nat_cmp_total nat_cmp-IsAntisymmetric (λ n e. not (has at.units e.unit && has at.parties e.party && has at.sources e.source)) at.rrrs it.key it.value (references at sound).rrrs it.there in
       subst (λ (n : ℕ). has at.parties n ≡ true) (eqb-true it.value.party party (and_parts _ _ it.passes).0) (and_parts _ _ (and_parts _ _ (not-false _ stands)).0).1
 
-  told : (party : ℕ) (role : Role) (k : Kind) (n : ℕ) → let caller : Caller = record { party = party; role = role } in first_denial (view_rules at caller k n) ≡ told_by_sight at caller k n
+  told : (party : ℕ) (role : Role) (k : Kind) (n : ℕ) → let caller : Caller = record { party = party; role = role } in first_denial (view_rules at caller k n) ≡ verdict_by_sight at caller k n
   told party Citizen kind.Party n = let caller : Caller = record { party = party; role = Citizen } in
       met_thrice (nat_eq n party) (list_any (nat_eq n) (principals_of at party)) (is_group_of at (circle_of at party) n) (is_party_in_sight at caller n) (has at.parties n) 13
       (principal_stands party n) (any_says (λ p. is_member_of at p n) (λ p. group_stands p n) (circle_of at party)) (party_stands caller n)
   told party Citizen kind.Unit n =
       related_together (is_held_by at (circle_of at party) n) (has at.units n) 11 (any_says (λ p. is_holder at p n) (λ p h. (and_parts _ _ h).0) (circle_of at party))
   told party Citizen kind.Parcel n = absent (has at.parcels n)
-  told party Citizen kind.Rrr n = tested (is_told_to_circle at (circle_of at party)) (map.get at.rrrs n) 12
+  told party Citizen kind.Rrr n = tested (is_visible_to_circle at (circle_of at party)) (map.get at.rrrs n) 12
   told party Citizen kind.Source n = refl
   told party Citizen kind.Mutation n = tested (names_held_by at (circle_of at party)) (map.get at.mutations n) 14
   told party Conveyancer kind.Party n = let caller : Caller = record { party = party; role = Conveyancer } in
       met (nat_eq n party) (is_party_in_sight at caller n) (has at.parties n) 21 (party_stands caller n)
-  told party Conveyancer kind.Unit n = lodged (is_lodger_on at party n) (has at.units n) 19
+  told party Conveyancer kind.Unit n = lodged (has_pending_mutation_on at party n) (has at.units n) 19
   told party Conveyancer kind.Parcel n = absent (has at.parcels n)
   told party Conveyancer kind.Rrr n = let caller : Caller = record { party = party; role = Conveyancer } in
-      tested (is_told_to_conveyancer at caller) (map.get at.rrrs n) 20
+      tested (is_visible_to_conveyancer at caller) (map.get at.rrrs n) 20
   told party Conveyancer kind.Source n = refl
   told party Conveyancer kind.Mutation n = tested (is_lodger_of party) (map.get at.mutations n) 22
   told party Notary kind.Party n = absent_itself (nat_eq n party) (has at.parties n)
@@ -186,7 +186,7 @@ module _ (at : Register) (sound : IsSoundOrNothing at) where
   told party Bank kind.Unit n = related (has at.units n) _ 15
   told party Bank kind.Parcel n = absent (has at.parcels n)
   told party Bank kind.Rrr n = let caller : Caller = record { party = party; role = Bank } in
-      tested (is_told_to_bank at caller) (map.get at.rrrs n) 16
+      tested (is_visible_to_bank at caller) (map.get at.rrrs n) 16
   told party Bank kind.Source n = refl
   told party Bank kind.Mutation n = tested (is_lodger_of party) (map.get at.mutations n) 18
   told party CertifiedSurveyor kind.Party n = apart (nat_eq n party) (has at.parties n) 24
@@ -202,8 +202,8 @@ module _ (at : Register) (sound : IsSoundOrNothing at) where
   told party StateAdministrator kind.Source n = absent (has at.sources n)
   told party StateAdministrator kind.Mutation n = absent (has at.mutations n)
 
-pub told_by_references : (at : Register) → IsSoundOrNothing at → (caller : Caller) (k : Kind) (n : ℕ) → first_denial (view_rules at caller k n) ≡ told_by_sight at caller k n
+pub told_by_references : (at : Register) → IsSoundOrNothing at → (caller : Caller) (k : Kind) (n : ℕ) → first_denial (view_rules at caller k n) ≡ verdict_by_sight at caller k n
 told_by_references at sound caller k n = told at sound caller.party caller.role k n
 
-pub denials_tell_sight : DenialsTellSight
-denials_tell_sight = told_by_references
+pub denials_reveal_only_sight : DenialsRevealOnlySight
+denials_reveal_only_sight = told_by_references

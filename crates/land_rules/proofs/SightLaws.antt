@@ -21,11 +21,11 @@ use Rattle.land_core.specs.declared.rrr.Class.TheVariants.{Right, Restriction, R
 use Rattle.land_core.specs.declared.rrr.RightType.TheVariants.{Ownership}
 use Rattle.land_core.specs.declared.rrr.RrrRecord.{RrrRecord}
 use Rattle.land_rules.proofs.SomeOf.{any_at, none_at_all}
-use Rattle.land_rules.specs.Circles.{circle_of, is_group_of, is_held_by, is_in_circle, is_owned_by, is_told_to_circle}
+use Rattle.land_rules.specs.Circles.{circle_of, is_group_of, is_held_by, is_in_circle, is_owned_by, is_visible_to_circle}
 use Rattle.land_rules.specs.Laws.{MembersSeeGroups, citizen}
-use Rattle.land_rules.specs.Relations.{holds_as, is_credit, is_creditor_on, is_held_ownership, is_held_right, is_holder, is_lodger_of, is_lodger_on, is_member_of, is_mortgage, is_mutation_where, is_owner, is_pending_on, is_right, is_told_to_creditor}
-use Rattle.land_rules.specs.Rules.{first_denial, is_allowed, is_of_the_present, is_party_in_sight, is_told_to_bank, is_unit_in_sight, rrr_rules, sees, unit_rules}
-use Rattle.land_rules.specs.SightLaws.{BanksSeeByTheirMortgages, CircleHoldsNone, ConveyancersSeeByTheirLodgings, EndedEntriesGiveNoSight, HasEntry, HasLodged, HasPending, HoldsNone, IsOfOthers, IsOpenToBank, LodgersSeeTheirMutations, MembersHold, OwnersAloneSeeMortgages, bank, conveyancer}
+use Rattle.land_rules.specs.Relations.{holds_under_name, is_held_mortgage, is_creditor_on, is_held_ownership, is_held_right, is_holder, is_lodger_of, has_pending_mutation_on, is_member_of, is_mortgage, is_mutation_where, is_owner, is_pending_on, is_right, is_visible_to_creditor}
+use Rattle.land_rules.specs.Rules.{first_denial, is_allowed, sees_only_present, is_party_in_sight, is_visible_to_bank, is_unit_in_sight, rrr_rules, sees, unit_rules}
+use Rattle.land_rules.specs.SightLaws.{BanksSeeByTheirMortgages, CircleHoldsNothingOfClass, ConveyancersSeeByTheirLodgings, EndedEntriesGiveNoSight, HasEntryOfClass, HasLodged, HasPending, HoldsNothingOfClass, IsNameOfOthers, IsVisibleEntryOfBank, LodgersSeeTheirMutations, MembersAreHolders, OnlyOwnersSeeMortgages, bank, conveyancer}
 use Rattle.land_rules.specs.declared.verdict.Verdict.{Verdict}
 use Rattle.land_rules.specs.declared.verdict.Verdict.TheVariants.{Allowed, Denied}
 
@@ -45,11 +45,11 @@ last_fails false b c h = refl
 
 -- ---- the verdict on a citizen that may make requests is that of the sight rules
 
-pub may_ask : (stands holds past : Bool) (v : Verdict) → (stands && holds) ≡ true → cond (not stands) (Denied 1) (cond (not holds) (Denied 2) (cond (past && false) (Denied 3) v)) ≡ v
-may_ask true true true v e = refl
-may_ask true true false v e = refl
-may_ask true false past v e = absurd (false≢true e)
-may_ask false holds past v e = absurd (false≢true e)
+pub may_make_request : (stands holds past : Bool) (v : Verdict) → (stands && holds) ≡ true → cond (not stands) (Denied 1) (cond (not holds) (Denied 2) (cond (past && false) (Denied 3) v)) ≡ v
+may_make_request true true true v e = refl
+may_make_request true true false v e = refl
+may_make_request true false past v e = absurd (false≢true e)
+may_make_request false holds past v e = absurd (false≢true e)
 
 shown_by : (passes there : Bool) (k : ℕ) → passes ≡ true → there ≡ true → cond (not passes) (Denied k) (cond (not there) (Denied 27) Allowed) ≡ Allowed
 shown_by true true k e f = refl
@@ -58,23 +58,23 @@ shown_by false there k e f = absurd (false≢true e)
 
 module _ (at : Register) (party : ℕ) where
   -- a member of a group has the rights under its name, and a party has none under the names of others
-  holds_as_member : (group named : ℕ) → is_member at group party ≡ true → named ≡ group → holds_as at party named ≡ true
+  holds_as_member : (group named : ℕ) → is_member at group party ≡ true → named ≡ group → holds_under_name at party named ≡ true
   holds_as_member group named member is = or_right (nat_eq named party) (is_member at named party) (subst (λ (g : ℕ). is_member at g party ≡ true) (sym is) member)
 
-  holds_as_other : (named : ℕ) → IsOfOthers at party named → holds_as at party named ≡ false
+  holds_as_other : (named : ℕ) → IsNameOfOthers at party named → holds_under_name at party named ≡ false
   holds_as_other named h = ap (λ b. b || is_member at named party) (ne_eqb named party h.other) ∙ h.outside
 
-  member_is_holder : (group unit : ℕ) → is_member at group party ≡ true → stands at kind.Unit unit ≡ true → HasEntry is_right at group unit → is_holder at party unit ≡ true
+  member_is_holder : (group unit : ℕ) → is_member at group party ≡ true → stands at kind.Unit unit ≡ true → HasEntryOfClass is_right at group unit → is_holder at party unit ≡ true
   member_is_holder group unit member there it =
       and_from _ _ there (some_at nat_cmp_total nat_cmp-IsAntisymmetric (λ n e. is_held_right at party unit e) at.rrrs it.number it.entry it.stands.there
       (all_three _ _ _ (eq-eqb it.entry.unit unit it.stands.of_unit) it.class (holds_as_member group it.entry.party member it.name)))
 
-  no_holder : (unit : ℕ) → HoldsNone is_right at party unit → is_holder at party unit ≡ false
+  no_holder : (unit : ℕ) → HoldsNothingOfClass is_right at party unit → is_holder at party unit ≡ false
   no_holder unit none =
       and_right _ _ (none_passes nat_cmp_total nat_cmp-IsAntisymmetric (λ n e. is_held_right at party unit e) at.rrrs (λ n e there.
       last_fails _ _ _ (λ here right. holds_as_other e.party (none n e (record { there = there; of_unit = eqb-true e.unit unit here }) right))))
 
-  no_owner : (unit : ℕ) → HoldsNone (is_right_of Ownership) at party unit → is_owner at party unit ≡ false
+  no_owner : (unit : ℕ) → HoldsNothingOfClass (is_right_of Ownership) at party unit → is_owner at party unit ≡ false
   no_owner unit none =
       and_right _ _ (none_passes nat_cmp_total nat_cmp-IsAntisymmetric (λ n e. is_held_ownership at party unit e) at.rrrs (λ n e there.
       last_fails _ _ _ (λ here right. holds_as_other e.party (none n e (record { there = there; of_unit = eqb-true e.unit unit here }) right))))
@@ -101,21 +101,21 @@ module _ (at : Register) (party : ℕ) where
   unit_shown one unit among h =
       shown_by (is_held_by at (circle_of at party) unit) (stands at kind.Unit unit) 11 (any_at (λ p. is_holder at p unit) one (circle_of at party) among h) (and_parts _ _ h).0
 
-  unit_denied : (unit : ℕ) → CircleHoldsNone is_right at party unit → first_denial (unit_rules at (citizen party) unit) ≡ Denied 11
+  unit_denied : (unit : ℕ) → CircleHoldsNothingOfClass is_right at party unit → first_denial (unit_rules at (citizen party) unit) ≡ Denied 11
   unit_denied unit none =
       ap (λ b. cond (not b) (Denied 11) (cond (not (stands at kind.Unit unit)) (Denied 27) Allowed))
       (none_at_all (λ p. is_holder at p unit) (circle_of at party) (λ one among. no_holder at one unit (none one among)))
 
   -- the verdict on an existing entry
   entry_told : (number : ℕ) (e : RrrRecord) → map.get at.rrrs number ≡ Some e
-      → first_denial (rrr_rules at (citizen party) number) ≡ cond (not (is_told_to_circle at (circle_of at party) e)) (Denied 12) Allowed
-  entry_told number e there = ap (λ o. cond (not (option_map_or (is_told_to_circle at (circle_of at party)) o false)) (Denied 12) (cond (not (is_some o)) (Denied 27) Allowed)) there
+      → first_denial (rrr_rules at (citizen party) number) ≡ cond (not (is_visible_to_circle at (circle_of at party) e)) (Denied 12) Allowed
+  entry_told number e there = ap (λ o. cond (not (option_map_or (is_visible_to_circle at (circle_of at party)) o false)) (Denied 12) (cond (not (is_some o)) (Denied 27) Allowed)) there
 
-  entry_shown : (number : ℕ) (e : RrrRecord) → map.get at.rrrs number ≡ Some e → is_told_to_circle at (circle_of at party) e ≡ true
+  entry_shown : (number : ℕ) (e : RrrRecord) → map.get at.rrrs number ≡ Some e → is_visible_to_circle at (circle_of at party) e ≡ true
       → first_denial (rrr_rules at (citizen party) number) ≡ Allowed
   entry_shown number e there told = entry_told number e there ∙ ap (λ b. cond (not b) (Denied 12) Allowed) told
 
-  entry_denied : (number : ℕ) (e : RrrRecord) → map.get at.rrrs number ≡ Some e → is_told_to_circle at (circle_of at party) e ≡ false
+  entry_denied : (number : ℕ) (e : RrrRecord) → map.get at.rrrs number ≡ Some e → is_visible_to_circle at (circle_of at party) e ≡ false
       → first_denial (rrr_rules at (citizen party) number) ≡ Denied 12
   entry_denied number e there told = entry_told number e there ∙ ap (λ b. cond (not b) (Denied 12) Allowed) told
 
@@ -123,18 +123,18 @@ module _ (at : Register) (party : ℕ) where
   held one unit e among holder of_unit = any_at (λ p. is_holder at p e.unit) one (circle_of at party) among (subst (λ (n : ℕ). is_holder at one n ≡ true) (sym of_unit) holder)
 
   told_no_mortgage : (one unit : ℕ) (e : RrrRecord) → is_in_circle at party one ≡ true → is_holder at one unit ≡ true → e.unit ≡ unit → is_mortgage e.class ≡ false
-      → is_told_to_circle at (circle_of at party) e ≡ true
+      → is_visible_to_circle at (circle_of at party) e ≡ true
   told_no_mortgage one unit e among holder of_unit class =
       and_from _ _ (held one unit e among holder of_unit) (ap (λ b. not b || is_owned_by at (circle_of at party) e.unit) class)
 
   told_as_owner : (one unit : ℕ) (e : RrrRecord) → is_in_circle at party one ≡ true → is_owner at one unit ≡ true → e.unit ≡ unit
-      → is_told_to_circle at (circle_of at party) e ≡ true
+      → is_visible_to_circle at (circle_of at party) e ≡ true
   told_as_owner one unit e among owner of_unit =
       let owns : is_owner at one e.unit ≡ true = subst (λ (n : ℕ). is_owner at one n ≡ true) (sym of_unit) owner in
       and_from _ _ (held one unit e among (owner_is_holder at one unit owner) of_unit) (or_right _ _ (any_at (λ p. is_owner at p e.unit) one (circle_of at party) among owns))
 
-  not_told : (unit : ℕ) (e : RrrRecord) → CircleHoldsNone (is_right_of Ownership) at party unit → e.unit ≡ unit → is_mortgage e.class ≡ true
-      → is_told_to_circle at (circle_of at party) e ≡ false
+  not_told : (unit : ℕ) (e : RrrRecord) → CircleHoldsNothingOfClass (is_right_of Ownership) at party unit → e.unit ≡ unit → is_mortgage e.class ≡ true
+      → is_visible_to_circle at (circle_of at party) e ≡ false
   not_told unit e none of_unit class =
       and_right _ _ (ap (λ b. not b || is_owned_by at (circle_of at party) e.unit) class
       ∙ subst (λ (n : ℕ). is_owned_by at (circle_of at party) n ≡ false) (sym of_unit)
@@ -154,32 +154,32 @@ told_by_none false false in_sight e f g = g
 pub members_see : MembersSeeGroups
 members_see now at party group moment past there role = record {
   member = λ one among member stands_then.
-      may_ask _ _ past _ (and_from _ _ there role)
+      may_make_request _ _ past _ (and_from _ _ there role)
       ∙ shown_by _ (stands at kind.Party group) 13
       (told_as_group (is_in_circle at party group) (is_group_of at (circle_of at party) group) (is_party_in_sight at (citizen party) group)
       (any_at (λ p. is_member_of at p group) one (circle_of at party) among member)) stands_then;
   other = λ outside no_group out_of_sight.
-      may_ask _ _ past _ (and_from _ _ there role)
+      may_make_request _ _ past _ (and_from _ _ there role)
       ∙ ap (λ b. cond (not b) (Denied 13) (cond (not (stands at kind.Party group)) (Denied 27) Allowed))
       (told_by_none (is_in_circle at party group) (is_group_of at (circle_of at party) group) (is_party_in_sight at (citizen party) group) outside no_group out_of_sight);
 }
 
-pub members_hold : MembersHold
-members_hold now at party one group unit moment past asks among member there it =
+pub members_are_holders : MembersAreHolders
+members_are_holders now at party one group unit moment past asks among member there it =
     let holder = member_is_holder at one group unit member there it in
     record {
       holder = holder;
-      unit_shown = may_ask _ _ past _ asks ∙ unit_shown at party one unit among holder;
-      entries_shown = λ number e is class. may_ask _ _ past _ asks ∙ entry_shown at party number e is.there (told_no_mortgage at party one unit e among holder is.of_unit class);
+      unit_shown = may_make_request _ _ past _ asks ∙ unit_shown at party one unit among holder;
+      entries_shown = λ number e is class. may_make_request _ _ past _ asks ∙ entry_shown at party number e is.there (told_no_mortgage at party one unit e among holder is.of_unit class);
     }
 
 pub ended_entries : EndedEntriesGiveNoSight
-ended_entries now at party unit moment past asks none = may_ask _ _ past _ asks ∙ unit_denied at party unit none
+ended_entries now at party unit moment past asks none = may_make_request _ _ past _ asks ∙ unit_denied at party unit none
 
-pub owners_alone : OwnersAloneSeeMortgages
+pub owners_alone : OnlyOwnersSeeMortgages
 owners_alone now at party unit number e moment past asks is class = record {
-  owner = λ one among owner. may_ask _ _ past _ asks ∙ entry_shown at party number e is.there (told_as_owner at party one unit e among owner is.of_unit);
-  other = λ none. may_ask _ _ past _ asks ∙ entry_denied at party number e is.there (not_told at party unit e none is.of_unit class);
+  owner = λ one among owner. may_make_request _ _ past _ asks ∙ entry_shown at party number e is.there (told_as_owner at party one unit e among owner is.of_unit);
+  other = λ none. may_make_request _ _ past _ asks ∙ entry_denied at party number e is.there (not_told at party unit e none is.of_unit class);
 }
 
 -- ---- banks
@@ -197,12 +197,12 @@ record_passes passes (Some v) k = elim (passes v) as (λ b. is_allowed (cond (no
 
 module _ (at : Register) (party : ℕ) where
   sees_unit : (unit : ℕ) → sees at (bank party) kind.Unit unit ≡ is_creditor_on at party unit
-  sees_unit unit = unit_passes (stands at kind.Unit unit) (some (λ n e. is_credit party unit e) at.rrrs)
+  sees_unit unit = unit_passes (stands at kind.Unit unit) (some (λ n e. is_held_mortgage party unit e) at.rrrs)
 
-  has_mortgage : (unit : ℕ) → is_creditor_on at party unit ≡ true → (stands at kind.Unit unit ≡ true) × HasEntry is_mortgage at party unit
+  has_mortgage : (unit : ℕ) → is_creditor_on at party unit ≡ true → (stands at kind.Unit unit ≡ true) × HasEntryOfClass is_mortgage at party unit
   has_mortgage unit h =
       let parts = and_parts _ _ h in
-      let it = some_passes nat_cmp_total nat_cmp-IsAntisymmetric (λ n e. is_credit party unit e) at.rrrs parts.1 in
+      let it = some_passes nat_cmp_total nat_cmp-IsAntisymmetric (λ n e. is_held_mortgage party unit e) at.rrrs parts.1 in
       let tests = and_parts _ _ it.passes in
       let more = and_parts _ _ tests.0 in (
         parts.0,
@@ -215,13 +215,13 @@ module _ (at : Register) (party : ℕ) where
         },
       )
 
-  is_creditor : (unit : ℕ) → stands at kind.Unit unit ≡ true → HasEntry is_mortgage at party unit → is_creditor_on at party unit ≡ true
+  is_creditor : (unit : ℕ) → stands at kind.Unit unit ≡ true → HasEntryOfClass is_mortgage at party unit → is_creditor_on at party unit ≡ true
   is_creditor unit there it =
-      and_from _ _ there (some_at nat_cmp_total nat_cmp-IsAntisymmetric (λ n e. is_credit party unit e) at.rrrs it.number it.entry it.stands.there
+      and_from _ _ there (some_at nat_cmp_total nat_cmp-IsAntisymmetric (λ n e. is_held_mortgage party unit e) at.rrrs it.number it.entry it.stands.there
       (all_three _ _ _ (eq-eqb it.entry.unit unit it.stands.of_unit) it.class (eq-eqb it.entry.party party it.name)))
 
-  sees_entry : (number : ℕ) → sees at (bank party) kind.Rrr number ≡ option_map_or (is_told_to_bank at (bank party)) (map.get at.rrrs number) false
-  sees_entry number = record_passes (is_told_to_bank at (bank party)) (map.get at.rrrs number) 16
+  sees_entry : (number : ℕ) → sees at (bank party) kind.Rrr number ≡ option_map_or (is_visible_to_bank at (bank party)) (map.get at.rrrs number) false
+  sees_entry number = record_passes (is_visible_to_bank at (bank party)) (map.get at.rrrs number) 16
 
   -- the mortgages of other creditors are not visible
   own_from : (mortgage own : Bool) → (not mortgage || own) ≡ true → mortgage ≡ true → own ≡ true
@@ -232,13 +232,13 @@ module _ (at : Register) (party : ℕ) where
   own_back true own h = h refl
   own_back false own h = refl
 
-  is_open : (number : ℕ) → sees at (bank party) kind.Rrr number ≡ true → IsOpenToBank at party number
+  is_open : (number : ℕ) → sees at (bank party) kind.Rrr number ≡ true → IsVisibleEntryOfBank at party number
   is_open number h = found (map.get at.rrrs number) refl (sym (sees_entry number) ∙ h)
     where
-      found : (o : Option RrrRecord) → map.get at.rrrs number ≡ o → option_map_or (is_told_to_bank at (bank party)) o false ≡ true → IsOpenToBank at party number
+      found : (o : Option RrrRecord) → map.get at.rrrs number ≡ o → option_map_or (is_visible_to_bank at (bank party)) o false ≡ true → IsVisibleEntryOfBank at party number
       found None e h = absurd (false≢true h)
       found (Some entry) e h =
-          let parts = and_parts (is_unit_in_sight at (bank party) entry.unit) (is_told_to_creditor party entry) h in
+          let parts = and_parts (is_unit_in_sight at (bank party) entry.unit) (is_visible_to_creditor party entry) h in
           record {
             entry = entry;
             there = e;
@@ -246,9 +246,9 @@ module _ (at : Register) (party : ℕ) where
             own = λ class. eqb-true entry.party party (own_from (is_mortgage entry.class) _ parts.1 class);
           }
 
-  sees_open : (number : ℕ) → IsOpenToBank at party number → sees at (bank party) kind.Rrr number ≡ true
+  sees_open : (number : ℕ) → IsVisibleEntryOfBank at party number → sees at (bank party) kind.Rrr number ≡ true
   sees_open number it =
-      sees_entry number ∙ ap (λ o. option_map_or (is_told_to_bank at (bank party)) o false) it.there
+      sees_entry number ∙ ap (λ o. option_map_or (is_visible_to_bank at (bank party)) o false) it.there
       ∙ and_from _ _ it.in_sight (own_back (is_mortgage it.entry.class) _ (λ class. eq-eqb it.entry.party party (it.own class)))
 
 pub banks_see : BanksSeeByTheirMortgages
@@ -262,7 +262,7 @@ banks_see at party = record {
 module _ (at : Register) (party : ℕ) where
   -- in the roles that see what they lodged
   pub sees_lodged : (role : Role) (number : ℕ) → let caller : Caller = record { party = party; role = role } in
-      is_of_the_present caller ≡ true → sees at caller kind.Mutation number ≡ is_mutation_where (is_lodger_of party) at number
+      sees_only_present caller ≡ true → sees at caller kind.Mutation number ≡ is_mutation_where (is_lodger_of party) at number
   sees_lodged Citizen number h = absurd (false≢true h)
   sees_lodged Conveyancer number h = record_passes (is_lodger_of party) (map.get at.mutations number) 22
   sees_lodged Notary number h = absurd (false≢true h)
@@ -287,10 +287,10 @@ module _ (at : Register) (party : ℕ) where
   lodger_passes false true = refl
   lodger_passes false false = refl
 
-  sees_lodged_on : (unit : ℕ) → sees at (conveyancer party) kind.Unit unit ≡ (stands at kind.Unit unit && is_lodger_on at party unit)
-  sees_lodged_on unit = lodger_passes (is_lodger_on at party unit) (has at.units unit)
+  sees_lodged_on : (unit : ℕ) → sees at (conveyancer party) kind.Unit unit ≡ (stands at kind.Unit unit && has_pending_mutation_on at party unit)
+  sees_lodged_on unit = lodger_passes (has_pending_mutation_on at party unit) (has at.units unit)
 
-  has_pending : (unit : ℕ) → is_lodger_on at party unit ≡ true → HasPending at party unit
+  has_pending : (unit : ℕ) → has_pending_mutation_on at party unit ≡ true → HasPending at party unit
   has_pending unit h =
       let it = some_passes nat_cmp_total nat_cmp-IsAntisymmetric (λ n m. is_pending_on party unit m) at.mutations h in
       let tests = and_parts _ _ it.passes in
@@ -302,7 +302,7 @@ module _ (at : Register) (party : ℕ) where
         names = tests.1;
       }
 
-  is_pending : (unit : ℕ) → HasPending at party unit → is_lodger_on at party unit ≡ true
+  is_pending : (unit : ℕ) → HasPending at party unit → has_pending_mutation_on at party unit ≡ true
   is_pending unit it =
       some_at nat_cmp_total nat_cmp-IsAntisymmetric (λ n m. is_pending_on party unit m) at.mutations it.number it.lodged.mutation it.lodged.there
       (and_from _ _ (and_from _ _ it.undecided (eq-eqb it.lodged.mutation.lodger party it.lodged.lodger)) it.names)

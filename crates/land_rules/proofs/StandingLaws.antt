@@ -23,15 +23,15 @@ use Rattle.land_core.specs.declared.role.Role.{Role}
 use Rattle.land_core.specs.declared.role.Role.TheVariants.{Conveyancer, Notary, Bank, CertifiedSurveyor, StateAdministrator}
 use Rattle.land_core.specs.declared.subdivision.Subdivision.{Subdivision}
 use Rattle.land_rules.proofs.Denied.{none_from_allowed, verdicts_least}
-use Rattle.land_rules.specs.ActLaws.{to_approve, to_refuse}
-use Rattle.land_rules.specs.Acts.{decides, is_between_others, is_discharge_of_another, is_mortgage_of, is_mortgage_of_another, is_of_a_mortgage, is_of_mandates, is_of_mortgages, is_of_outlines, is_of_transfers, is_office_act, is_transfer, lodges}
+use Rattle.land_rules.specs.ActLaws.{approve_request, refuse_request}
+use Rattle.land_rules.specs.Acts.{decides, is_between_others, is_discharge_of_another, is_mortgage_of, is_mortgage_of_another, changes_mortgages, is_mandate_act, may_lodge_mortgages, changes_outlines, may_lodge_transfers, is_office_act, is_transfer, lodges}
 use Rattle.land_rules.specs.Relations.{has_lodged, is_rrr_where}
-use Rattle.land_rules.specs.Rules.{Rules, act_rules, denies, first_denial, is_of_the_present, rules_on, sight_rules, verdict_of}
-use Rattle.land_rules.specs.StandingLaws.{ActsOfTheOfficeAreReserved, BanksAndNotariesLodgeMortgages, BanksDischargeTheirOwnMortgages, BanksLodgeTheirOwnMortgages, ConveyancersAndNotariesLodgeTransfers, IsGivenTo, IsLeftTo, IsOfTheOffice, IsOfTheOfficeForOthers, Lodges, LodgesMortgageOrDischarge, LodgesSubdivisionOrMerger, LodgesTransfer, RolesAreHeld, StrangersAreDeniedEverything, SurveyorsLodgeSubdivisionsAndMergers, ThePastIsClosedToThreeRoles, asks_in, is_in_role, is_lodging, may_ask, roles_of_the_past}
+use Rattle.land_rules.specs.Rules.{Rules, act_rules, denies, first_denial, sees_only_present, rules_on, sight_rules, verdict_of}
+use Rattle.land_rules.specs.StandingLaws.{OfficeActsAreForAdministrators, BanksAndNotariesLodgeMortgages, BanksDischargeTheirOwnMortgages, BanksLodgeTheirOwnMortgages, ConveyancersAndNotariesLodgeTransfers, IsAllowedTo, IsReservedTo, IsOfficeRequest, IsOfficeRequestForOthers, Lodges, LodgesMortgageOrDischarge, LodgesSubdivisionOrMerger, LodgesTransfer, RolesAreHeld, UnregisteredCallersAreDenied, SurveyorsLodgeSubdivisionsAndMergers, ThreeRolesSeeOnlyThePresent, has_role_among, is_in_role, is_lodging_act, may_make_request, roles_with_past}
 use Rattle.land_rules.specs.declared.verdict.Verdict.{Verdict}
 use Rattle.land_rules.specs.declared.verdict.Verdict.TheVariants.{Allowed}
 use Rattle.land_rules.proofs.StandingTests.{not_both, nothing_there}
-use Rattle.land_rules.proofs.Asked.{asks_for, asks_the_office, decides_for_others, discharge_of_another, lodges_it, lodges_mortgage_or_discharge, lodges_outlines, lodges_transfer, mortgage_is_found, mortgage_of_another, mortgage_or_discharge_of, no_mortgage_found, of_the_office, office_lodges_nothing, outlines_are_no_transfer, outlines_of, transfer_of, withdraws_nothing}
+use Rattle.land_rules.proofs.Asked.{asks_for, asks_the_office, decides_for_others, discharge_of_another, lodges_it, lodges_mortgage_or_discharge, lodges_outline_change, lodges_transfer, mortgage_is_found, mortgage_of_another, mortgage_or_discharge_of, no_mortgage_found, of_the_office, office_lodges_nothing, outlines_are_no_transfer, outlines_of, transfer_of, withdraws_nothing}
 use Rattle.land_rules.proofs.StandingRules.{allows, as_bank, closed_from, from_rule_1, from_rule_2, from_rule_3, from_rule_4, from_rule_5, from_rule_6, from_rule_7, from_rule_8, from_rule_9, in_role, late_is_allowed, may, no_past_from, none_before, past_from, present_from, rule_1, rule_2, rule_3, rule_4, rule_5, rule_6, rule_7, rule_8, rule_9}
 
 module _ (now at : Register) (caller : Caller) (past : Bool) where
@@ -39,9 +39,9 @@ module _ (now at : Register) (caller : Caller) (past : Bool) where
   -- such an act
   left_by : (roles : List Role) (k : ℕ) (these : Ask → Type 0) (test : Act → Bool) (a : Ask) → 4 ≤ k
       → (these a → asks_for test a ≡ true) → (asks_for test a ≡ true → these a)
-      → denies k (rules_on now at caller a past) ≡ (asks_for test a && not (asks_in roles caller))
+      → denies k (rules_on now at caller a past) ≡ (asks_for test a && not (has_role_among roles caller))
       → (asks_for test a ≡ true → none_before now at caller past a 4 → none_before now at caller past a k)
-      → IsLeftTo roles k these now at caller a past
+      → IsReservedTo roles k these now at caller a past
   left_by roles k these test a le passes is says before = record {
     denied = (
       λ e.
@@ -58,14 +58,14 @@ module _ (now at : Register) (caller : Caller) (past : Bool) where
     allowed = λ asked e. not-false _ (second_false _ _ (passes asked) (sym says ∙ none_from_allowed (rules_on now at caller a past) e k));
   }
 
-  office_left : (a : Ask) → IsLeftTo (StateAdministrator ∷ []) 4 IsOfTheOffice now at caller a past
+  office_left : (a : Ask) → IsReservedTo (StateAdministrator ∷ []) 4 IsOfficeRequest now at caller a past
   office_left a =
-      left_by (StateAdministrator ∷ []) 4 IsOfTheOffice is_office_act a (omega arith) (asks_the_office a) (of_the_office a)
+      left_by (StateAdministrator ∷ []) 4 IsOfficeRequest is_office_act a (omega arith) (asks_the_office a) (of_the_office a)
       (rule_4 now at caller past a
       ∙ ap (λ b. asks_for is_office_act a && not b) (sym (or_nothing (is_role caller.role StateAdministrator))))
       (λ asked before. before)
 
-  transfers_left : (a : Ask) → IsLeftTo (Conveyancer ∷ Notary ∷ []) 5 LodgesTransfer now at caller a past
+  transfers_left : (a : Ask) → IsReservedTo (Conveyancer ∷ Notary ∷ []) 5 LodgesTransfer now at caller a past
   transfers_left a =
       left_by (Conveyancer ∷ Notary ∷ []) 5 LodgesTransfer (lodges is_transfer) a (omega arith) (lodges_transfer a) (transfer_of a)
       (rule_5 now at caller past a
@@ -73,49 +73,49 @@ module _ (now at : Register) (caller : Caller) (past : Bool) where
       (sym (or_nothing (is_role caller.role Notary))))
       (from_rule_5 now at caller past is_transfer a)
 
-  outlines_left : (a : Ask) → IsLeftTo (CertifiedSurveyor ∷ []) 6 LodgesSubdivisionOrMerger now at caller a past
+  outlines_left : (a : Ask) → IsReservedTo (CertifiedSurveyor ∷ []) 6 LodgesSubdivisionOrMerger now at caller a past
   outlines_left a =
-      left_by (CertifiedSurveyor ∷ []) 6 LodgesSubdivisionOrMerger (lodges is_of_outlines) a (omega arith)
-      (lodges_outlines a) (outlines_of a)
+      left_by (CertifiedSurveyor ∷ []) 6 LodgesSubdivisionOrMerger (lodges changes_outlines) a (omega arith)
+      (lodges_outline_change a) (outlines_of a)
       (rule_6 now at caller past a
-      ∙ ap (λ b. asks_for (lodges is_of_outlines) a && not b) (sym (or_nothing (is_role caller.role CertifiedSurveyor))))
-      (from_rule_6 now at caller past is_of_outlines outlines_are_no_transfer a)
+      ∙ ap (λ b. asks_for (lodges changes_outlines) a && not b) (sym (or_nothing (is_role caller.role CertifiedSurveyor))))
+      (from_rule_6 now at caller past changes_outlines outlines_are_no_transfer a)
 
-  mortgages_left : (a : Ask) → IsLeftTo (Bank ∷ Notary ∷ []) 7 LodgesMortgageOrDischarge now at caller a past
+  mortgages_left : (a : Ask) → IsReservedTo (Bank ∷ Notary ∷ []) 7 LodgesMortgageOrDischarge now at caller a past
   mortgages_left a =
-      left_by (Bank ∷ Notary ∷ []) 7 LodgesMortgageOrDischarge (lodges is_of_a_mortgage) a (omega arith)
+      left_by (Bank ∷ Notary ∷ []) 7 LodgesMortgageOrDischarge (lodges changes_mortgages) a (omega arith)
       (lodges_mortgage_or_discharge a) (mortgage_or_discharge_of a)
       (rule_7 now at caller past a
-      ∙ ap (λ b. asks_for (lodges is_of_a_mortgage) a && not (is_role caller.role Bank || b))
+      ∙ ap (λ b. asks_for (lodges changes_mortgages) a && not (is_role caller.role Bank || b))
       (sym (or_nothing (is_role caller.role Notary))))
       (from_rule_7 now at caller past a)
 
   -- none of the first three rules denies a caller that may make requests
-  pub none_of_three : may_ask now caller past ≡ true → (others : Bool) → others ≡ false
-      → (not (stands now kind.Party caller.party) || (not (holds now caller.party caller.role) || (past && is_of_the_present caller || others)))
+  pub none_of_three : may_make_request now caller past ≡ true → (others : Bool) → others ≡ false
+      → (not (stands now kind.Party caller.party) || (not (holds now caller.party caller.role) || (past && sees_only_present caller || others)))
       ≡ false
   none_of_three asker others none =
-      let parts = and_parts (is_in_role now caller) (not past || asks_in roles_of_the_past caller) asker in
+      let parts = and_parts (is_in_role now caller) (not past || has_role_among roles_with_past caller) asker in
       let held = and_parts (stands now kind.Party caller.party) (holds now caller.party caller.role) parts.0 in
       or_from _ _ (ap not held.0) (or_from _ _ (ap not held.1) (or_from _ _ (late_is_allowed past _ _ (present_from caller) parts.1) none))
 
   -- an act of the office that is not a decision on the caller's own mutation
-  office_given : (a : Ask) → IsGivenTo (StateAdministrator ∷ []) (IsOfTheOfficeForOthers now caller.party) now at caller a past
+  office_given : (a : Ask) → IsAllowedTo (StateAdministrator ∷ []) (IsOfficeRequestForOthers now caller.party) now at caller a past
   office_given a asker role it =
       subst (λ (x : Ask). verdict_of now at caller x past ≡ Allowed) (sym it.office.asked)
       (given it.office.act it.office.no_lodging it.office.no_mandate (decides_for_others now caller.party it.office.act
-      (subst (λ (x : Ask). (number : ℕ) → has_lodged now caller.party number ≡ true → (x ≢ to_approve number) × (x ≢ to_refuse number))
+      (subst (λ (x : Ask). (number : ℕ) → has_lodged now caller.party number ≡ true → (x ≢ approve_request number) × (x ≢ refuse_request number))
       it.office.asked it.others)))
     where
-      given : (it : Act) → is_lodging it ≡ false → is_of_mandates it ≡ false → decides (has_lodged now caller.party) it ≡ false
+      given : (it : Act) → is_lodging_act it ≡ false → is_mandate_act it ≡ false → decides (has_lodged now caller.party) it ≡ false
           → verdict_of now at caller (ask.Do it) past ≡ Allowed
       given it no_lodging no_mandate others =
           let nothing : (passes : Content → Bool) → lodges passes it ≡ false = λ passes. office_lodges_nothing passes it no_lodging in
           allows (rules_on now at caller (ask.Do it) past) (none_of_three asker _
           (or_from _ _ (and_right _ _ (ap not (sym (or_nothing _) ∙ role)))
           (or_from _ _ (and_left _ _ (nothing is_transfer))
-          (or_from _ _ (and_left _ _ (nothing is_of_outlines))
-          (or_from _ _ (and_left _ _ (nothing is_of_a_mortgage))
+          (or_from _ _ (and_left _ _ (nothing changes_outlines))
+          (or_from _ _ (and_left _ _ (nothing changes_mortgages))
           (or_from _ _ (and_right _ _ (nothing (is_mortgage_of_another caller.party)))
           (or_from _ _ (and_right _ _ (nothing (is_discharge_of_another now caller.party)))
           (or_from _ _ others
@@ -124,13 +124,13 @@ module _ (now at : Register) (caller : Caller) (past : Bool) where
 
   -- rules 5 to 9 on a lodged content
   record IsFree (c : Content) : Type 0 where
-    transfer : (is_transfer c && not (is_of_transfers caller)) ≡ false
-    outlines : (is_of_outlines c && not (is_role caller.role CertifiedSurveyor)) ≡ false
-    mortgage : (is_of_a_mortgage c && not (is_of_mortgages caller)) ≡ false
+    transfer : (is_transfer c && not (may_lodge_transfers caller)) ≡ false
+    outlines : (changes_outlines c && not (is_role caller.role CertifiedSurveyor)) ≡ false
+    mortgage : (changes_mortgages c && not (may_lodge_mortgages caller)) ≡ false
     lent : (is_role caller.role Bank && is_mortgage_of_another caller.party c) ≡ false
-    discharged : (is_role caller.role Bank && is_discharge_of_another now caller.party c) ≡ false
+    entry_of_ask : (is_role caller.role Bank && is_discharge_of_another now caller.party c) ≡ false
 
-  lodging_given : (a : Ask) (c : Content) → Lodges c a → may_ask now caller past ≡ true → IsFree c
+  lodging_given : (a : Ask) (c : Content) → Lodges c a → may_make_request now caller past ≡ true → IsFree c
       → verdict_of now at caller a past ≡ Allowed
   lodging_given a c it asker free =
       subst (λ (x : Ask). verdict_of now at caller x past ≡ Allowed) (sym it.asked) (given it.lodging (subst IsFree (sym it.content) free))
@@ -139,15 +139,15 @@ module _ (now at : Register) (caller : Caller) (past : Bool) where
       given lodging free =
           allows (rules_on now at caller (ask.Do (act.Lodge lodging)) past) (none_of_three asker _
           (or_from _ _ free.transfer (or_from _ _ free.outlines (or_from _ _ free.mortgage
-          (or_from _ _ free.lent (or_from _ _ free.discharged refl))))))
+          (or_from _ _ free.lent (or_from _ _ free.entry_of_ask refl))))))
 
-  free_transfer : (it : Transfer) → is_of_transfers caller ≡ true → IsFree (content.Transfer it)
+  free_transfer : (it : Transfer) → may_lodge_transfers caller ≡ true → IsFree (content.Transfer it)
   free_transfer it role = record {
     transfer = ap not role;
     outlines = refl;
     mortgage = refl;
     lent = and_false _;
-    discharged = and_false _;
+    entry_of_ask = and_false _;
   }
 
   free_subdivision : (it : Subdivision) → is_role caller.role CertifiedSurveyor ≡ true → IsFree (content.Subdivision it)
@@ -156,7 +156,7 @@ module _ (now at : Register) (caller : Caller) (past : Bool) where
     outlines = ap not role;
     mortgage = refl;
     lent = and_false _;
-    discharged = and_false _;
+    entry_of_ask = and_false _;
   }
 
   free_merger : (it : Merger) → is_role caller.role CertifiedSurveyor ≡ true → IsFree (content.Merger it)
@@ -165,10 +165,10 @@ module _ (now at : Register) (caller : Caller) (past : Bool) where
     outlines = ap not role;
     mortgage = refl;
     lent = and_false _;
-    discharged = and_false _;
+    entry_of_ask = and_false _;
   }
 
-  free_mortgage : (it : Mortgage) → is_of_mortgages caller ≡ true
+  free_mortgage : (it : Mortgage) → may_lodge_mortgages caller ≡ true
       → (is_role caller.role Bank && not (nat_eq it.creditor caller.party)) ≡ false
       → IsFree (content.Mortgage it)
   free_mortgage it role lent = record {
@@ -176,27 +176,27 @@ module _ (now at : Register) (caller : Caller) (past : Bool) where
     outlines = refl;
     mortgage = ap not role;
     lent = lent;
-    discharged = and_false _;
+    entry_of_ask = and_false _;
   }
 
-  free_discharge : (it : Discharge) → is_of_mortgages caller ≡ true
+  free_discharge : (it : Discharge) → may_lodge_mortgages caller ≡ true
       → (is_role caller.role Bank && not (is_rrr_where (is_mortgage_of caller.party) now it.mortgage)) ≡ false
       → IsFree (content.Discharge it)
-  free_discharge it role discharged = record {
+  free_discharge it role entry_of_ask = record {
     transfer = refl;
     outlines = refl;
     mortgage = ap not role;
     lent = and_false _;
-    discharged = discharged;
+    entry_of_ask = entry_of_ask;
   }
 
   -- banks may lodge mortgages and discharges
-  bank_lodges : is_role caller.role Bank ≡ true → is_of_mortgages caller ≡ true
+  bank_lodges : is_role caller.role Bank ≡ true → may_lodge_mortgages caller ≡ true
   bank_lodges bank = ap (λ b. b || is_role caller.role Notary) bank
 
 -- ---- the laws
 
-pub strangers_are_denied : StrangersAreDeniedEverything
+pub strangers_are_denied : UnregisteredCallersAreDenied
 strangers_are_denied now at caller a past = (
   λ e. nothing_there _ (not-true _ (sym (rule_1 now at caller past a) ∙ (((verdicts_least now at caller a past).denied 1).0 e).holds)),
   λ none. ((verdicts_least now at caller a past).denied 1).1 (record {
@@ -228,7 +228,7 @@ with_late now caller others late =
     first_denial ((1, not (stands now kind.Party caller.party)) ∷ (2, not (holds now caller.party caller.role)) ∷ (3, late) ∷ others)
 
 -- a role that sees the past has the same verdict at each time
-same_at_each_moment : (now at : Register) (caller : Caller) (a : Ask) → is_of_the_present caller ≡ false
+same_at_each_moment : (now at : Register) (caller : Caller) (a : Ask) → sees_only_present caller ≡ false
     → verdict_of now at caller a true ≡ verdict_of now at caller a false
 same_at_each_moment now at caller (ask.View kind number moment) h =
     ap (with_late now caller (sight_rules at caller (ask.View kind number moment))) h
@@ -236,7 +236,7 @@ same_at_each_moment now at caller (ask.List kind moment) h = ap (with_late now c
 same_at_each_moment now at caller (ask.Sheet unit moment) h = ap (with_late now caller (sight_rules at caller (ask.Sheet unit moment))) h
 same_at_each_moment now at caller (ask.Do it) h = ap (with_late now caller (act_rules now caller it)) h
 
-pub past_is_closed : ThePastIsClosedToThreeRoles
+pub past_is_closed : ThreeRolesSeeOnlyThePresent
 past_is_closed now at caller a = record {
   as_now = λ h. same_at_each_moment now at caller a (present_from caller h);
   allowed = λ e. past_from caller (sym (rule_3 now at caller true a) ∙ none_from_allowed (rules_on now at caller a true) e 3);
@@ -256,7 +256,7 @@ past_is_closed now at caller a = record {
   );
 }
 
-pub office_acts_are_reserved : ActsOfTheOfficeAreReserved
+pub office_acts_are_reserved : OfficeActsAreForAdministrators
 office_acts_are_reserved now at caller a past = record {
   left = office_left now at caller past a;
   given = office_given now at caller past a;
@@ -269,7 +269,7 @@ transfers_are_left now at caller a past = record {
       lodging_given now at caller past a (content.Transfer it.0) it.1 asker (free_transfer now at caller past it.0 (two_roles role));
 }
   where
-    two_roles : asks_in (Conveyancer ∷ Notary ∷ []) caller ≡ true → is_of_transfers caller ≡ true
+    two_roles : has_role_among (Conveyancer ∷ Notary ∷ []) caller ≡ true → may_lodge_transfers caller ≡ true
     two_roles role = ap (λ b. is_role caller.role Conveyancer || b) (sym (or_nothing (is_role caller.role Notary))) ∙ role
 
 pub outlines_are_left : SurveyorsLodgeSubdivisionsAndMergers
@@ -278,7 +278,7 @@ outlines_are_left now at caller a past = record {
   given = λ asker role. given asker (sym (or_nothing _) ∙ role);
 }
   where
-    given : may_ask now caller past ≡ true → is_role caller.role CertifiedSurveyor ≡ true → LodgesSubdivisionOrMerger a
+    given : may_make_request now caller past ≡ true → is_role caller.role CertifiedSurveyor ≡ true → LodgesSubdivisionOrMerger a
         → verdict_of now at caller a past ≡ Allowed
     given asker role (inl (it, lodged)) =
         lodging_given now at caller past a (content.Subdivision it) lodged asker (free_subdivision now at caller past it role)
@@ -288,10 +288,10 @@ outlines_are_left now at caller a past = record {
 -- a notary is not a bank, and lodges mortgages as well
 record IsNotary (caller : Caller) : Type 0 where
   no_bank : is_role caller.role Bank ≡ false
-  mortgages : is_of_mortgages caller ≡ true
+  mortgages : may_lodge_mortgages caller ≡ true
 
 notary : (party : ℕ) (role : Role) → let caller : Caller = record { party = party; role = role } in
-    asks_in (Notary ∷ []) caller ≡ true → IsNotary caller
+    has_role_among (Notary ∷ []) caller ≡ true → IsNotary caller
 notary party Notary h = record { no_bank = refl; mortgages = refl }
 notary party other h = absurd (false≢true h)
 
@@ -301,7 +301,7 @@ mortgages_are_left now at caller a past = record {
   given = λ asker role. given asker (notary caller.party caller.role role);
 }
   where
-    given : may_ask now caller past ≡ true → IsNotary caller → LodgesMortgageOrDischarge a → verdict_of now at caller a past ≡ Allowed
+    given : may_make_request now caller past ≡ true → IsNotary caller → LodgesMortgageOrDischarge a → verdict_of now at caller a past ≡ Allowed
     given asker role (inl (it, lodged)) =
         lodging_given now at caller past a (content.Mortgage it) lodged asker
         (free_mortgage now at caller past it role.mortgages (and_left _ _ role.no_bank))
@@ -337,7 +337,7 @@ own_mortgages now at caller a past = record {
         let other = ne_eqb it.mortgage.creditor caller.party (λ same. h.other (sym it.lender ∙ same)) in
         ((verdicts_least now at caller a past).denied 8).1 (record {
           holds = rule_8 now at caller past a ∙ and_from _ _ role (lodged (is_mortgage_of_another caller.party) true (ap not other));
-          least = from_rule_8 now at caller past a role (lodged is_of_a_mortgage true refl) (from_rule_4 now at caller past a bank.0);
+          least = from_rule_8 now at caller past a role (lodged changes_mortgages true refl) (from_rule_4 now at caller past a bank.0);
         }),
   );
 }
@@ -371,7 +371,7 @@ own_discharges now at caller a past = record {
         let none = ap (λ n. is_rrr_where (is_mortgage_of caller.party) now n) it.ends ∙ no_mortgage_found now caller.party h.number h.none in
         ((verdicts_least now at caller a past).denied 9).1 (record {
           holds = rule_9 now at caller past a ∙ and_from _ _ role (lodged (is_discharge_of_another now caller.party) true (ap not none));
-          least = from_rule_9 now at caller past a role (lodged is_of_a_mortgage true refl)
+          least = from_rule_9 now at caller past a role (lodged changes_mortgages true refl)
               (lodged (is_mortgage_of_another caller.party) false refl) (from_rule_4 now at caller past a bank.0);
         }),
   );

@@ -17,16 +17,16 @@ use Rattle.land_core.specs.declared.kind.Kind.TheVariants as kind
 use Rattle.land_core.specs.declared.register.Register.{Register}
 use Rattle.land_core.specs.declared.role.Role.{Role}
 use Rattle.land_core.specs.declared.role.Role.TheVariants.{Citizen, Notary, Bank, CertifiedSurveyor, StateAdministrator}
-use Rattle.land_rules.specs.Acts.{is_discharge_of_another, is_mortgage_of_another, is_of_a_mortgage, is_of_mortgages, is_of_outlines, is_of_transfers, is_office_act, is_transfer, lodges}
-use Rattle.land_rules.specs.Rules.{Rules, act_rules, caller_rules, denies, first_denial, is_of_the_present, rise_above, rules_on, sight_rules, standing_rules}
-use Rattle.land_rules.specs.StandingLaws.{asks_as_bank, asks_in, is_in_role, may_ask, roles_of_the_past}
+use Rattle.land_rules.specs.Acts.{is_discharge_of_another, is_mortgage_of_another, changes_mortgages, may_lodge_mortgages, changes_outlines, may_lodge_transfers, is_office_act, is_transfer, lodges}
+use Rattle.land_rules.specs.Rules.{Rules, act_rules, caller_rules, denies, first_denial, sees_only_present, all_above, rules_on, sight_rules, standing_rules}
+use Rattle.land_rules.specs.StandingLaws.{may_act_as_bank, has_role_among, is_in_role, may_make_request, roles_with_past}
 use Rattle.land_rules.specs.declared.verdict.Verdict.TheVariants.{Allowed, Denied}
 use Rattle.land_rules.proofs.Asked.{asks_for, lodges_as_no_office, lodges_no_other, mortgages_are_no_outlines, mortgages_are_no_transfer}
 
 -- ---- rules in ascending order
 
 -- no rule up to a number denies if all numbers are above it
-none_up_to : (low : ℕ) (rules : Rules) → rise_above low rules ≡ true → (k : ℕ) → k ≤ low → denies k rules ≡ false
+none_up_to : (low : ℕ) (rules : Rules) → all_above low rules ≡ true → (k : ℕ) → k ≤ low → denies k rules ≡ false
 none_up_to low [] h k le = refl
 none_up_to low (rule ∷ rules) h k le =
     let above : nat_lt low rule.0 ≡ true = (and_parts _ _ h).0 in
@@ -38,7 +38,7 @@ none_up_to low (rule ∷ rules) h k le =
     below : (low n k : ℕ) → nat_lt low n ≡ true → k ≤ low → k ≤ n
     below low n k h le = grind (arith, nat_tests)
 
-sight_rises : (at : Register) (caller : Caller) (a : Ask) → rise_above 10 (sight_rules at caller a) ≡ true
+sight_rises : (at : Register) (caller : Caller) (a : Ask) → all_above 10 (sight_rules at caller a) ≡ true
 sight_rises at caller (ask.View kind.Party number moment) = refl
 sight_rises at caller (ask.View kind.Unit number moment) = refl
 sight_rises at caller (ask.View kind.Parcel number moment) = refl
@@ -74,20 +74,20 @@ none_below_zero test j less = absurd (no j less)
 -- ---- roles
 
 past_by_role : (party : ℕ) (role : Role) → let caller : Caller = record { party = party; role = role } in
-    asks_in roles_of_the_past caller ≡ not (is_of_the_present caller)
+    has_role_among roles_with_past caller ≡ not (sees_only_present caller)
 past_by_role party Citizen = refl
 past_by_role party other = refl
 
-pub present_from : (caller : Caller) → asks_in roles_of_the_past caller ≡ true → is_of_the_present caller ≡ false
+pub present_from : (caller : Caller) → has_role_among roles_with_past caller ≡ true → sees_only_present caller ≡ false
 present_from caller h = not-true _ (sym (past_by_role caller.party caller.role) ∙ h)
 
-pub past_from : (caller : Caller) → is_of_the_present caller ≡ false → asks_in roles_of_the_past caller ≡ true
+pub past_from : (caller : Caller) → sees_only_present caller ≡ false → has_role_among roles_with_past caller ≡ true
 past_from caller h = past_by_role caller.party caller.role ∙ ap not h
 
-pub closed_from : (caller : Caller) → asks_in roles_of_the_past caller ≡ false → is_of_the_present caller ≡ true
+pub closed_from : (caller : Caller) → has_role_among roles_with_past caller ≡ false → sees_only_present caller ≡ true
 closed_from caller h = not-false _ (sym (past_by_role caller.party caller.role) ∙ h)
 
-pub no_past_from : (caller : Caller) → is_of_the_present caller ≡ true → asks_in roles_of_the_past caller ≡ false
+pub no_past_from : (caller : Caller) → sees_only_present caller ≡ true → has_role_among roles_with_past caller ≡ false
 no_past_from caller h = past_by_role caller.party caller.role ∙ ap not h
 
 pub late_is_allowed : (past told present : Bool) → (told ≡ true → present ≡ false) → (not past || told) ≡ true → (past && present) ≡ false
@@ -143,7 +143,7 @@ module _ (now at : Register) (caller : Caller) (past : Bool) where
   pub rule_2 : (a : Ask) → denies 2 (rules_on now at caller a past) ≡ not (holds now caller.party caller.role)
   rule_2 a = standing_alone a 2 (omega arith) ∙ by_caller 2 (λ it. refl) a ∙ or_nothing _
 
-  pub rule_3 : (a : Ask) → denies 3 (rules_on now at caller a past) ≡ (past && is_of_the_present caller)
+  pub rule_3 : (a : Ask) → denies 3 (rules_on now at caller a past) ≡ (past && sees_only_present caller)
   rule_3 a = standing_alone a 3 (omega arith) ∙ by_caller 3 (λ it. refl) a ∙ or_nothing _
 
   pub rule_4 : (a : Ask) → denies 4 (rules_on now at caller a past)
@@ -152,19 +152,19 @@ module _ (now at : Register) (caller : Caller) (past : Bool) where
       ∙ elsewhere is_office_act (is_role caller.role StateAdministrator) a
 
   pub rule_5 : (a : Ask) → denies 5 (rules_on now at caller a past)
-      ≡ (asks_for (lodges is_transfer) a && not (is_of_transfers caller))
+      ≡ (asks_for (lodges is_transfer) a && not (may_lodge_transfers caller))
   rule_5 a = standing_alone a 5 (omega arith) ∙ by_act 5 refl a
-      ∙ elsewhere (lodges is_transfer) (is_of_transfers caller) a
+      ∙ elsewhere (lodges is_transfer) (may_lodge_transfers caller) a
 
   pub rule_6 : (a : Ask) → denies 6 (rules_on now at caller a past)
-      ≡ (asks_for (lodges is_of_outlines) a && not (is_role caller.role CertifiedSurveyor))
+      ≡ (asks_for (lodges changes_outlines) a && not (is_role caller.role CertifiedSurveyor))
   rule_6 a = standing_alone a 6 (omega arith) ∙ by_act 6 refl a
-      ∙ elsewhere (lodges is_of_outlines) (is_role caller.role CertifiedSurveyor) a
+      ∙ elsewhere (lodges changes_outlines) (is_role caller.role CertifiedSurveyor) a
 
   pub rule_7 : (a : Ask) → denies 7 (rules_on now at caller a past)
-      ≡ (asks_for (lodges is_of_a_mortgage) a && not (is_of_mortgages caller))
+      ≡ (asks_for (lodges changes_mortgages) a && not (may_lodge_mortgages caller))
   rule_7 a = standing_alone a 7 (omega arith) ∙ by_act 7 refl a
-      ∙ elsewhere (lodges is_of_a_mortgage) (is_of_mortgages caller) a
+      ∙ elsewhere (lodges changes_mortgages) (may_lodge_mortgages caller) a
 
   pub rule_8 : (a : Ask) → denies 8 (rules_on now at caller a past)
       ≡ (is_role caller.role Bank && asks_for (lodges (is_mortgage_of_another caller.party)) a)
@@ -192,7 +192,7 @@ module _ (now at : Register) (caller : Caller) (past : Bool) where
   pub from_rule_3 : (a : Ask) → is_in_role now caller ≡ true → none_before a 3
   from_rule_3 a h = let parts = and_parts _ _ h in next a 2 (rule_2 a ∙ ap not parts.1) (from_rule_2 a parts.0)
 
-  pub from_rule_4 : (a : Ask) → may_ask now caller past ≡ true → none_before a 4
+  pub from_rule_4 : (a : Ask) → may_make_request now caller past ≡ true → none_before a 4
   from_rule_4 a h =
       let parts = and_parts _ _ h in
       next a 3 (rule_3 a ∙ late_is_allowed past _ _ (present_from caller) parts.1) (from_rule_3 a parts.0)
@@ -201,7 +201,7 @@ module _ (now at : Register) (caller : Caller) (past : Bool) where
       → is_in_role now caller ≡ true
   in_role a one two = and_from _ _ (not-false _ (sym (rule_1 a) ∙ one)) (not-false _ (sym (rule_2 a) ∙ two))
 
-  pub may : (a : Ask) (k : ℕ) → 4 ≤ k → none_before a k → may_ask now caller past ≡ true
+  pub may : (a : Ask) (k : ℕ) → 4 ≤ k → none_before a k → may_make_request now caller past ≡ true
   may a k le none =
       and_from _ _ (in_role a (none 1 (omega arith)) (none 2 (omega arith)))
       (late_may past _ _ (past_from caller) (sym (rule_3 a) ∙ none 3 (omega arith)))
@@ -216,21 +216,21 @@ module _ (now at : Register) (caller : Caller) (past : Bool) where
       next a 5 (rule_5 a ∙ and_left _ _ (lodges_no_other passes is_transfer apart a h))
       (from_rule_5 passes a h before)
 
-  pub from_rule_7 : (a : Ask) → asks_for (lodges is_of_a_mortgage) a ≡ true → none_before a 4 → none_before a 7
+  pub from_rule_7 : (a : Ask) → asks_for (lodges changes_mortgages) a ≡ true → none_before a 4 → none_before a 7
   from_rule_7 a h before =
-      next a 6 (rule_6 a ∙ and_left _ _ (lodges_no_other is_of_a_mortgage is_of_outlines mortgages_are_no_outlines a h))
-      (from_rule_6 is_of_a_mortgage mortgages_are_no_transfer a h before)
+      next a 6 (rule_6 a ∙ and_left _ _ (lodges_no_other changes_mortgages changes_outlines mortgages_are_no_outlines a h))
+      (from_rule_6 changes_mortgages mortgages_are_no_transfer a h before)
 
   -- for a bank, rule 7 does not deny lodgings of mortgages and discharges, and rule 8 only those of mortgages
   -- of others
-  pub from_rule_8 : (a : Ask) → is_role caller.role Bank ≡ true → asks_for (lodges is_of_a_mortgage) a ≡ true
+  pub from_rule_8 : (a : Ask) → is_role caller.role Bank ≡ true → asks_for (lodges changes_mortgages) a ≡ true
       → none_before a 4 → none_before a 8
   from_rule_8 a bank h before =
       next a 7 (rule_7 a ∙ and_right _ _ (ap (λ b. not (b || is_role caller.role Notary)) bank)) (from_rule_7 a h before)
 
-  pub from_rule_9 : (a : Ask) → is_role caller.role Bank ≡ true → asks_for (lodges is_of_a_mortgage) a ≡ true
+  pub from_rule_9 : (a : Ask) → is_role caller.role Bank ≡ true → asks_for (lodges changes_mortgages) a ≡ true
       → asks_for (lodges (is_mortgage_of_another caller.party)) a ≡ false → none_before a 4 → none_before a 9
   from_rule_9 a bank h own before = next a 8 (rule_8 a ∙ and_right _ _ own) (from_rule_8 a bank h before)
 
-  pub as_bank : (a : Ask) (k : ℕ) → 4 ≤ k → none_before a k → is_role caller.role Bank ≡ true → asks_as_bank now caller past ≡ true
+  pub as_bank : (a : Ask) (k : ℕ) → 4 ≤ k → none_before a k → is_role caller.role Bank ≡ true → may_act_as_bank now caller past ≡ true
   as_bank a k le none bank = and_from _ _ (may a k le none) (or_nothing _ ∙ bank)

@@ -11,14 +11,14 @@ use Rattle.land_core.specs.declared.mutation.MutationRecord.{MutationRecord}
 use Rattle.land_core.specs.declared.register.Register.{Register}
 use Rattle.land_core.specs.declared.role.Role.{Role}
 use Rattle.land_core.specs.declared.role.Role.TheVariants as roles
-use Rattle.land_rules.specs.Denials.Sight.{AllThatStandsIsSeen, LodgersSeeTheirOwn, SightTellsVerdicts, sees_all, sees_own_lodgings, told_by}
-use Rattle.land_rules.specs.Laws.{DenialsTellSight, told_by_sight}
-use Rattle.land_rules.specs.Relations.{has_lodged, is_lodger_of, is_lodger_on}
+use Rattle.land_rules.specs.Denials.Sight.{FullSightShowsAll, LodgersSeeTheirOwn, SightDecidesVerdicts, sees_all, sees_own_lodgings, verdict_given_sight}
+use Rattle.land_rules.specs.Laws.{DenialsRevealOnlySight, verdict_by_sight}
+use Rattle.land_rules.specs.Relations.{has_lodged, is_lodger_of, has_pending_mutation_on}
 use Rattle.land_rules.specs.Rules.{first_denial, is_allowed, sees}
 use Rattle.land_rules.specs.declared.verdict.Verdict.TheVariants.{Allowed, Denied}
 
 told_same : (at : Register) (caller : Caller) (k : Kind) (number : ℕ)
-    → told_by_sight at caller k number ≡ told_by (sees at caller k number) (is_lodger_on at caller.party number) caller k number
+    → verdict_by_sight at caller k number ≡ verdict_given_sight (sees at caller k number) (has_pending_mutation_on at caller.party number) caller k number
 told_same at caller kind.Party number = refl
 told_same at caller kind.Unit number = refl
 told_same at caller kind.Parcel number = refl
@@ -26,8 +26,8 @@ told_same at caller kind.Rrr number = refl
 told_same at caller kind.Source number = refl
 told_same at caller kind.Mutation number = refl
 
-pub sight_tells_verdicts : DenialsTellSight → SightTellsVerdicts
-sight_tells_verdicts law at sound caller k number = law at sound caller k number ∙ told_same at caller k number
+pub sight_decides_verdicts : DenialsRevealOnlySight → SightDecidesVerdicts
+sight_decides_verdicts law at sound caller k number = law at sound caller k number ∙ told_same at caller k number
 
 -- only rule 27 denies: the object does not exist
 last : (stood : Bool) → is_allowed (first_denial ((27, not stood) ∷ [])) ≡ stood
@@ -68,8 +68,8 @@ seen_by at party roles.CertifiedSurveyor kind.Rrr number h = absurd (false≢tru
 seen_by at party roles.CertifiedSurveyor kind.Source number h = absurd (false≢true h)
 seen_by at party roles.CertifiedSurveyor kind.Mutation number h = absurd (false≢true h)
 
-pub all_that_stands_is_seen : AllThatStandsIsSeen
-all_that_stands_is_seen at caller k number h = seen_by at caller.party caller.role k number h
+pub full_sight_shows_all : FullSightShowsAll
+full_sight_shows_all at caller k number h = seen_by at caller.party caller.role k number h
 
 -- a rule of another role does not deny, and rule 27 denies a missing object
 its_own : (number party : ℕ) (found : Option MutationRecord)

@@ -14,17 +14,17 @@ use Rattle.land_rules.specs.declared.verdict.Verdict.{Verdict}
 use Rattle.land_rules.specs.declared.verdict.Verdict.TheVariants.{Allowed, Denied}
 
 -- the request to approve a mutation
-abbrev pub to_approve : ℕ → Ask
-to_approve number = ask.Do (Approve (record { mutation = number }))
+abbrev pub approve_request : ℕ → Ask
+approve_request number = ask.Do (Approve (record { mutation = number }))
 
 -- the request to refuse a mutation
-abbrev pub to_refuse : ℕ → Ask
-to_refuse number = ask.Do (Refuse (record { mutation = number }))
+abbrev pub refuse_request : ℕ → Ask
+refuse_request number = ask.Do (Refuse (record { mutation = number }))
 
 -- the caller is allowed neither decision on a mutation
 pub record MayNotDecide (now at : Register) (caller : Caller) (number : ℕ) (past : Bool) : Type 0 where
-  pub approval : is_allowed (verdict_of now at caller (to_approve number) past) ≡ false
-  pub refusal : is_allowed (verdict_of now at caller (to_refuse number) past) ≡ false
+  pub approval : is_allowed (verdict_of now at caller (approve_request number) past) ≡ false
+  pub refusal : is_allowed (verdict_of now at caller (refuse_request number) past) ≡ false
 
 -- a party that lodged a mutation may not decide on it, in any role
 abbrev pub LodgersDoNotDecide : Type 0
@@ -37,22 +37,22 @@ abbrev pub administrator : ℕ → Caller
 administrator party = record { party = party; role = StateAdministrator }
 
 -- whether a party exists and holds this role now
-abbrev pub is_administrator : (now : Register) → (party : ℕ) → Bool
-is_administrator now party = stands now kind.Party party && holds now party StateAdministrator
+abbrev pub is_registered_administrator : (now : Register) → (party : ℕ) → Bool
+is_registered_administrator now party = stands now kind.Party party && holds now party StateAdministrator
 
 -- the verdict on a decision of a state administrator: rule 10 if the party lodged the mutation, else allowed
-abbrev pub told_of_decision : (now : Register) → (party number : ℕ) → Verdict
-told_of_decision now party number = if has_lodged now party number then Denied 10 else Allowed
+abbrev pub decision_verdict : (now : Register) → (party number : ℕ) → Verdict
+decision_verdict now party number = if has_lodged now party number then Denied 10 else Allowed
 
 -- both decisions have exactly this verdict
-pub record DecisionIsTold (now at : Register) (party number : ℕ) (past : Bool) : Type 0 where
-  pub approval : verdict_of now at (administrator party) (to_approve number) past
-      ≡ told_of_decision now party number
-  pub refusal : verdict_of now at (administrator party) (to_refuse number) past
-      ≡ told_of_decision now party number
+pub record DecisionHasVerdict (now at : Register) (party number : ℕ) (past : Bool) : Type 0 where
+  pub approval : verdict_of now at (administrator party) (approve_request number) past
+      ≡ decision_verdict now party number
+  pub refusal : verdict_of now at (administrator party) (refuse_request number) past
+      ≡ decision_verdict now party number
 
 -- a state administrator may decide on a mutation exactly if another party lodged it
 abbrev pub AdministratorsDecideForOthers : Type 0
 AdministratorsDecideForOthers =
-    (now at : Register) (party number : ℕ) (past : Bool) → is_administrator now party ≡ true
-    → DecisionIsTold now at party number past
+    (now at : Register) (party number : ℕ) (past : Bool) → is_registered_administrator now party ≡ true
+    → DecisionHasVerdict now at party number past

@@ -40,10 +40,10 @@ decides passes (act.Refuse it) = passes it.mutation
 decides passes other = false
 
 -- whether an act gives or withdraws a mandate
-abbrev pub is_of_mandates : Act → Bool
-is_of_mandates (act.Mandate it) = true
-is_of_mandates (act.Withdraw it) = true
-is_of_mandates other = false
+abbrev pub is_mandate_act : Act → Bool
+is_mandate_act (act.Mandate it) = true
+is_mandate_act (act.Withdraw it) = true
+is_mandate_act other = false
 
 -- whether an act withdraws a mandate that satisfies a condition
 abbrev pub withdraws : (Mandate → Bool) → Act → Bool
@@ -57,12 +57,12 @@ is_between_others party m = not (nat_eq m.principal party || nat_eq m.agent part
 -- ---- roles that lodge
 
 -- whether the role may lodge transfers: conveyancers and notaries may
-abbrev pub is_of_transfers : Caller → Bool
-is_of_transfers caller = is_role caller.role Conveyancer || is_role caller.role Notary
+abbrev pub may_lodge_transfers : Caller → Bool
+may_lodge_transfers caller = is_role caller.role Conveyancer || is_role caller.role Notary
 
 -- whether the role may lodge mortgages and discharges: banks and notaries may
-abbrev pub is_of_mortgages : Caller → Bool
-is_of_mortgages caller = is_role caller.role Bank || is_role caller.role Notary
+abbrev pub may_lodge_mortgages : Caller → Bool
+may_lodge_mortgages caller = is_role caller.role Bank || is_role caller.role Notary
 
 -- ---- contents
 
@@ -75,20 +75,20 @@ is_transfer (content.Mortgage it) = false
 is_transfer (content.Discharge it) = false
 
 -- whether a content has new outlines: a subdivision or a merger
-abbrev pub is_of_outlines : Content → Bool
-is_of_outlines (content.Transfer it) = false
-is_of_outlines (content.Subdivision it) = true
-is_of_outlines (content.Merger it) = true
-is_of_outlines (content.Mortgage it) = false
-is_of_outlines (content.Discharge it) = false
+abbrev pub changes_outlines : Content → Bool
+changes_outlines (content.Transfer it) = false
+changes_outlines (content.Subdivision it) = true
+changes_outlines (content.Merger it) = true
+changes_outlines (content.Mortgage it) = false
+changes_outlines (content.Discharge it) = false
 
 -- whether a content creates or ends a mortgage
-abbrev pub is_of_a_mortgage : Content → Bool
-is_of_a_mortgage (content.Transfer it) = false
-is_of_a_mortgage (content.Subdivision it) = false
-is_of_a_mortgage (content.Merger it) = false
-is_of_a_mortgage (content.Mortgage it) = true
-is_of_a_mortgage (content.Discharge it) = true
+abbrev pub changes_mortgages : Content → Bool
+changes_mortgages (content.Transfer it) = false
+changes_mortgages (content.Subdivision it) = false
+changes_mortgages (content.Merger it) = false
+changes_mortgages (content.Mortgage it) = true
+changes_mortgages (content.Discharge it) = true
 
 -- whether a content is a mortgage of which the party is not the creditor
 abbrev pub is_mortgage_of_another : (party : ℕ) → Content → Bool

@@ -20,8 +20,8 @@ CirclesAreOfMandates = (at : Register) (party number : ℕ)
     ≡ (nat_eq number party || has_mandate at.mandates (mandate_of number party))
 
 -- without mandates, the circle of a party has only the party itself
-abbrev pub AloneWithoutMandates : Type 0
-AloneWithoutMandates = (at : Register) (party : ℕ) → at.mandates ≡ map.empty → circle_of at party ≡ party ∷ []
+abbrev pub CirclesWithoutMandates : Type 0
+CirclesWithoutMandates = (at : Register) (party : ℕ) → at.mandates ≡ map.empty → circle_of at party ≡ party ∷ []
 
 -- the same register without its mandates
 abbrev pub without_mandates : Register → Register

@@ -2,12 +2,12 @@
 -- agent. And the relations between a circle and the objects of a register.
 use Rattle.std.specs.Prelude.{ℕ, Bool, not, ◌&&◌, ◌||◌, nat_eq, List, ◌∷◌, filter, map as map_list}
 use Rattle.std.specs.List.{list_any}
-use Rattle.land_core.specs.Contents.{names_where}
+use Rattle.land_core.specs.Contents.{refers_to_unit_where}
 use Rattle.land_core.specs.Mandates.{mandates_in}
 use Rattle.land_core.specs.declared.mutation.MutationRecord.{MutationRecord}
 use Rattle.land_core.specs.declared.register.Register.{Register}
 use Rattle.land_core.specs.declared.rrr.RrrRecord.{RrrRecord}
-use Rattle.land_rules.specs.Relations.{holds_as, is_holder, is_member_of, is_mortgage, is_owner}
+use Rattle.land_rules.specs.Relations.{holds_under_name, is_holder, is_member_of, is_mortgage, is_owner}
 
 -- the principals of a party: the parties that gave it a mandate
 abbrev pub principals_of : Register → (party : ℕ) → List ℕ
@@ -36,15 +36,15 @@ is_group_of at circle group = list_any (λ p. is_member_of at p group) circle
 
 -- a circle sees an entry if a member of it is a holder in the entry's unit and, if the entry is a mortgage, a
 -- member is an owner there
-abbrev pub is_told_to_circle : Register → (circle : List ℕ) → RrrRecord → Bool
-is_told_to_circle at circle e =
+abbrev pub is_visible_to_circle : Register → (circle : List ℕ) → RrrRecord → Bool
+is_visible_to_circle at circle e =
     is_held_by at circle e.unit && (not (is_mortgage e.class) || is_owned_by at circle e.unit)
 
 -- whether a mutation refers to a unit in which a member of a circle is a holder
 abbrev pub names_held_by : Register → (circle : List ℕ) → MutationRecord → Bool
-names_held_by at circle m = names_where (is_held_by at circle) m.content
+names_held_by at circle m = refers_to_unit_where (is_held_by at circle) m.content
 
 -- whether a circle has rights under a name: the name is that of a member of it, or of a group of which a
 -- member of it is a member
 abbrev pub is_name_of : Register → (circle : List ℕ) → (named : ℕ) → Bool
-is_name_of at circle named = list_any (λ p. holds_as at p named) circle
+is_name_of at circle named = list_any (λ p. holds_under_name at p named) circle

@@ -20,7 +20,7 @@ use Rattle.land_core.specs.declared.rrr.Class.{Class}
 use Rattle.land_core.specs.declared.rrr.RightType.TheVariants.{Ownership}
 use Rattle.land_core.specs.declared.rrr.RrrRecord.{RrrRecord}
 use Rattle.land_rules.specs.Circles.{circle_of, is_held_by, is_name_of, is_owned_by}
-use Rattle.land_rules.specs.Relations.{is_creditor_on, is_lodger_on, is_mortgage, is_right}
+use Rattle.land_rules.specs.Relations.{is_creditor_on, has_pending_mutation_on, is_mortgage, is_right}
 use Rattle.land_rules.specs.Rules.{is_party_in_sight}
 use Rattle.land_rules.specs.declared.rules.holdings.Holdings.{Holdings}
 use Rattle.land_rules.specs.declared.rules.holdings.Interest.{Interest}
@@ -77,7 +77,7 @@ AreOfInterest interest at party units =
 
 -- the set of the units to which the undecided mutations of a party refer
 abbrev pub AreLodgedOn : Register → (party : ℕ) → BTreeSet ℕ → Type 0
-AreLodgedOn at party units = (unit : ℕ) → has_number units unit ≡ is_lodger_on at party unit
+AreLodgedOn at party units = (unit : ℕ) → has_number units unit ≡ has_pending_mutation_on at party unit
 
 -- the holdings of a caller: for a citizen the names of its circle and the units in which the circle is a
 -- holder or an owner, for a bank the units on which it is a creditor, for a conveyancer the units to which
@@ -91,19 +91,19 @@ pub record AreHoldings (at : Register) (caller : Caller) (it : Holdings) : Type 
 
 -- whether a number is a name of a party in a role: of a citizen a name of its circle, in another role only
 -- its own number
-abbrev pub is_its_name : Role → Register → (party number : ℕ) → Bool
-is_its_name Citizen at party number = is_name_of at (circle_of at party) number
-is_its_name Conveyancer at party number = nat_eq number party
-is_its_name Notary at party number = nat_eq number party
-is_its_name Bank at party number = nat_eq number party
-is_its_name CertifiedSurveyor at party number = nat_eq number party
-is_its_name StateAdministrator at party number = nat_eq number party
+abbrev pub is_name_of_caller : Role → Register → (party number : ℕ) → Bool
+is_name_of_caller Citizen at party number = is_name_of at (circle_of at party) number
+is_name_of_caller Conveyancer at party number = nat_eq number party
+is_name_of_caller Notary at party number = nat_eq number party
+is_name_of_caller Bank at party number = nat_eq number party
+is_name_of_caller CertifiedSurveyor at party number = nat_eq number party
+is_name_of_caller StateAdministrator at party number = nat_eq number party
 
 -- whether the role sees the parties of the entries that it sees
-abbrev pub meets_parties : Caller → Bool
-meets_parties caller =
+abbrev pub sees_parties_of_entries : Caller → Bool
+sees_parties_of_entries caller =
     is_role caller.role Citizen || is_role caller.role Bank || is_role caller.role Conveyancer
 
 -- the set of the parties of the entries that a caller sees
-abbrev pub AreMet : Register → Caller → BTreeSet ℕ → Type 0
-AreMet at caller parties = (party : ℕ) → has_number parties party ≡ is_party_in_sight at caller party
+abbrev pub ArePartiesOfEntries : Register → Caller → BTreeSet ℕ → Type 0
+ArePartiesOfEntries at caller parties = (party : ℕ) → has_number parties party ≡ is_party_in_sight at caller party

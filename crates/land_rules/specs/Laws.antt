@@ -15,16 +15,16 @@ use Rattle.land_core.specs.declared.role.Role.{Role}
 use Rattle.land_core.specs.declared.role.Role.TheVariants.{Citizen, Conveyancer, Notary, Bank}
 use Rattle.land_core.specs.declared.role.Role.TheVariants.{CertifiedSurveyor, StateAdministrator}
 use Rattle.land_rules.specs.Circles.{circle_of, is_group_of, is_in_circle}
-use Rattle.land_rules.specs.Relations.{is_lodger_on}
-use Rattle.land_rules.specs.Rules.{rules_on, verdict_of, denies, first_denial, rise_above, ascends, sees}
+use Rattle.land_rules.specs.Relations.{has_pending_mutation_on}
+use Rattle.land_rules.specs.Rules.{rules_on, verdict_of, denies, first_denial, all_above, is_ascending_list, sees}
 use Rattle.land_rules.specs.Rules.{seen_of, is_party_in_sight, view_rules}
 use Rattle.land_rules.specs.declared.verdict.Verdict.{Verdict}
 use Rattle.land_rules.specs.declared.verdict.Verdict.TheVariants.{Allowed, Denied}
 
 -- the rules on each request are in ascending order
-abbrev pub RulesRise : Type 0
-RulesRise = (now at : Register) (caller : Caller) (a : Ask) (past : Bool)
-    → rise_above 0 (rules_on now at caller a past) ≡ true
+abbrev pub RulesAreOrdered : Type 0
+RulesAreOrdered = (now at : Register) (caller : Caller) (a : Ask) (past : Bool)
+    → all_above 0 (rules_on now at caller a past) ≡ true
 
 -- rule k denies, and no rule with a lower number does
 pub record IsLeastDenial (now at : Register) (caller : Caller) (a : Ask) (past : Bool) (k : ℕ) : Type 0 where
@@ -45,13 +45,13 @@ VerdictsAreLeast =
 
 -- a list is ascending without duplicates, and it has a number exactly if no rule denies the view of that
 -- object
-pub record SeenIsExact (at : Register) (caller : Caller) (k : Kind) : Type 0 where
-  pub ascending : ascends (seen_of at caller k) ≡ true
+pub record IsExactList (at : Register) (caller : Caller) (k : Kind) : Type 0 where
+  pub ascending : is_ascending_list (seen_of at caller k) ≡ true
   pub exact : (n : ℕ) → list_any (nat_eq n) (seen_of at caller k) ≡ sees at caller k n
 
 -- every list is of this kind
-abbrev pub SeenIsExactly : Type 0
-SeenIsExactly = (at : Register) (caller : Caller) (k : Kind) → SeenIsExact at caller k
+abbrev pub SeenListsAreExact : Type 0
+SeenListsAreExact = (at : Register) (caller : Caller) (k : Kind) → IsExactList at caller k
 
 -- a caller in the role of citizen
 abbrev pub citizen : ℕ → Caller
@@ -60,7 +60,7 @@ citizen party = record { party = party; role = Citizen }
 -- the verdict on a citizen's view of a group: allowed if a member of the citizen's circle is a member of the
 -- group at the requested time; denied by rule 13 if neither this holds, nor the group is in the circle, nor
 -- it is the party of a visible entry
-pub record GroupIsSeen (now at : Register) (party group : ℕ) (moment : Option ℤ) (past : Bool) : Type 0 where
+pub record GroupIsVisible (now at : Register) (party group : ℕ) (moment : Option ℤ) (past : Bool) : Type 0 where
   pub member : (one : ℕ) → is_in_circle at party one ≡ true → is_member at group one ≡ true
       → stands at kind.Party group ≡ true
       → verdict_of now at (citizen party) (ask.View kind.Party group moment) past ≡ Allowed
@@ -73,7 +73,7 @@ pub record GroupIsSeen (now at : Register) (party group : ℕ) (moment : Option 
 abbrev pub MembersSeeGroups : Type 0
 MembersSeeGroups = (now at : Register) (party group : ℕ) (moment : Option ℤ) (past : Bool)
     → stands now kind.Party party ≡ true → holds now party Citizen ≡ true
-    → GroupIsSeen now at party group moment past
+    → GroupIsVisible now at party group moment past
 
 -- the number of the rule that denies a role the view of an object that is not visible
 abbrev pub rule_of_role : Role → Kind → ℕ
@@ -105,35 +105,35 @@ rule_of_role CertifiedSurveyor kind.Mutation = 25
 rule_of_role StateAdministrator k = 27
 
 -- whether a caller views the party that it is itself
-abbrev pub is_itself : Caller → Kind → ℕ → Bool
-is_itself caller kind.Party number = nat_eq number caller.party
-is_itself caller kind.Unit number = false
-is_itself caller kind.Parcel number = false
-is_itself caller kind.Rrr number = false
-is_itself caller kind.Source number = false
-is_itself caller kind.Mutation number = false
+abbrev pub views_itself : Caller → Kind → ℕ → Bool
+views_itself caller kind.Party number = nat_eq number caller.party
+views_itself caller kind.Unit number = false
+views_itself caller kind.Parcel number = false
+views_itself caller kind.Rrr number = false
+views_itself caller kind.Source number = false
+views_itself caller kind.Mutation number = false
 
 -- whether a conveyancer views a unit to which its own undecided mutation refers
-abbrev pub is_named_by_itself : (at : Register) → Caller → Kind → ℕ → Bool
-is_named_by_itself at caller kind.Party number = false
-is_named_by_itself at caller kind.Unit number =
-    is_role caller.role Conveyancer && is_lodger_on at caller.party number
-is_named_by_itself at caller kind.Parcel number = false
-is_named_by_itself at caller kind.Rrr number = false
-is_named_by_itself at caller kind.Source number = false
-is_named_by_itself at caller kind.Mutation number = false
+abbrev pub is_named_by_own_mutation : (at : Register) → Caller → Kind → ℕ → Bool
+is_named_by_own_mutation at caller kind.Party number = false
+is_named_by_own_mutation at caller kind.Unit number =
+    is_role caller.role Conveyancer && has_pending_mutation_on at caller.party number
+is_named_by_own_mutation at caller kind.Parcel number = false
+is_named_by_own_mutation at caller kind.Rrr number = false
+is_named_by_own_mutation at caller kind.Source number = false
+is_named_by_own_mutation at caller kind.Mutation number = false
 
 -- the number of the rule that denies an object that is not visible. It follows from role, kind and caller,
 -- but two cases get rule 27: a caller that views itself, and a conveyancer's unit to which its own undecided
 -- mutation refers; neither object exists then
 abbrev pub rule_out_of_sight : (at : Register) → Caller → Kind → ℕ → ℕ
 rule_out_of_sight at caller k number =
-    if is_named_by_itself at caller k number || is_itself caller k number then 27
+    if is_named_by_own_mutation at caller k number || views_itself caller k number then 27
     else rule_of_role caller.role k
 
 -- a visible object is allowed, and this rule denies every other
-abbrev pub told_by_sight : (at : Register) → Caller → Kind → ℕ → Verdict
-told_by_sight at caller k number =
+abbrev pub verdict_by_sight : (at : Register) → Caller → Kind → ℕ → Verdict
+verdict_by_sight at caller k number =
     if sees at caller k number then Allowed else Denied (rule_out_of_sight at caller k number)
 
 -- a register at a time: sound, or empty if the time is before the first change
@@ -141,6 +141,6 @@ abbrev pub IsSoundOrNothing : Register → Type 0
 IsSoundOrNothing at = IsSound at ⊎ (at ≡ nothing)
 
 -- in such a register, the denial of a view reveals only that the object is not visible
-abbrev pub DenialsTellSight : Type 0
-DenialsTellSight = (at : Register) → IsSoundOrNothing at → (caller : Caller) (k : Kind) (number : ℕ)
-    → first_denial (view_rules at caller k number) ≡ told_by_sight at caller k number
+abbrev pub DenialsRevealOnlySight : Type 0
+DenialsRevealOnlySight = (at : Register) → IsSoundOrNothing at → (caller : Caller) (k : Kind) (number : ℕ)
+    → first_denial (view_rules at caller k number) ≡ verdict_by_sight at caller k number

@@ -2,7 +2,7 @@
 use Rattle.std.specs.Prelude.{ℕ, Bool, false, not, ◌&&◌, ◌||◌, nat_eq, is_some}
 use Rattle.std.specs.Option.{option_map_or}
 use Rattle.std.specs.FinMap as map
-use Rattle.land_core.specs.Contents.{names_unit, names_where}
+use Rattle.land_core.specs.Contents.{names_unit, refers_to_unit_where}
 use Rattle.land_core.specs.Entries.{some}
 use Rattle.land_core.specs.Mutations.{is_undecided}
 use Rattle.land_core.specs.Register.{stands, is_member}
@@ -28,21 +28,21 @@ is_member_of at party group = is_member at group party
 
 -- whether a party has the rights under a name: the name is its own number, or that of a group of which it is
 -- a member
-abbrev pub holds_as : Register → (party named : ℕ) → Bool
-holds_as at party named = nat_eq named party || is_member_of at party named
+abbrev pub holds_under_name : Register → (party named : ℕ) → Bool
+holds_under_name at party named = nat_eq named party || is_member_of at party named
 
 -- whether an entry is a right in a unit that the party has
 abbrev pub is_held_right : Register → (party unit : ℕ) → RrrRecord → Bool
-is_held_right at party unit e = nat_eq e.unit unit && is_right e.class && holds_as at party e.party
+is_held_right at party unit e = nat_eq e.unit unit && is_right e.class && holds_under_name at party e.party
 
 -- whether an entry is an ownership of a unit that the party has
 abbrev pub is_held_ownership : Register → (party unit : ℕ) → RrrRecord → Bool
 is_held_ownership at party unit e =
-    nat_eq e.unit unit && is_right_of Ownership e.class && holds_as at party e.party
+    nat_eq e.unit unit && is_right_of Ownership e.class && holds_under_name at party e.party
 
 -- whether an entry is a mortgage on a unit of which the party is the creditor
-abbrev pub is_credit : (party unit : ℕ) → RrrRecord → Bool
-is_credit party unit e = nat_eq e.unit unit && is_mortgage e.class && nat_eq e.party party
+abbrev pub is_held_mortgage : (party unit : ℕ) → RrrRecord → Bool
+is_held_mortgage party unit e = nat_eq e.unit unit && is_mortgage e.class && nat_eq e.party party
 
 -- a holder in a unit has a right in it, directly or as a member of a group
 abbrev pub is_holder : Register → (party unit : ℕ) → Bool
@@ -54,7 +54,7 @@ is_owner at party unit = stands at kind.Unit unit && some (λ n e. is_held_owner
 
 -- a creditor on a unit has a mortgage on it
 abbrev pub is_creditor_on : Register → (party unit : ℕ) → Bool
-is_creditor_on at party unit = stands at kind.Unit unit && some (λ n e. is_credit party unit e) at.rrrs
+is_creditor_on at party unit = stands at kind.Unit unit && some (λ n e. is_held_mortgage party unit e) at.rrrs
 
 -- whether a party lodged a mutation
 abbrev pub is_lodger_of : (party : ℕ) → MutationRecord → Bool
@@ -69,12 +69,12 @@ abbrev pub is_pending_on : (party unit : ℕ) → MutationRecord → Bool
 is_pending_on party unit m = is_pending_of party m && names_unit unit m.content
 
 -- whether the register has such a mutation; the unit may have ended, or may never have existed
-abbrev pub is_lodger_on : Register → (party unit : ℕ) → Bool
-is_lodger_on at party unit = some (λ n m. is_pending_on party unit m) at.mutations
+abbrev pub has_pending_mutation_on : Register → (party unit : ℕ) → Bool
+has_pending_mutation_on at party unit = some (λ n m. is_pending_on party unit m) at.mutations
 
 -- whether a mutation refers to a unit in which the party is a holder
 abbrev pub names_holding : Register → (party : ℕ) → MutationRecord → Bool
-names_holding at party m = names_where (is_holder at party) m.content
+names_holding at party m = refers_to_unit_where (is_holder at party) m.content
 
 -- whether a mutation exists at a number and satisfies a condition
 abbrev pub is_mutation_where : (MutationRecord → Bool) → Register → (number : ℕ) → Bool
@@ -89,10 +89,10 @@ abbrev pub is_rrr_where : (RrrRecord → Bool) → Register → (number : ℕ) �
 is_rrr_where passes at number = option_map_or passes (map.get at.rrrs number) false
 
 -- a holder sees the entries of the unit that are not mortgages; an owner sees the mortgages too
-abbrev pub is_told_to_holder : Register → (party : ℕ) → RrrRecord → Bool
-is_told_to_holder at party e =
+abbrev pub is_visible_to_holder : Register → (party : ℕ) → RrrRecord → Bool
+is_visible_to_holder at party e =
     is_holder at party e.unit && (not (is_mortgage e.class) || is_owner at party e.unit)
 
 -- a creditor sees an entry unless it is the mortgage of another creditor
-abbrev pub is_told_to_creditor : (party : ℕ) → RrrRecord → Bool
-is_told_to_creditor party e = not (is_mortgage e.class) || nat_eq e.party party
+abbrev pub is_visible_to_creditor : (party : ℕ) → RrrRecord → Bool
+is_visible_to_creditor party e = not (is_mortgage e.class) || nat_eq e.party party

@@ -17,12 +17,12 @@ use Rattle.land_core.specs.declared.role.Role.TheVariants.{Citizen, Conveyancer,
 use Rattle.land_core.specs.declared.role.Role.TheVariants.{CertifiedSurveyor, StateAdministrator}
 use Rattle.land_core.specs.declared.rrr.RrrRecord.{RrrRecord}
 use Rattle.land_rules.specs.Acts.{decides, is_between_others, is_discharge_of_another, is_mortgage_of_another}
-use Rattle.land_rules.specs.Acts.{is_of_a_mortgage, is_of_mandates, is_of_mortgages, is_of_outlines}
-use Rattle.land_rules.specs.Acts.{is_of_transfers, is_office_act, is_transfer, lodges, withdraws}
-use Rattle.land_rules.specs.Circles.{circle_of, is_group_of, is_held_by, is_in_circle, is_told_to_circle}
+use Rattle.land_rules.specs.Acts.{changes_mortgages, is_mandate_act, may_lodge_mortgages, changes_outlines}
+use Rattle.land_rules.specs.Acts.{may_lodge_transfers, is_office_act, is_transfer, lodges, withdraws}
+use Rattle.land_rules.specs.Circles.{circle_of, is_group_of, is_held_by, is_in_circle, is_visible_to_circle}
 use Rattle.land_rules.specs.Circles.{names_held_by}
-use Rattle.land_rules.specs.Relations.{has_lodged, is_creditor_on, is_lodger_on, is_mutation_where}
-use Rattle.land_rules.specs.Relations.{is_rrr_where, is_told_to_creditor}
+use Rattle.land_rules.specs.Relations.{has_lodged, is_creditor_on, has_pending_mutation_on, is_mutation_where}
+use Rattle.land_rules.specs.Relations.{is_rrr_where, is_visible_to_creditor}
 use Rattle.land_rules.specs.declared.verdict.Verdict.{Verdict}
 use Rattle.land_rules.specs.declared.verdict.Verdict.TheVariants.{Allowed, Denied}
 
@@ -43,8 +43,8 @@ is_allowed (Denied k) = false
 -- ---- standing rules: rules on callers and acts, which read the register now
 
 -- whether the role sees only the present
-abbrev pub is_of_the_present : Caller → Bool
-is_of_the_present caller =
+abbrev pub sees_only_present : Caller → Bool
+sees_only_present caller =
     is_role caller.role Bank || is_role caller.role Conveyancer || is_role caller.role CertifiedSurveyor
 
 -- rules on callers: 1 to 3
@@ -55,7 +55,7 @@ caller_rules now caller past =
     -- the caller does not hold the role that it claims now
     ∷ (2, not (holds now caller.party caller.role))
     -- a bank, a conveyancer or a certified surveyor requests a past time
-    ∷ (3, past && is_of_the_present caller)
+    ∷ (3, past && sees_only_present caller)
     ∷ []
 
 -- rules on acts: 4 to 10, 28 and 29
@@ -64,11 +64,11 @@ act_rules now caller a =
     -- an act of the office is for state administrators only
     (4, is_office_act a && not (is_role caller.role StateAdministrator))
     -- only conveyancers and notaries lodge transfers
-    ∷ (5, lodges is_transfer a && not (is_of_transfers caller))
+    ∷ (5, lodges is_transfer a && not (may_lodge_transfers caller))
     -- only certified surveyors lodge subdivisions and mergers
-    ∷ (6, lodges is_of_outlines a && not (is_role caller.role CertifiedSurveyor))
+    ∷ (6, lodges changes_outlines a && not (is_role caller.role CertifiedSurveyor))
     -- only banks and notaries lodge mortgages and discharges
-    ∷ (7, lodges is_of_a_mortgage a && not (is_of_mortgages caller))
+    ∷ (7, lodges changes_mortgages a && not (may_lodge_mortgages caller))
     -- a bank lodges a mortgage of which another party is the creditor
     ∷ (8, is_role caller.role Bank && lodges (is_mortgage_of_another caller.party) a)
     -- a bank lodges the discharge of a number at which it has no mortgage now; the unit that it names is not
@@ -77,7 +77,7 @@ act_rules now caller a =
     -- the caller decides on a mutation that it lodged, in any role and any state of the mutation
     ∷ (10, decides (has_lodged now caller.party) a)
     -- only citizens give and withdraw mandates
-    ∷ (28, is_of_mandates a && not (is_role caller.role Citizen))
+    ∷ (28, is_mandate_act a && not (is_role caller.role Citizen))
     -- the caller withdraws a mandate of which it is neither the principal nor the agent; the mandate need not
     -- exist
     ∷ (29, withdraws (is_between_others caller.party) a)
@@ -100,7 +100,7 @@ unit_rules at caller number =
     -- a bank sees a unit only if it is a creditor on it
     ∷ (15, is_role caller.role Bank && not (is_creditor_on at caller.party number))
     -- a conveyancer sees a unit only if one of its undecided mutations refers to it
-    ∷ (19, is_role caller.role Conveyancer && not (is_lodger_on at caller.party number))
+    ∷ (19, is_role caller.role Conveyancer && not (has_pending_mutation_on at caller.party number))
     -- a certified surveyor sees no units
     ∷ (23, is_role caller.role CertifiedSurveyor)
     -- the unit does not exist
@@ -112,12 +112,12 @@ abbrev pub is_unit_in_sight : (at : Register) → Caller → (number : ℕ) → 
 is_unit_in_sight at caller number = is_allowed (first_denial (unit_rules at caller number))
 
 -- a bank sees the entries of a visible unit, except the mortgages of other creditors
-abbrev pub is_told_to_bank : (at : Register) → Caller → RrrRecord → Bool
-is_told_to_bank at caller e = is_unit_in_sight at caller e.unit && is_told_to_creditor caller.party e
+abbrev pub is_visible_to_bank : (at : Register) → Caller → RrrRecord → Bool
+is_visible_to_bank at caller e = is_unit_in_sight at caller e.unit && is_visible_to_creditor caller.party e
 
 -- a conveyancer sees the entries of a visible unit
-abbrev pub is_told_to_conveyancer : (at : Register) → Caller → RrrRecord → Bool
-is_told_to_conveyancer at caller e = is_unit_in_sight at caller e.unit
+abbrev pub is_visible_to_conveyancer : (at : Register) → Caller → RrrRecord → Bool
+is_visible_to_conveyancer at caller e = is_unit_in_sight at caller e.unit
 
 -- rules on the view of an entry
 abbrev pub rrr_rules : (at : Register) → Caller → (number : ℕ) → Rules
@@ -125,11 +125,11 @@ rrr_rules at caller number =
     let circle = circle_of at caller.party in
     -- a citizen sees an entry only if a member of its circle is a holder in the unit, and a mortgage only if
     -- one is an owner
-    (12, is_role caller.role Citizen && not (is_rrr_where (is_told_to_circle at circle) at number))
+    (12, is_role caller.role Citizen && not (is_rrr_where (is_visible_to_circle at circle) at number))
     -- a bank sees an entry only if the unit is visible and the entry is not the mortgage of another creditor
-    ∷ (16, is_role caller.role Bank && not (is_rrr_where (is_told_to_bank at caller) at number))
+    ∷ (16, is_role caller.role Bank && not (is_rrr_where (is_visible_to_bank at caller) at number))
     -- a conveyancer sees an entry only if the unit is visible
-    ∷ (20, is_role caller.role Conveyancer && not (is_rrr_where (is_told_to_conveyancer at caller) at number))
+    ∷ (20, is_role caller.role Conveyancer && not (is_rrr_where (is_visible_to_conveyancer at caller) at number))
     -- a certified surveyor sees no entries
     ∷ (23, is_role caller.role CertifiedSurveyor)
     -- the entry does not exist
@@ -172,14 +172,14 @@ parcel_rules at number =
     ∷ []
 
 -- whether the role sees sources
-abbrev pub is_told_sources : Caller → Bool
-is_told_sources caller = is_role caller.role Notary || is_role caller.role StateAdministrator
+abbrev pub sees_sources : Caller → Bool
+sees_sources caller = is_role caller.role Notary || is_role caller.role StateAdministrator
 
 -- rules on the view of a source
 abbrev pub source_rules : (at : Register) → Caller → (number : ℕ) → Rules
 source_rules at caller number =
     -- only notaries and state administrators see sources
-    (26, not (is_told_sources caller))
+    (26, not (sees_sources caller))
     -- the source does not exist
     ∷ (27, not (stands at kind.Source number))
     ∷ []
@@ -232,9 +232,9 @@ abbrev pub denies : ℕ → Rules → Bool
 denies k rules = list_any (λ rule. nat_eq rule.0 k && rule.1) rules
 
 -- whether the numbers of rules are ascending and above a lower bound
-abbrev pub rise_above : ℕ → Rules → Bool
-rise_above low [] = true
-rise_above low (rule ∷ rules) = nat_lt low rule.0 && rise_above rule.0 rules
+abbrev pub all_above : ℕ → Rules → Bool
+all_above low [] = true
+all_above low (rule ∷ rules) = nat_lt low rule.0 && all_above rule.0 rules
 
 -- ---- lists
 
@@ -243,9 +243,9 @@ abbrev pub sees : (at : Register) → Caller → Kind → (number : ℕ) → Boo
 sees at caller k number = is_allowed (first_denial (view_rules at caller k number))
 
 -- whether each number of a list is below all that follow it
-abbrev pub ascends : List ℕ → Bool
-ascends [] = true
-ascends (n ∷ ns) = list_all (nat_lt n) ns && ascends ns
+abbrev pub is_ascending_list : List ℕ → Bool
+is_ascending_list [] = true
+is_ascending_list (n ∷ ns) = list_all (nat_lt n) ns && is_ascending_list ns
 
 -- the list of a kind: the numbers that the caller sees, ascending, each once
 abbrev pub seen_of : (at : Register) → Caller → Kind → List ℕ

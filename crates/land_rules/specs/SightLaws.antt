@@ -18,18 +18,18 @@ use Rattle.land_core.specs.declared.rrr.RrrRecord.{RrrRecord}
 use Rattle.land_rules.specs.Circles.{is_in_circle}
 use Rattle.land_rules.specs.Laws.{citizen}
 use Rattle.land_rules.specs.Relations.{is_holder, is_mortgage, is_owner, is_right}
-use Rattle.land_rules.specs.Rules.{is_of_the_present, sees, verdict_of}
+use Rattle.land_rules.specs.Rules.{sees_only_present, sees, verdict_of}
 use Rattle.land_rules.specs.declared.verdict.Verdict.{Verdict}
 use Rattle.land_rules.specs.declared.verdict.Verdict.TheVariants.{Allowed, Denied}
 
 -- whether a party exists and holds the role citizen now
-abbrev pub is_citizen : (now : Register) → (party : ℕ) → Bool
-is_citizen now party = stands now kind.Party party && holds now party Citizen
+abbrev pub is_registered_citizen : (now : Register) → (party : ℕ) → Bool
+is_registered_citizen now party = stands now kind.Party party && holds now party Citizen
 
 -- the verdict on a citizen's view of an object
-abbrev pub citizen_told : (now at : Register) → (party : ℕ) → Kind → (number : ℕ) → Option ℤ → (past : Bool)
+abbrev pub citizen_view_verdict : (now at : Register) → (party : ℕ) → Kind → (number : ℕ) → Option ℤ → (past : Bool)
     → Verdict
-citizen_told now at party k number moment past =
+citizen_view_verdict now at party k number moment past =
     verdict_of now at (citizen party) (ask.View k number moment) past
 
 -- entry e exists at a number and is in a unit
@@ -38,7 +38,7 @@ pub record IsEntryOf (at : Register) (unit number : ℕ) (e : RrrRecord) : Type 
   pub of_unit : e.unit ≡ unit
 
 -- an entry of such a class exists in a unit under a name
-pub record HasEntry (is_of : Class → Bool) (at : Register) (named unit : ℕ) : Type 0 where
+pub record HasEntryOfClass (is_of : Class → Bool) (at : Register) (named unit : ℕ) : Type 0 where
   pub number : ℕ
   pub entry : RrrRecord
   pub stands : IsEntryOf at unit number entry
@@ -46,68 +46,68 @@ pub record HasEntry (is_of : Class → Bool) (at : Register) (named unit : ℕ) 
   pub name : entry.party ≡ named
 
 -- a name is that of another party, and not of a group of which the party is a member
-pub record IsOfOthers (at : Register) (party named : ℕ) : Type 0 where
+pub record IsNameOfOthers (at : Register) (party named : ℕ) : Type 0 where
   pub other : named ≢ party
   pub outside : is_member at named party ≡ false
 
 -- every entry of such a class in a unit is under the name of other parties
-abbrev pub HoldsNone : (is_of : Class → Bool) → Register → (party unit : ℕ) → Type 0
-HoldsNone is_of at party unit = (number : ℕ) (e : RrrRecord) → IsEntryOf at unit number e
-    → is_of e.class ≡ true → IsOfOthers at party e.party
+abbrev pub HoldsNothingOfClass : (is_of : Class → Bool) → Register → (party unit : ℕ) → Type 0
+HoldsNothingOfClass is_of at party unit = (number : ℕ) (e : RrrRecord) → IsEntryOf at unit number e
+    → is_of e.class ≡ true → IsNameOfOthers at party e.party
 
 -- the same holds for each member of the circle of a party
-abbrev pub CircleHoldsNone : (is_of : Class → Bool) → Register → (party unit : ℕ) → Type 0
-CircleHoldsNone is_of at party unit =
-    (one : ℕ) → is_in_circle at party one ≡ true → HoldsNone is_of at one unit
+abbrev pub CircleHoldsNothingOfClass : (is_of : Class → Bool) → Register → (party unit : ℕ) → Type 0
+CircleHoldsNothingOfClass is_of at party unit =
+    (one : ℕ) → is_in_circle at party one ≡ true → HoldsNothingOfClass is_of at one unit
 
 -- party `one` is a holder in the unit, and a party that has it in its circle sees the unit and all its
 -- entries that are not mortgages
-pub record IsToldAsHolder (now at : Register) (one party unit : ℕ) (moment : Option ℤ) (past : Bool)
+pub record SeesAsHolder (now at : Register) (one party unit : ℕ) (moment : Option ℤ) (past : Bool)
     : Type 0 where
   pub holder : is_holder at one unit ≡ true
-  pub unit_shown : citizen_told now at party kind.Unit unit moment past ≡ Allowed
+  pub unit_shown : citizen_view_verdict now at party kind.Unit unit moment past ≡ Allowed
   pub entries_shown : (number : ℕ) (e : RrrRecord) → IsEntryOf at unit number e → is_mortgage e.class ≡ false
-      → citizen_told now at party kind.Rrr number moment past ≡ Allowed
+      → citizen_view_verdict now at party kind.Rrr number moment past ≡ Allowed
 
 -- if a group has a right in a unit at the requested time, each of its members then is a holder, and the
 -- member and the agents of its mandates see the unit as holders do
-abbrev pub MembersHold : Type 0
-MembersHold = (now at : Register) (party one group unit : ℕ) (moment : Option ℤ) (past : Bool)
-    → is_citizen now party ≡ true → is_in_circle at party one ≡ true
-    → is_member at group one ≡ true → stands at kind.Unit unit ≡ true → HasEntry is_right at group unit
-    → IsToldAsHolder now at one party unit moment past
+abbrev pub MembersAreHolders : Type 0
+MembersAreHolders = (now at : Register) (party one group unit : ℕ) (moment : Option ℤ) (past : Bool)
+    → is_registered_citizen now party ≡ true → is_in_circle at party one ≡ true
+    → is_member at group one ≡ true → stands at kind.Unit unit ≡ true → HasEntryOfClass is_right at group unit
+    → SeesAsHolder now at one party unit moment past
 
 -- if no member of a citizen's circle has a right in a unit at the requested time, rule 11 denies the unit, in
 -- any state of the register now
 abbrev pub EndedEntriesGiveNoSight : Type 0
 EndedEntriesGiveNoSight =
-    (now at : Register) (party unit : ℕ) (moment : Option ℤ) (past : Bool) → is_citizen now party ≡ true
-    → CircleHoldsNone is_right at party unit
-    → citizen_told now at party kind.Unit unit moment past ≡ Denied 11
+    (now at : Register) (party unit : ℕ) (moment : Option ℤ) (past : Bool) → is_registered_citizen now party ≡ true
+    → CircleHoldsNothingOfClass is_right at party unit
+    → citizen_view_verdict now at party kind.Unit unit moment past ≡ Denied 11
 
 -- the verdict on a citizen's view of a mortgage: allowed if a member of its circle is an owner of the unit;
 -- denied by rule 12 if none has an ownership there, for example for a lessee
-pub record MortgageIsTold (now at : Register) (party unit number : ℕ) (moment : Option ℤ) (past : Bool)
+pub record MortgageHasVerdict (now at : Register) (party unit number : ℕ) (moment : Option ℤ) (past : Bool)
     : Type 0 where
   pub owner : (one : ℕ) → is_in_circle at party one ≡ true → is_owner at one unit ≡ true
-      → citizen_told now at party kind.Rrr number moment past ≡ Allowed
-  pub other : CircleHoldsNone (is_right_of Ownership) at party unit
-      → citizen_told now at party kind.Rrr number moment past ≡ Denied 12
+      → citizen_view_verdict now at party kind.Rrr number moment past ≡ Allowed
+  pub other : CircleHoldsNothingOfClass (is_right_of Ownership) at party unit
+      → citizen_view_verdict now at party kind.Rrr number moment past ≡ Denied 12
 
 -- every mortgage has this verdict
-abbrev pub OwnersAloneSeeMortgages : Type 0
-OwnersAloneSeeMortgages =
+abbrev pub OnlyOwnersSeeMortgages : Type 0
+OnlyOwnersSeeMortgages =
     (now at : Register) (party unit number : ℕ) (e : RrrRecord) (moment : Option ℤ) (past : Bool)
-    → is_citizen now party ≡ true
+    → is_registered_citizen now party ≡ true
     → IsEntryOf at unit number e → is_mortgage e.class ≡ true
-    → MortgageIsTold now at party unit number moment past
+    → MortgageHasVerdict now at party unit number moment past
 
 -- a caller in the role of bank
 abbrev pub bank : ℕ → Caller
 bank party = record { party = party; role = Bank }
 
 -- an entry exists in a unit that the bank sees, and is not the mortgage of another creditor
-pub record IsOpenToBank (at : Register) (party number : ℕ) : Type 0 where
+pub record IsVisibleEntryOfBank (at : Register) (party number : ℕ) : Type 0 where
   pub entry : RrrRecord
   pub there : map.get at.rrrs number ≡ Some entry
   pub in_sight : sees at (bank party) kind.Unit entry.unit ≡ true
@@ -117,8 +117,8 @@ pub record IsOpenToBank (at : Register) (party number : ℕ) : Type 0 where
 -- mortgages of other creditors
 pub record BankSees (at : Register) (party : ℕ) : Type 0 where
   pub units : (unit : ℕ) → (sees at (bank party) kind.Unit unit ≡ true)
-      ↔ ((stands at kind.Unit unit ≡ true) × HasEntry is_mortgage at party unit)
-  pub entries : (number : ℕ) → (sees at (bank party) kind.Rrr number ≡ true) ↔ IsOpenToBank at party number
+      ↔ ((stands at kind.Unit unit ≡ true) × HasEntryOfClass is_mortgage at party unit)
+  pub entries : (number : ℕ) → (sees at (bank party) kind.Rrr number ≡ true) ↔ IsVisibleEntryOfBank at party number
 
 -- every bank sees exactly this
 abbrev pub BanksSeeByTheirMortgages : Type 0
@@ -132,7 +132,7 @@ pub record HasLodged (at : Register) (party number : ℕ) : Type 0 where
 
 -- a bank, a conveyancer or a certified surveyor sees exactly the mutations that it lodged, decided or not
 abbrev pub LodgersSeeTheirMutations : Type 0
-LodgersSeeTheirMutations = (at : Register) (caller : Caller) → is_of_the_present caller ≡ true
+LodgersSeeTheirMutations = (at : Register) (caller : Caller) → sees_only_present caller ≡ true
     → (number : ℕ) → (sees at caller kind.Mutation number ≡ true) ↔ HasLodged at caller.party number
 
 -- a caller in the role of conveyancer

@@ -28,8 +28,8 @@ use Rattle.land_core.specs.declared.role.Role.TheVariants.{Citizen, Conveyancer,
 use Rattle.land_core.specs.declared.role.Role.TheVariants.{CertifiedSurveyor, StateAdministrator}
 use Rattle.land_core.specs.declared.rrr.RrrRecord.{RrrRecord}
 use Rattle.land_core.specs.declared.subdivision.Subdivision.{Subdivision}
-use Rattle.land_rules.specs.ActLaws.{to_approve, to_refuse}
-use Rattle.land_rules.specs.Acts.{is_of_mandates}
+use Rattle.land_rules.specs.ActLaws.{approve_request, refuse_request}
+use Rattle.land_rules.specs.Acts.{is_mandate_act}
 use Rattle.land_rules.specs.Relations.{has_lodged, is_mortgage}
 use Rattle.land_rules.specs.Rules.{verdict_of}
 use Rattle.land_rules.specs.declared.verdict.Verdict.TheVariants.{Allowed, Denied}
@@ -38,8 +38,8 @@ use Rattle.land_rules.specs.declared.verdict.Verdict.TheVariants.{Allowed, Denie
 
 -- rule 1 denies a request exactly if the caller is not a party of the register now, in any role and for any
 -- time
-abbrev pub StrangersAreDeniedEverything : Type 0
-StrangersAreDeniedEverything = (now at : Register) (caller : Caller) (a : Ask) (past : Bool)
+abbrev pub UnregisteredCallersAreDenied : Type 0
+UnregisteredCallersAreDenied = (now at : Register) (caller : Caller) (a : Ask) (past : Bool)
     → (verdict_of now at caller a past ≡ Denied 1) ↔ (map.get now.parties caller.party ≡ None)
 
 -- whether the caller is a party of the register now and holds its role now
@@ -47,14 +47,14 @@ abbrev pub is_in_role : (now : Register) → Caller → Bool
 is_in_role now caller = stands now kind.Party caller.party && holds now caller.party caller.role
 
 -- the caller is a party of the register, and its role was never granted to it, or was revoked
-pub record LacksItsRole (now : Register) (caller : Caller) : Type 0 where
+pub record LacksRole (now : Register) (caller : Caller) : Type 0 where
   pub party : stands now kind.Party caller.party ≡ true
   pub no_grant : map.get now.roles (grant_of caller.party caller.role) ≡ None
 
 -- rule 2 denies a request exactly if the caller exists and does not hold its role now. So only callers that
 -- hold their role now are ever allowed anything; the roles at the requested time do not matter
 pub record RoleIsHeld (now at : Register) (caller : Caller) (a : Ask) (past : Bool) : Type 0 where
-  pub denied : (verdict_of now at caller a past ≡ Denied 2) ↔ LacksItsRole now caller
+  pub denied : (verdict_of now at caller a past ≡ Denied 2) ↔ LacksRole now caller
   pub allowed : verdict_of now at caller a past ≡ Allowed → is_in_role now caller ≡ true
 
 -- the law on rule 2
@@ -62,88 +62,88 @@ abbrev pub RolesAreHeld : Type 0
 RolesAreHeld = (now at : Register) (caller : Caller) (a : Ask) (past : Bool) → RoleIsHeld now at caller a past
 
 -- whether the caller's role is one of these
-abbrev pub asks_in : List Role → Caller → Bool
-asks_in roles caller = list_any (is_role caller.role) roles
+abbrev pub has_role_among : List Role → Caller → Bool
+has_role_among roles caller = list_any (is_role caller.role) roles
 
 -- the roles that may request a past time
-abbrev pub roles_of_the_past : List Role
-roles_of_the_past = Citizen ∷ Notary ∷ StateAdministrator ∷ []
+abbrev pub roles_with_past : List Role
+roles_with_past = Citizen ∷ Notary ∷ StateAdministrator ∷ []
 
 -- a caller that holds its role requests a past time, and its role may not
-pub record AsksForClosedPast (now : Register) (caller : Caller) (past : Bool) : Type 0 where
+pub record RequestsClosedPast (now : Register) (caller : Caller) (past : Bool) : Type 0 where
   pub asker : is_in_role now caller ≡ true
   pub late : past ≡ true
-  pub closed : asks_in roles_of_the_past caller ≡ false
+  pub closed : has_role_among roles_with_past caller ≡ false
 
 -- citizens, notaries and state administrators get the same verdict on the past as on the present. All other
 -- roles are denied every request about the past: by rule 3 if they hold their role, and rule 3 denies nothing
 -- else
-pub record PastIsByRole (now at : Register) (caller : Caller) (a : Ask) : Type 0 where
-  pub as_now : asks_in roles_of_the_past caller ≡ true
+pub record PastFollowsRole (now at : Register) (caller : Caller) (a : Ask) : Type 0 where
+  pub as_now : has_role_among roles_with_past caller ≡ true
       → verdict_of now at caller a true ≡ verdict_of now at caller a false
-  pub allowed : verdict_of now at caller a true ≡ Allowed → asks_in roles_of_the_past caller ≡ true
+  pub allowed : verdict_of now at caller a true ≡ Allowed → has_role_among roles_with_past caller ≡ true
   pub denied : (past : Bool)
-      → (verdict_of now at caller a past ≡ Denied 3) ↔ AsksForClosedPast now caller past
+      → (verdict_of now at caller a past ≡ Denied 3) ↔ RequestsClosedPast now caller past
 
 -- the law on rule 3
-abbrev pub ThePastIsClosedToThreeRoles : Type 0
-ThePastIsClosedToThreeRoles = (now at : Register) (caller : Caller) (a : Ask) → PastIsByRole now at caller a
+abbrev pub ThreeRolesSeeOnlyThePresent : Type 0
+ThreeRolesSeeOnlyThePresent = (now at : Register) (caller : Caller) (a : Ask) → PastFollowsRole now at caller a
 
 -- ---- rules 4 to 7: acts that are reserved to some roles
 
 -- whether a caller may make requests: it holds its role now, and requests the past only if its role may
-abbrev pub may_ask : (now : Register) → Caller → (past : Bool) → Bool
-may_ask now caller past = is_in_role now caller && (not past || asks_in roles_of_the_past caller)
+abbrev pub may_make_request : (now : Register) → Caller → (past : Bool) → Bool
+may_make_request now caller past = is_in_role now caller && (not past || has_role_among roles_with_past caller)
 
 -- a caller that may make requests requests one of these acts, and its role is not one of these
-pub record AsksOutOfRole (these : Ask → Type 0) (roles : List Role) (now : Register) (caller : Caller)
+pub record RequestsOutOfRole (these : Ask → Type 0) (roles : List Role) (now : Register) (caller : Caller)
     (a : Ask) (past : Bool) : Type 0 where
-  pub asker : may_ask now caller past ≡ true
+  pub asker : may_make_request now caller past ≡ true
   pub asked : these a
-  pub other : asks_in roles caller ≡ false
+  pub other : has_role_among roles caller ≡ false
 
 -- these acts are reserved to these roles: the rule denies them to a caller that may make requests in another
 -- role; it denies nothing else; and none of these acts is ever allowed in another role
-pub record IsLeftTo (roles : List Role) (rule : ℕ) (these : Ask → Type 0) (now at : Register)
+pub record IsReservedTo (roles : List Role) (rule : ℕ) (these : Ask → Type 0) (now at : Register)
     (caller : Caller) (a : Ask) (past : Bool) : Type 0 where
-  pub denied : (verdict_of now at caller a past ≡ Denied rule) ↔ AsksOutOfRole these roles now caller a past
-  pub allowed : these a → verdict_of now at caller a past ≡ Allowed → asks_in roles caller ≡ true
+  pub denied : (verdict_of now at caller a past ≡ Denied rule) ↔ RequestsOutOfRole these roles now caller a past
+  pub allowed : these a → verdict_of now at caller a past ≡ Allowed → has_role_among roles caller ≡ true
 
 -- a caller that may make requests and has one of these roles is allowed each of these acts
-abbrev pub IsGivenTo : (roles : List Role) (these : Ask → Type 0) (now at : Register) → Caller → Ask
+abbrev pub IsAllowedTo : (roles : List Role) (these : Ask → Type 0) (now at : Register) → Caller → Ask
     → (past : Bool) → Type 0
-IsGivenTo roles these now at caller a past =
-    may_ask now caller past ≡ true → asks_in roles caller ≡ true → these a
+IsAllowedTo roles these now at caller a past =
+    may_make_request now caller past ≡ true → has_role_among roles caller ≡ true → these a
     → verdict_of now at caller a past ≡ Allowed
 
 -- whether an act lodges a mutation
-abbrev pub is_lodging : Act → Bool
-is_lodging (act.Lodge it) = true
-is_lodging other = false
+abbrev pub is_lodging_act : Act → Bool
+is_lodging_act (act.Lodge it) = true
+is_lodging_act other = false
 
 -- the request is an act of the office: neither a lodging, nor an act on mandates
-pub record IsOfTheOffice (a : Ask) : Type 0 where
+pub record IsOfficeRequest (a : Ask) : Type 0 where
   pub act : Act
   pub asked : a ≡ ask.Do act
-  pub no_lodging : is_lodging act ≡ false
-  pub no_mandate : is_of_mandates act ≡ false
+  pub no_lodging : is_lodging_act act ≡ false
+  pub no_mandate : is_mandate_act act ≡ false
 
 -- the request is such an act, and not a decision on a mutation that the party lodged
-pub record IsOfTheOfficeForOthers (now : Register) (party : ℕ) (a : Ask) : Type 0 where
-  pub office : IsOfTheOffice a
+pub record IsOfficeRequestForOthers (now : Register) (party : ℕ) (a : Ask) : Type 0 where
+  pub office : IsOfficeRequest a
   pub others : (number : ℕ) → has_lodged now party number ≡ true
-      → (a ≢ to_approve number) × (a ≢ to_refuse number)
+      → (a ≢ approve_request number) × (a ≢ refuse_request number)
 
 -- rule 4: acts of the office are reserved to state administrators, and they are allowed all of them except
 -- decisions on what they lodged
 pub record OfficeActIsReserved (now at : Register) (caller : Caller) (a : Ask) (past : Bool) : Type 0 where
-  pub left : IsLeftTo (StateAdministrator ∷ []) 4 IsOfTheOffice now at caller a past
-  pub given : IsGivenTo (StateAdministrator ∷ [])
-      (IsOfTheOfficeForOthers now caller.party) now at caller a past
+  pub left : IsReservedTo (StateAdministrator ∷ []) 4 IsOfficeRequest now at caller a past
+  pub given : IsAllowedTo (StateAdministrator ∷ [])
+      (IsOfficeRequestForOthers now caller.party) now at caller a past
 
 -- the law on rule 4
-abbrev pub ActsOfTheOfficeAreReserved : Type 0
-ActsOfTheOfficeAreReserved =
+abbrev pub OfficeActsAreForAdministrators : Type 0
+OfficeActsAreForAdministrators =
     (now at : Register) (caller : Caller) (a : Ask) (past : Bool) → OfficeActIsReserved now at caller a past
 
 -- the request lodges this content
@@ -157,14 +157,14 @@ abbrev pub LodgesTransfer : Ask → Type 0
 LodgesTransfer a = (it : Transfer) × Lodges (content.Transfer it) a
 
 -- rule 5: transfers are reserved to conveyancers and notaries, and both are allowed all of them
-pub record TransferIsLeft (now at : Register) (caller : Caller) (a : Ask) (past : Bool) : Type 0 where
-  pub left : IsLeftTo (Conveyancer ∷ Notary ∷ []) 5 LodgesTransfer now at caller a past
-  pub given : IsGivenTo (Conveyancer ∷ Notary ∷ []) LodgesTransfer now at caller a past
+pub record TransferIsReserved (now at : Register) (caller : Caller) (a : Ask) (past : Bool) : Type 0 where
+  pub left : IsReservedTo (Conveyancer ∷ Notary ∷ []) 5 LodgesTransfer now at caller a past
+  pub given : IsAllowedTo (Conveyancer ∷ Notary ∷ []) LodgesTransfer now at caller a past
 
 -- the law on rule 5
 abbrev pub ConveyancersAndNotariesLodgeTransfers : Type 0
 ConveyancersAndNotariesLodgeTransfers =
-    (now at : Register) (caller : Caller) (a : Ask) (past : Bool) → TransferIsLeft now at caller a past
+    (now at : Register) (caller : Caller) (a : Ask) (past : Bool) → TransferIsReserved now at caller a past
 
 -- the request lodges a subdivision or a merger
 abbrev pub LodgesSubdivisionOrMerger : Ask → Type 0
@@ -172,14 +172,14 @@ LodgesSubdivisionOrMerger a =
     ((it : Subdivision) × Lodges (content.Subdivision it) a) ⊎ ((it : Merger) × Lodges (content.Merger it) a)
 
 -- rule 6: subdivisions and mergers are reserved to certified surveyors, and they are allowed all of them
-pub record OutlinesAreLeft (now at : Register) (caller : Caller) (a : Ask) (past : Bool) : Type 0 where
-  pub left : IsLeftTo (CertifiedSurveyor ∷ []) 6 LodgesSubdivisionOrMerger now at caller a past
-  pub given : IsGivenTo (CertifiedSurveyor ∷ []) LodgesSubdivisionOrMerger now at caller a past
+pub record OutlinesAreReserved (now at : Register) (caller : Caller) (a : Ask) (past : Bool) : Type 0 where
+  pub left : IsReservedTo (CertifiedSurveyor ∷ []) 6 LodgesSubdivisionOrMerger now at caller a past
+  pub given : IsAllowedTo (CertifiedSurveyor ∷ []) LodgesSubdivisionOrMerger now at caller a past
 
 -- the law on rule 6
 abbrev pub SurveyorsLodgeSubdivisionsAndMergers : Type 0
 SurveyorsLodgeSubdivisionsAndMergers =
-    (now at : Register) (caller : Caller) (a : Ask) (past : Bool) → OutlinesAreLeft now at caller a past
+    (now at : Register) (caller : Caller) (a : Ask) (past : Bool) → OutlinesAreReserved now at caller a past
 
 -- the request lodges a mortgage or a discharge
 abbrev pub LodgesMortgageOrDischarge : Ask → Type 0
@@ -188,20 +188,20 @@ LodgesMortgageOrDischarge a =
 
 -- rule 7: mortgages and discharges are reserved to banks and notaries, and notaries are allowed all of them,
 -- for any creditor
-pub record MortgagesAreLeft (now at : Register) (caller : Caller) (a : Ask) (past : Bool) : Type 0 where
-  pub left : IsLeftTo (Bank ∷ Notary ∷ []) 7 LodgesMortgageOrDischarge now at caller a past
-  pub given : IsGivenTo (Notary ∷ []) LodgesMortgageOrDischarge now at caller a past
+pub record MortgagesAreReserved (now at : Register) (caller : Caller) (a : Ask) (past : Bool) : Type 0 where
+  pub left : IsReservedTo (Bank ∷ Notary ∷ []) 7 LodgesMortgageOrDischarge now at caller a past
+  pub given : IsAllowedTo (Notary ∷ []) LodgesMortgageOrDischarge now at caller a past
 
 -- the law on rule 7
 abbrev pub BanksAndNotariesLodgeMortgages : Type 0
 BanksAndNotariesLodgeMortgages =
-    (now at : Register) (caller : Caller) (a : Ask) (past : Bool) → MortgagesAreLeft now at caller a past
+    (now at : Register) (caller : Caller) (a : Ask) (past : Bool) → MortgagesAreReserved now at caller a past
 
 -- ---- rules 8 and 9: banks act only for themselves
 
 -- whether the caller may make requests, and is in the role of bank
-abbrev pub asks_as_bank : (now : Register) → Caller → (past : Bool) → Bool
-asks_as_bank now caller past = may_ask now caller past && asks_in (Bank ∷ []) caller
+abbrev pub may_act_as_bank : (now : Register) → Caller → (past : Bool) → Bool
+may_act_as_bank now caller past = may_make_request now caller past && has_role_among (Bank ∷ []) caller
 
 -- the request lodges a mortgage of this creditor
 pub record LodgesMortgage (creditor : ℕ) (a : Ask) : Type 0 where
@@ -210,23 +210,23 @@ pub record LodgesMortgage (creditor : ℕ) (a : Ask) : Type 0 where
   pub lender : mortgage.creditor ≡ creditor
 
 -- a bank lodges a mortgage of another creditor
-pub record LendsForAnother (now : Register) (caller : Caller) (a : Ask) (past : Bool) : Type 0 where
-  pub bank : asks_as_bank now caller past ≡ true
+pub record LodgesMortgageOfOthers (now : Register) (caller : Caller) (a : Ask) (past : Bool) : Type 0 where
+  pub bank : may_act_as_bank now caller past ≡ true
   pub creditor : ℕ
   pub lodged : LodgesMortgage creditor a
   pub other : creditor ≢ caller.party
 
 -- rule 8: a bank is allowed the mortgages of which it is the creditor; the rule denies it those of other
 -- creditors, and denies nothing else
-pub record MortgageIsItsOwn (now at : Register) (caller : Caller) (a : Ask) (past : Bool) : Type 0 where
-  pub own : asks_as_bank now caller past ≡ true → LodgesMortgage caller.party a
+pub record BankLodgesOwnMortgages (now at : Register) (caller : Caller) (a : Ask) (past : Bool) : Type 0 where
+  pub own : may_act_as_bank now caller past ≡ true → LodgesMortgage caller.party a
       → verdict_of now at caller a past ≡ Allowed
-  pub denied : (verdict_of now at caller a past ≡ Denied 8) ↔ LendsForAnother now caller a past
+  pub denied : (verdict_of now at caller a past ≡ Denied 8) ↔ LodgesMortgageOfOthers now caller a past
 
 -- the law on rule 8
 abbrev pub BanksLodgeTheirOwnMortgages : Type 0
 BanksLodgeTheirOwnMortgages =
-    (now at : Register) (caller : Caller) (a : Ask) (past : Bool) → MortgageIsItsOwn now at caller a past
+    (now at : Register) (caller : Caller) (a : Ask) (past : Bool) → BankLodgesOwnMortgages now at caller a past
 
 -- the request lodges the discharge of the mortgage with this number
 pub record LodgesDischarge (number : ℕ) (a : Ask) : Type 0 where
@@ -243,24 +243,24 @@ pub record HasMortgage (now : Register) (party number : ℕ) : Type 0 where
 
 -- a bank lodges a discharge, and has no mortgage at that number: there is no entry, the entry is not a
 -- mortgage, or another party is the creditor
-pub record DischargesWhatIsNotItsOwn (now : Register) (caller : Caller) (a : Ask) (past : Bool) : Type 0 where
-  pub bank : asks_as_bank now caller past ≡ true
+pub record DischargesOtherEntry (now : Register) (caller : Caller) (a : Ask) (past : Bool) : Type 0 where
+  pub bank : may_act_as_bank now caller past ≡ true
   pub number : ℕ
   pub lodged : LodgesDischarge number a
   pub none : HasMortgage now caller.party number → ⊥
 
 -- rule 9: a bank is allowed the discharges of the mortgages that it has now, on any unit; the rule denies it
 -- every other discharge, and denies nothing else
-pub record DischargeIsItsOwn (now at : Register) (caller : Caller) (a : Ask) (past : Bool) : Type 0 where
-  pub own : (number : ℕ) → asks_as_bank now caller past ≡ true → LodgesDischarge number a
+pub record BankDischargesOwnMortgages (now at : Register) (caller : Caller) (a : Ask) (past : Bool) : Type 0 where
+  pub own : (number : ℕ) → may_act_as_bank now caller past ≡ true → LodgesDischarge number a
       → HasMortgage now caller.party number
       → verdict_of now at caller a past ≡ Allowed
-  pub denied : (verdict_of now at caller a past ≡ Denied 9) ↔ DischargesWhatIsNotItsOwn now caller a past
+  pub denied : (verdict_of now at caller a past ≡ Denied 9) ↔ DischargesOtherEntry now caller a past
 
 -- the law on rule 9
 abbrev pub BanksDischargeTheirOwnMortgages : Type 0
 BanksDischargeTheirOwnMortgages =
-    (now at : Register) (caller : Caller) (a : Ask) (past : Bool) → DischargeIsItsOwn now at caller a past
+    (now at : Register) (caller : Caller) (a : Ask) (past : Bool) → BankDischargesOwnMortgages now at caller a past
 
 -- ---- rules 28 and 29: citizens give mandates, and withdraw those of which they are the principal or the
 -- agent
@@ -274,21 +274,21 @@ abbrev pub WithdrawsMandate : Mandate → Ask → Type 0
 WithdrawsMandate it a = a ≡ ask.Do (act.Withdraw it)
 
 -- the request gives or withdraws a mandate
-abbrev pub IsOnMandate : Ask → Type 0
-IsOnMandate a = GivesMandate a ⊎ ((it : Mandate) × WithdrawsMandate it a)
+abbrev pub ActsOnMandate : Ask → Type 0
+ActsOnMandate a = GivesMandate a ⊎ ((it : Mandate) × WithdrawsMandate it a)
 
 -- a party is the principal or the agent of a mandate
 abbrev pub IsPartyTo : (party : ℕ) → Mandate → Type 0
 IsPartyTo party it = (it.principal ≡ party) ⊎ (it.agent ≡ party)
 
 -- the request gives a mandate, or withdraws one of which the party is the principal or the agent
-abbrev pub IsOnItsMandate : (party : ℕ) → Ask → Type 0
-IsOnItsMandate party a = GivesMandate a ⊎ ((it : Mandate) × WithdrawsMandate it a × IsPartyTo party it)
+abbrev pub ActsOnOwnMandate : (party : ℕ) → Ask → Type 0
+ActsOnOwnMandate party a = GivesMandate a ⊎ ((it : Mandate) × WithdrawsMandate it a × IsPartyTo party it)
 
 -- a citizen that may make requests withdraws a mandate between others
-pub record WithdrawsForOthers (now : Register) (caller : Caller) (a : Ask) (past : Bool) : Type 0 where
-  pub asker : may_ask now caller past ≡ true
-  pub citizen : asks_in (Citizen ∷ []) caller ≡ true
+pub record WithdrawsMandateOfOthers (now : Register) (caller : Caller) (a : Ask) (past : Bool) : Type 0 where
+  pub asker : may_make_request now caller past ≡ true
+  pub citizen : has_role_among (Citizen ∷ []) caller ≡ true
   pub mandate : Mandate
   pub asked : WithdrawsMandate mandate a
   pub others : IsPartyTo caller.party mandate → ⊥
@@ -296,12 +296,12 @@ pub record WithdrawsForOthers (now : Register) (caller : Caller) (a : Ask) (past
 -- rules 28 and 29: giving and withdrawing mandates is reserved to citizens. Each citizen is allowed to give a
 -- mandate to any agent, and to withdraw a mandate of which it is the principal or the agent, even if the
 -- mandate does not exist. Rule 29 denies other withdrawals to citizens, and denies nothing else
-pub record MandateIsItsOwn (now at : Register) (caller : Caller) (a : Ask) (past : Bool) : Type 0 where
-  pub left : IsLeftTo (Citizen ∷ []) 28 IsOnMandate now at caller a past
-  pub given : IsGivenTo (Citizen ∷ []) (IsOnItsMandate caller.party) now at caller a past
-  pub denied : (verdict_of now at caller a past ≡ Denied 29) ↔ WithdrawsForOthers now caller a past
+pub record MandatesAreReserved (now at : Register) (caller : Caller) (a : Ask) (past : Bool) : Type 0 where
+  pub left : IsReservedTo (Citizen ∷ []) 28 ActsOnMandate now at caller a past
+  pub given : IsAllowedTo (Citizen ∷ []) (ActsOnOwnMandate caller.party) now at caller a past
+  pub denied : (verdict_of now at caller a past ≡ Denied 29) ↔ WithdrawsMandateOfOthers now caller a past
 
 -- the law on rules 28 and 29
 abbrev pub CitizensGiveMandates : Type 0
 CitizensGiveMandates =
-    (now at : Register) (caller : Caller) (a : Ask) (past : Bool) → MandateIsItsOwn now at caller a past
+    (now at : Register) (caller : Caller) (a : Ask) (past : Bool) → MandatesAreReserved now at caller a past

@@ -4,7 +4,7 @@
 ghost use Rattle.std.specs.Prelude.{◌≡◌, ℕ, nat_eq, IfOk};
 ghost use Rattle.std.specs.List.{list_any};
 ghost use Rattle.land_rules.specs.Circles.{circle_of, is_group_of, is_held_by, is_in_circle, is_owned_by};
-ghost use Rattle.land_rules.specs.Circles.{is_told_to_circle, names_held_by, principals_of};
+ghost use Rattle.land_rules.specs.Circles.{is_visible_to_circle, names_held_by, principals_of};
 ghost use Rattle.land_rules.specs.Holdings.{has_number};
 
 use crate::relations::{is_holder, is_member_of, is_mortgage, is_owner};
@@ -95,15 +95,15 @@ fn is_owned_by(at: &Register, party: u64, unit: u64) -> bool
 
 /// Returns whether the circle of a party sees an entry: a member of it is a holder in the entry's unit and,
 /// if the entry is a mortgage, a member is an owner there.
-pub(crate) fn is_told_to_circle(at: &Register, party: u64, entry: &RrrRecord) -> bool
-    ensures { result ≡ is_told_to_circle at.now (circle_of at.now party) entry.now }
+pub(crate) fn is_visible_to_circle(at: &Register, party: u64, entry: &RrrRecord) -> bool
+    ensures { result ≡ is_visible_to_circle at.now (circle_of at.now party) entry.now }
 {
     is_held_by(at, party, entry.unit)
         && (!is_mortgage(&entry.class) || is_owned_by(at, party, entry.unit))
 }
 
 /// Returns whether a member of the circle of a party is a holder in one of these units.
-fn is_some_held_by(at: &Register, party: u64, units: &[u64]) -> bool
+fn is_any_held_by(at: &Register, party: u64, units: &[u64]) -> bool
     ensures { result ≡ list_any (is_held_by at.now (circle_of at.now party)) units.now }
 {
     units.iter().any(|unit| is_held_by(at, party, *unit))
@@ -117,7 +117,7 @@ pub(crate) fn names_held_by(at: &Register, party: u64, mutation: &MutationRecord
         Content::Transfer(it) => is_held_by(at, party, it.unit),
         Content::Subdivision(it) => is_held_by(at, party, it.unit),
         Content::Merger(it) => {
-            is_held_by(at, party, it.unit) || is_some_held_by(at, party, it.others.as_slice())
+            is_held_by(at, party, it.unit) || is_any_held_by(at, party, it.others.as_slice())
         }
         Content::Mortgage(it) => is_held_by(at, party, it.unit),
         Content::Discharge(it) => is_held_by(at, party, it.unit),

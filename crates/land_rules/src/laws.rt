@@ -10,8 +10,8 @@ ghost use Rattle.land_rules.specs.StandingLaws as standing;
 // ---- verdicts and lists
 
 /// The rules on each request are in ascending order.
-pub fn rules_rise()
-    ensures { policy.RulesRise }
+pub fn rules_are_ordered()
+    ensures { policy.RulesAreOrdered }
 {}
 
 /// A verdict is the number of the first rule that denies. It allows exactly if no rule denies.
@@ -20,8 +20,8 @@ pub fn verdicts_are_least()
 {}
 
 /// The list of a kind is ascending, and it has a number exactly if no rule denies the view of that object.
-pub fn seen_is_exact()
-    ensures { policy.SeenIsExactly }
+pub fn seen_lists_are_exact()
+    ensures { policy.SeenListsAreExact }
 {}
 
 // ---- mandates
@@ -33,8 +33,8 @@ pub fn circles_are_of_mandates()
 {}
 
 /// Without mandates, the circle of a party has only the party itself.
-pub fn alone_without_mandates()
-    ensures { mandates.AloneWithoutMandates }
+pub fn circles_without_mandates()
+    ensures { mandates.CirclesWithoutMandates }
 {}
 
 /// A citizen sees exactly the objects that a member of its circle at the requested time would see without
@@ -60,8 +60,8 @@ pub fn members_see_their_groups()
 /// The members of a group have what the group has. The members at the requested time see the units in which
 /// the group has a right then, and the entries of these units that are not mortgages. So do the agents of
 /// their mandates.
-pub fn members_hold()
-    ensures { sight.MembersHold }
+pub fn members_are_holders()
+    ensures { sight.MembersAreHolders }
 {}
 
 /// An ended entry gives no sight: rule 11 denies a citizen a unit in which no member of its circle has a
@@ -72,8 +72,8 @@ pub fn ended_entries_give_no_sight()
 
 /// A citizen sees the mortgages of a unit if a member of its circle is an owner there. Rule 12 denies them to
 /// every other citizen, for example a lessee.
-pub fn owners_alone_see_mortgages()
-    ensures { sight.OwnersAloneSeeMortgages }
+pub fn only_owners_see_mortgages()
+    ensures { sight.OnlyOwnersSeeMortgages }
 {}
 
 /// A bank sees the units on which it has a mortgage, and their entries except the mortgages of other
@@ -98,14 +98,14 @@ pub fn conveyancers_see_by_their_lodgings()
 /// one before the first change, a visible object is allowed, and the number of a denial follows from the
 /// caller's role and the kind. Two cases get rule 27 instead: a caller that does not exist and views itself,
 /// and a conveyancer's view of a unit that does not exist and to which its own undecided mutation refers.
-pub fn denials_tell_sight()
-    ensures { policy.DenialsTellSight }
+pub fn denials_reveal_only_sight()
+    ensures { policy.DenialsRevealOnlySight }
 {}
 
 /// Verdicts reveal nothing unseen. If two registers look alike to a caller now, and two look alike at the
 /// requested time, each view, list and sheet gets the same verdict in both, with the same number.
-pub fn verdicts_tell_nothing_unseen()
-    ensures { alike.VerdictsTellNothingUnseen }
+pub fn verdicts_reveal_nothing_unseen()
+    ensures { alike.VerdictsRevealNothingUnseen }
 {}
 
 // ---- decisions
@@ -125,8 +125,8 @@ pub fn administrators_decide_for_others()
 
 /// Rule 1 denies every request of a caller that is not a party of the register now, in any role. It denies
 /// nothing to any other caller.
-pub fn strangers_are_denied_everything()
-    ensures { standing.StrangersAreDeniedEverything }
+pub fn unregistered_callers_are_denied()
+    ensures { standing.UnregisteredCallersAreDenied }
 {}
 
 /// Rule 2 denies every request in a role that the caller does not hold now, and denies nothing in a role that
@@ -138,8 +138,8 @@ pub fn roles_are_held()
 /// Citizens, notaries and state administrators get the same verdict on the past as on the present. Rule 3
 /// denies the past to banks, conveyancers and certified surveyors that hold their role, and it denies nothing
 /// else.
-pub fn the_past_is_closed_to_three_roles()
-    ensures { standing.ThePastIsClosedToThreeRoles }
+pub fn three_roles_see_only_the_present()
+    ensures { standing.ThreeRolesSeeOnlyThePresent }
 {}
 
 // ---- acts that are reserved to roles
@@ -147,8 +147,8 @@ pub fn the_past_is_closed_to_three_roles()
 /// Only state administrators do acts of the office, which are all acts except lodgings and mandates. They may
 /// do each of them, except decide on a mutation that they lodged. Rule 4 denies these acts in other roles,
 /// and it denies nothing else.
-pub fn acts_of_the_office_are_reserved()
-    ensures { standing.ActsOfTheOfficeAreReserved }
+pub fn office_acts_are_for_administrators()
+    ensures { standing.OfficeActsAreForAdministrators }
 {}
 
 /// Only conveyancers and notaries lodge transfers, and both may lodge any transfer. Rule 5 denies it in other

@@ -1,10 +1,10 @@
 //! The relations between a party and the objects of a register: holder, owner, creditor, lodger.
 ghost use Rattle.std.specs.Prelude.{◌≡◌};
 ghost use Rattle.land_core.specs.Entries.{some};
-ghost use Rattle.land_rules.specs.Relations.{has_lodged, holds_as, is_credit, is_creditor_on};
+ghost use Rattle.land_rules.specs.Relations.{has_lodged, holds_under_name, is_held_mortgage, is_creditor_on};
 ghost use Rattle.land_rules.specs.Relations.{is_held_ownership, is_held_right, is_holder, is_lodger_of};
-ghost use Rattle.land_rules.specs.Relations.{is_lodger_on, is_member_of, is_mortgage, is_owner};
-ghost use Rattle.land_rules.specs.Relations.{is_pending_of, is_pending_on, is_right, is_told_to_creditor};
+ghost use Rattle.land_rules.specs.Relations.{has_pending_mutation_on, is_member_of, is_mortgage, is_owner};
+ghost use Rattle.land_rules.specs.Relations.{is_pending_of, is_pending_on, is_right, is_visible_to_creditor};
 
 use land_core::kind::Kind;
 use land_core::mutation::MutationRecord;
@@ -32,8 +32,8 @@ pub(crate) fn is_member_of(at: &Register, party: u64, group: u64) -> bool
 
 /// Returns whether a party has the rights that are registered under a name: the name is its own, or that of a
 /// group of which it is a member.
-fn holds_as(at: &Register, party: u64, named: u64) -> bool
-    ensures { result ≡ holds_as at.now party named }
+fn holds_under_name(at: &Register, party: u64, named: u64) -> bool
+    ensures { result ≡ holds_under_name at.now party named }
 {
     named == party || is_member_of(at, party, named)
 }
@@ -41,17 +41,17 @@ fn holds_as(at: &Register, party: u64, named: u64) -> bool
 fn is_held_right(at: &Register, party: u64, unit: u64, entry: &RrrRecord) -> bool
     ensures { result ≡ is_held_right at.now party unit entry.now }
 {
-    entry.unit == unit && is_right(&entry.class) && holds_as(at, party, entry.party)
+    entry.unit == unit && is_right(&entry.class) && holds_under_name(at, party, entry.party)
 }
 
 fn is_held_ownership(at: &Register, party: u64, unit: u64, entry: &RrrRecord) -> bool
     ensures { result ≡ is_held_ownership at.now party unit entry.now }
 {
-    entry.is_right_in(unit, RightType::Ownership) && holds_as(at, party, entry.party)
+    entry.is_right_in(unit, RightType::Ownership) && holds_under_name(at, party, entry.party)
 }
 
-fn is_credit(party: u64, unit: u64, entry: &RrrRecord) -> bool
-    ensures { result ≡ is_credit party unit entry.now }
+fn is_held_mortgage(party: u64, unit: u64, entry: &RrrRecord) -> bool
+    ensures { result ≡ is_held_mortgage party unit entry.now }
 {
     entry.unit == unit && is_mortgage(&entry.class) && entry.party == party
 }
@@ -72,12 +72,12 @@ fn has_held_ownership(at: &Register, party: u64, unit: u64) -> bool
         .any(|(_, entry)| is_held_ownership(at, party, unit, entry))
 }
 
-fn has_credit(at: &Register, party: u64, unit: u64) -> bool
-    ensures { result ≡ some (λ n e. is_credit party unit e) at.now.rrrs }
+fn has_held_mortgage(at: &Register, party: u64, unit: u64) -> bool
+    ensures { result ≡ some (λ n e. is_held_mortgage party unit e) at.now.rrrs }
 {
     at.rrrs
         .iter()
-        .any(|(_, entry)| is_credit(party, unit, entry))
+        .any(|(_, entry)| is_held_mortgage(party, unit, entry))
 }
 
 /// Returns whether a party has a right in a unit, directly or as a member of a group.
@@ -98,7 +98,7 @@ pub(crate) fn is_owner(at: &Register, party: u64, unit: u64) -> bool
 pub(crate) fn is_creditor_on(at: &Register, party: u64, unit: u64) -> bool
     ensures { result ≡ is_creditor_on at.now party unit }
 {
-    at.stands(Kind::Unit, unit) && has_credit(at, party, unit)
+    at.stands(Kind::Unit, unit) && has_held_mortgage(at, party, unit)
 }
 
 /// Returns whether a party lodged a mutation.
@@ -132,8 +132,8 @@ fn is_pending_on(party: u64, unit: u64, mutation: &MutationRecord) -> bool
 
 /// Returns whether an undecided mutation of a party refers to a unit. The unit may have ended, or may never
 /// have existed.
-pub(crate) fn is_lodger_on(at: &Register, party: u64, unit: u64) -> bool
-    ensures { result ≡ is_lodger_on at.now party unit }
+pub(crate) fn has_pending_mutation_on(at: &Register, party: u64, unit: u64) -> bool
+    ensures { result ≡ has_pending_mutation_on at.now party unit }
 {
     at.mutations
         .iter()
@@ -141,8 +141,8 @@ pub(crate) fn is_lodger_on(at: &Register, party: u64, unit: u64) -> bool
 }
 
 /// Returns whether a creditor sees an entry: it is not a mortgage, or the party is its creditor.
-pub(crate) fn is_told_to_creditor(party: u64, entry: &RrrRecord) -> bool
-    ensures { result ≡ is_told_to_creditor party entry.now }
+pub(crate) fn is_visible_to_creditor(party: u64, entry: &RrrRecord) -> bool
+    ensures { result ≡ is_visible_to_creditor party entry.now }
 {
     !is_mortgage(&entry.class) || entry.party == party
 }

@@ -2,7 +2,7 @@
 use Rattle.std.proofs.Common.{◌≡◌, ◌∙◌, ℕ, ℤ, Option, Some, None, is_some, refl, sym, ap, subst}
 use Rattle.std.specs.FinMap as map
 use Rattle.std.specs.Option.{option_map}
-use Rattle.land_core.specs.Laws.{SoundnessByLookUps}
+use Rattle.land_core.specs.Laws.{SoundnessByNumber}
 use Rattle.land_core.specs.Register.{mutation_at, object_at, parcel_at, party_at, rrr_at, source_at, stands, unit_at}
 use Rattle.land_core.specs.declared.ask.Ask.{Ask}
 use Rattle.land_core.specs.declared.ask.Ask.TheVariants as ask
@@ -16,26 +16,26 @@ use Rattle.land_core.specs.declared.unit.Unit.{Unit as UnitShown}
 use Rattle.land_core.specs.declared.unit.UnitRecord.{UnitRecord}
 use Rattle.land_keep.specs.Timeline.{Timeline, register_at}
 use Rattle.land_select.proofs.Viewed.{have_members}
-use Rattle.land_select.specs.Cache.{IsFound, IsFoundFor, IsKeptOf, IsObjectFound, IsToldWith, cached_object}
+use Rattle.land_select.specs.Cache.{IsValueOf, IsValueFor, IsCacheOf, IsObjectValueOf, IsFactWith, cached_object}
 use Rattle.land_select.specs.declared.cache.CachedValue.{CachedValue}
 use Rattle.land_select.specs.declared.cache.CachedValue.TheVariants as found
 use Rattle.land_select.specs.declared.cache.Cache.{Cache}
-use Rattle.land_select_joins.specs.Lookups.Parts.{IsPart}
+use Rattle.land_select_joins.specs.Lookups.Parts.{ReadsPart}
 use Rattle.sqlite_trees.specs.Tree.{Trees}
 
 -- a part of a register, with nothing cached
-pub told_alone : SoundnessByLookUps → {T : Type 0} (part : Register → T) (caller : Caller) (k : Kind) (n : ℕ) (t : ℤ) (db : Trees) (it : T) → IsPart part t db it
-    → IsToldWith part caller k n t db (it, found.Nothing)
+pub told_alone : SoundnessByNumber → {T : Type 0} (part : Register → T) (caller : Caller) (k : Kind) (n : ℕ) (t : ℤ) (db : Trees) (it : T) → ReadsPart part t db it
+    → IsFactWith part caller k n t db (it, found.Nothing)
 told_alone look_ups part caller k n t db it is moments h held r premise stands = (is moments h held r (have_members look_ups r premise) stands, tt)
 
 -- an existing object is cached
-object_found : (r : Register) (caller : Caller) (k : Kind) (n : ℕ) (o : Option Object) → o ≡ object_at r k n → IsFound r caller k n (cached_object o)
+object_found : (r : Register) (caller : Caller) (k : Kind) (n : ℕ) (o : Option Object) → o ≡ object_at r k n → IsValueOf r caller k n (cached_object o)
 object_found r caller k n None is = tt
 object_found r caller k n (Some it) is = sym is
 
 -- so it is correct if that is the cached value
-pub found_told : (r : Register) (caller : Caller) (k : Kind) (n : ℕ) (o : Option Object) (it : CachedValue) → it ≡ cached_object o → o ≡ object_at r k n → IsFound r caller k n it
-found_told r caller k n o it is there = subst (IsFound r caller k n) (sym is) (object_found r caller k n o there)
+pub found_told : (r : Register) (caller : Caller) (k : Kind) (n : ℕ) (o : Option Object) (it : CachedValue) → it ≡ cached_object o → o ≡ object_at r k n → IsValueOf r caller k n it
+found_told r caller k n o it is there = subst (IsValueOf r caller k n) (sym is) (object_found r caller k n o there)
 
 mapped : {A B : Type 0} (f : A → B) (o : Option A) → is_some (option_map f o) ≡ is_some o
 mapped f None = refl
@@ -51,13 +51,13 @@ object_stands r kind.Source n = mapped object.Source (source_at r n) ∙ mapped 
 object_stands r kind.Mutation n = mapped object.Mutation (mutation_at r n) ∙ mapped _ (map.get r.mutations n)
 
 -- a cached object is the requested one
-pub object_among : (r : Register) (caller : Caller) (k : Kind) (n : ℕ) (it : CachedValue) → IsFound r caller k n it → IsObjectFound r k n it
+pub object_among : (r : Register) (caller : Caller) (k : Kind) (n : ℕ) (it : CachedValue) → IsValueOf r caller k n it → IsObjectValueOf r k n it
 object_among r caller k n found.Nothing is = tt
 object_among r caller k n (found.Object it) is = is
 object_among r caller k n (found.VisibleEntries entries) is = tt
 
 -- the record of a cached unit
-pub record_found : (r : Register) (n : ℕ) (it : UnitShown) → IsObjectFound r kind.Unit n (found.Object (object.Unit it)) → Some (record { name = it.name; checked = it.checked }) ≡ map.get r.units n
+pub record_found : (r : Register) (n : ℕ) (it : UnitShown) → IsObjectValueOf r kind.Unit n (found.Object (object.Unit it)) → Some (record { name = it.name; checked = it.checked }) ≡ map.get r.units n
 record_found r n it is = go (map.get r.units n) is
   where
     go : (o : Option UnitRecord) → option_map object.Unit (option_map (λ u. record { number = n; name = u.name; checked = u.checked }) o) ≡ Some (object.Unit it) → Some (record { name = it.name; checked = it.checked }) ≡ o
@@ -65,17 +65,17 @@ record_found r n it is = go (map.get r.units n) is
     go (Some u) is = let e : record { number = n; name = u.name; checked = u.checked } ≡ it = cc in ap (λ (shown : UnitShown). Some (record { name = shown.name; checked = shown.checked })) (sym e)
 
 -- an empty cache is correct for each request
-pub nothing_for : (r : Register) (caller : Caller) (a : Ask) → IsFoundFor r caller a found.Nothing
+pub nothing_for : (r : Register) (caller : Caller) (a : Ask) → IsValueFor r caller a found.Nothing
 nothing_for r caller (ask.View k n at) = tt
 nothing_for r caller (ask.List k at) = tt
 nothing_for r caller (ask.Sheet unit at) = tt
 nothing_for r caller (ask.Do act) = tt
 
 -- a cached object is correct for a request with its key
-pub cache_is : (tl : Timeline) (kept : Option Cache) (it : Cache) → kept ≡ Some it → IsKeptOf tl kept → (caller : Caller) (k : Kind) (n : ℕ) (t : ℤ) → it.caller ≡ caller → it.kind ≡ k → it.number ≡ n → it.moment ≡ t
-    → IsFound (register_at tl t) caller k n it.found
+pub cache_is : (tl : Timeline) (kept : Option Cache) (it : Cache) → kept ≡ Some it → IsCacheOf tl kept → (caller : Caller) (k : Kind) (n : ℕ) (t : ℤ) → it.caller ≡ caller → it.kind ≡ k → it.number ≡ n → it.moment ≡ t
+    → IsValueOf (register_at tl t) caller k n it.found
 cache_is tl kept it is so caller k n t who which under when =
-    subst (λ (c : Caller). IsFound (register_at tl t) c k n it.found) who
-    (subst (λ (kind : Kind). IsFound (register_at tl t) it.caller kind n it.found) which
-    (subst (λ (m : ℕ). IsFound (register_at tl t) it.caller it.kind m it.found) under
-    (subst (λ (u : ℤ). IsFound (register_at tl u) it.caller it.kind it.number it.found) when (subst (IsKeptOf tl) is so))))
+    subst (λ (c : Caller). IsValueOf (register_at tl t) c k n it.found) who
+    (subst (λ (kind : Kind). IsValueOf (register_at tl t) it.caller kind n it.found) which
+    (subst (λ (m : ℕ). IsValueOf (register_at tl t) it.caller it.kind m it.found) under
+    (subst (λ (u : ℤ). IsValueOf (register_at tl u) it.caller it.kind it.number it.found) when (subst (IsCacheOf tl) is so))))

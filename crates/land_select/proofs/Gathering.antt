@@ -13,7 +13,7 @@ use Rattle.land_core.proofs.Booleans.{or_nothing}
 use Rattle.land_core.proofs.FiniteMaps.{is_equal}
 use Rattle.land_core.proofs.FiniteSets.{exact_grants, grants_total}
 use Rattle.land_core.proofs.Reflection.{each_there}
-use Rattle.land_core.specs.Entries.{only, with_entries}
+use Rattle.land_core.specs.Entries.{entries_where, with_entries}
 use Rattle.land_core.specs.Grants.{Grants}
 use Rattle.land_core.specs.Members.{Members}
 use Rattle.land_core.specs.declared.parcel.ParcelRecord.{ParcelRecord}
@@ -23,7 +23,7 @@ use Rattle.land_core.specs.declared.rrr.RrrRecord.{RrrRecord}
 use Rattle.land_core.specs.declared.source.SourceRecord.{SourceRecord}
 use Rattle.land_core.specs.declared.unit.UnitRecord.{UnitRecord}
 use Rattle.land_select.proofs.Keeping.{entry_found, entry_there, is_kept, none_kept, same_entries, same_kept, was_kept}
-use Rattle.land_select.specs.Slices.Gathered.{KnowsHoldings, KnowsPapers, KnowsPeople, put_all, put_one, with_number, with_person, with_source, with_unit}
+use Rattle.land_select.specs.Slices.Gathered.{KnowsUnits, KnowsSources, KnowsParties, put_all, put_one, with_number, with_party, with_source, with_unit}
 use Rattle.land_select.specs.declared.slices.units_and_entries.UnitsAndEntries.{UnitsAndEntries}
 use Rattle.land_select.specs.declared.slices.gathered_sources.GatheredSources.{GatheredSources}
 use Rattle.land_select.specs.declared.slices.parties_and_roles.PartiesAndRoles.{PartiesAndRoles}
@@ -100,25 +100,25 @@ module _ {K V : Type 0} {R : K → K → Ordering} (o : IsTotalOrder R) (same : 
         go false apart it = inl it
 
     -- the union of two filtered maps
-    pub both_kept : (w u : K → V → Bool) → put_all (only w all) (only u all) ≡ only (λ k v. u k v || w k v) all
+    pub both_kept : (w u : K → V → Bool) → put_all (entries_where w all) (entries_where u all) ≡ entries_where (λ k v. u k v || w k v) all
     both_kept w u =
-        let of = entries_of (only u all) (λ k v is. (was_kept o same u all k v is).0) in
-        let within : IsWithin (only w all) = λ k v is. (was_kept o same w all k v is).0 in
-        same_entries o same (put_all (only w all) (only u all)) (only (λ k v. u k v || w k v) all)
-        (λ k v is. elim (from_either (map.entries (only u all)) (only w all) k v is) [
+        let of = entries_of (entries_where u all) (λ k v is. (was_kept o same u all k v is).0) in
+        let within : IsWithin (entries_where w all) = λ k v is. (was_kept o same w all k v is).0 in
+        same_entries o same (put_all (entries_where w all) (entries_where u all)) (entries_where (λ k v. u k v || w k v) all)
+        (λ k v is. elim (from_either (map.entries (entries_where u all)) (entries_where w all) k v is) [
           | inl old ↦ let it = was_kept o same w all k v old in is_kept o same (λ k v. u k v || w k v) all k v it.0 (or_right (u k v) (w k v) it.1)
-          | inr new ↦ let it = was_kept o same u all k v (entry_there o same (only u all) (k, v) new) in is_kept o same (λ k v. u k v || w k v) all k v it.0 (or_left (u k v) (w k v) it.1)
+          | inr new ↦ let it = was_kept o same u all k v (entry_there o same (entries_where u all) (k, v) new) in is_kept o same (λ k v. u k v || w k v) all k v it.0 (or_left (u k v) (w k v) it.1)
         ])
         (λ k v is. let it = was_kept o same (λ k v. u k v || w k v) all k v is in elim (or_cases (u k v) (w k v) it.1) [
-          | inl new ↦ all_there (map.entries (only u all)) of (only w all) within (k, v) (entry_found o same (only u all) k v (is_kept o same u all k v it.0 new))
-          | inr old ↦ all_keep (map.entries (only u all)) of (only w all) within k v (is_kept o same w all k v it.0 old)
+          | inl new ↦ all_there (map.entries (entries_where u all)) of (entries_where w all) within (k, v) (entry_found o same (entries_where u all) k v (is_kept o same u all k v it.0 new))
+          | inr old ↦ all_keep (map.entries (entries_where u all)) of (entries_where w all) within k v (is_kept o same w all k v it.0 old)
         ])
 
 -- one more record of the whole map
 pub one_kept : {V : Type 0} (asked : ℕ → Bool) (all : FinMap nat_cmp V) (n : ℕ) (found : Option V) → found ≡ map.get all n
-    → put_one (only (λ k v. asked k) all) n found ≡ only (λ k v. with_number n asked k) all
+    → put_one (entries_where (λ k v. asked k) all) n found ≡ entries_where (λ k v. with_number n asked k) all
 one_kept {V} asked all n None is =
-    same_entries nat_cmp_total nat_cmp-IsAntisymmetric (only (λ k v. asked k) all) (only (λ k v. with_number n asked k) all)
+    same_entries nat_cmp_total nat_cmp-IsAntisymmetric (entries_where (λ k v. asked k) all) (entries_where (λ k v. with_number n asked k) all)
     (λ k v there. let it = was_kept nat_cmp_total nat_cmp-IsAntisymmetric (λ k v. asked k) all k v there in
     is_kept nat_cmp_total nat_cmp-IsAntisymmetric (λ k v. with_number n asked k) all k v it.0 (or_right (nat_eq k n) (asked k) it.1))
     (λ k v there. let it = was_kept nat_cmp_total nat_cmp-IsAntisymmetric (λ k v. with_number n asked k) all k v there in elim (or_cases (nat_eq k n) (asked k) it.1) [
@@ -126,19 +126,19 @@ one_kept {V} asked all n None is =
       | inr old ↦ is_kept nat_cmp_total nat_cmp-IsAntisymmetric (λ k v. asked k) all k v it.0 old
     ])
 one_kept {V} asked all n (Some value) is =
-    same_entries nat_cmp_total nat_cmp-IsAntisymmetric (map.insert (only (λ k v. asked k) all) n value) (only (λ k v. with_number n asked k) all)
-    (λ k v there. go k v (eq_by_cmp nat_cmp k n) refl (sym (map.get-insert nat_cmp_total (only (λ k v. asked k) all) n value k) ∙ there))
+    same_entries nat_cmp_total nat_cmp-IsAntisymmetric (map.insert (entries_where (λ k v. asked k) all) n value) (entries_where (λ k v. with_number n asked k) all)
+    (λ k v there. go k v (eq_by_cmp nat_cmp k n) refl (sym (map.get-insert nat_cmp_total (entries_where (λ k v. asked k) all) n value k) ∙ there))
     (λ k v there. let it = was_kept nat_cmp_total nat_cmp-IsAntisymmetric (λ k v. with_number n asked k) all k v there in elim (or_cases (nat_eq k n) (asked k) it.1) [
       | inl at ↦
           let here : k ≡ n = (Decides-eqb k n).0 at in
-          ap (map.get (map.insert (only (λ k v. asked k) all) n value)) here ∙ put_there nat_cmp_total nat_cmp-IsAntisymmetric all (only (λ k v. asked k) all) (n, value) ∙ is ∙ ap (map.get all) (sym here) ∙ it.0
-      | inr old ↦ put_keeps nat_cmp_total nat_cmp-IsAntisymmetric all (only (λ k v. asked k) all) (n, value) (sym is) within k v (is_kept nat_cmp_total nat_cmp-IsAntisymmetric (λ k v. asked k) all k v it.0 old)
+          ap (map.get (map.insert (entries_where (λ k v. asked k) all) n value)) here ∙ put_there nat_cmp_total nat_cmp-IsAntisymmetric all (entries_where (λ k v. asked k) all) (n, value) ∙ is ∙ ap (map.get all) (sym here) ∙ it.0
+      | inr old ↦ put_keeps nat_cmp_total nat_cmp-IsAntisymmetric all (entries_where (λ k v. asked k) all) (n, value) (sym is) within k v (is_kept nat_cmp_total nat_cmp-IsAntisymmetric (λ k v. asked k) all k v it.0 old)
     ])
   where
-    within : (k : ℕ) (v : V) → map.get (only (λ k v. asked k) all) k ≡ Some v → map.get all k ≡ Some v
+    within : (k : ℕ) (v : V) → map.get (entries_where (λ k v. asked k) all) k ≡ Some v → map.get all k ≡ Some v
     within k v there = (was_kept nat_cmp_total nat_cmp-IsAntisymmetric (λ k v. asked k) all k v there).0
 
-    go : (k : ℕ) (v : V) (b : Bool) → eq_by_cmp nat_cmp k n ≡ b → cond b (Some value) (map.get (only (λ k v. asked k) all) k) ≡ Some v → map.get (only (λ k v. with_number n asked k) all) k ≡ Some v
+    go : (k : ℕ) (v : V) (b : Bool) → eq_by_cmp nat_cmp k n ≡ b → cond b (Some value) (map.get (entries_where (λ k v. asked k) all) k) ≡ Some v → map.get (entries_where (λ k v. with_number n asked k) all) k ≡ Some v
     go k v true at it =
         let here : k ≡ n = nat_cmp-IsAntisymmetric k n (is_equal _ at) in
         is_kept nat_cmp_total nat_cmp-IsAntisymmetric (λ k v. with_number n asked k) all k v (ap (map.get all) here ∙ sym is ∙ it) (or_left (nat_eq k n) (asked k) ((Decides-eqb k n).1 here))
@@ -147,15 +147,15 @@ one_kept {V} asked all n (Some value) is =
         is_kept nat_cmp_total nat_cmp-IsAntisymmetric (λ k v. with_number n asked k) all k v that.0 (or_right (nat_eq k n) (asked k) that.1)
 
 -- a single record of the whole map
-pub single_kept : {V : Type 0} (all : FinMap nat_cmp V) (n : ℕ) (found : Option V) → found ≡ map.get all n → put_one map.empty n found ≡ only (λ k v. nat_eq k n) all
+pub single_kept : {V : Type 0} (all : FinMap nat_cmp V) (n : ℕ) (found : Option V) → found ≡ map.get all n → put_one map.empty n found ≡ entries_where (λ k v. nat_eq k n) all
 single_kept all n found is =
     ap (λ m. put_one m n found) (none_kept nat_cmp_total nat_cmp-IsAntisymmetric all) ∙ one_kept (λ k. false) all n found is
     ∙ same_kept nat_cmp_total nat_cmp-IsAntisymmetric (λ k v. with_number n (λ k. false) k) (λ k v. nat_eq k n) all (λ k v. or_nothing (nat_eq k n))
 
 -- one more party with its roles and its members
 pub person_known : (r : Register) (asked : ℕ → Bool) (known : PartiesAndRoles) (n : ℕ) (party : Option PartyRecord) (roles : Grants) (members : FinMap nat_cmp Members) → party ≡ map.get r.parties n
-    → roles ≡ only (λ grant u. nat_eq grant.party n) r.roles → members ≡ only (λ k ms. nat_eq k n) r.members → KnowsPeople r asked known
-    → KnowsPeople r (with_number n asked) (with_person known n party roles members)
+    → roles ≡ entries_where (λ grant u. nat_eq grant.party n) r.roles → members ≡ entries_where (λ k ms. nat_eq k n) r.members → KnowsParties r asked known
+    → KnowsParties r (with_number n asked) (with_party known n party roles members)
 person_known r asked known n party roles members party_is roles_are members_are knows = record {
   parties = ap (λ m. put_one m n party) knows.parties ∙ one_kept asked r.parties n party party_is;
   roles = ap₂ put_all knows.roles roles_are ∙ both_kept grants_total exact_grants r.roles (λ grant u. asked grant.party) (λ grant u. nat_eq grant.party n);
@@ -164,8 +164,8 @@ person_known r asked known n party roles members party_is roles_are members_are 
 
 -- one more unit with its parcels and its entries
 pub unit_known : (r : Register) (asked : ℕ → Bool) (known : UnitsAndEntries) (n : ℕ) (unit : Option UnitRecord) (parcels : FinMap nat_cmp ParcelRecord) (rrrs : FinMap nat_cmp RrrRecord)
-    → unit ≡ map.get r.units n → parcels ≡ only (λ k p. nat_eq p.unit n) r.parcels → rrrs ≡ only (λ k e. nat_eq e.unit n) r.rrrs → KnowsHoldings r asked known
-    → KnowsHoldings r (with_number n asked) (with_unit known n unit parcels rrrs)
+    → unit ≡ map.get r.units n → parcels ≡ entries_where (λ k p. nat_eq p.unit n) r.parcels → rrrs ≡ entries_where (λ k e. nat_eq e.unit n) r.rrrs → KnowsUnits r asked known
+    → KnowsUnits r (with_number n asked) (with_unit known n unit parcels rrrs)
 unit_known r asked known n unit parcels rrrs unit_is parcels_are rrrs_are knows = record {
   units = ap (λ m. put_one m n unit) knows.units ∙ one_kept asked r.units n unit unit_is;
   parcels = ap₂ put_all knows.parcels parcels_are ∙ both_kept nat_cmp_total nat_cmp-IsAntisymmetric r.parcels (λ k p. asked p.unit) (λ k p. nat_eq p.unit n);
@@ -173,6 +173,6 @@ unit_known r asked known n unit parcels rrrs unit_is parcels_are rrrs_are knows 
 }
 
 -- one more source
-pub source_known : (r : Register) (asked : ℕ → Bool) (known : GatheredSources) (n : ℕ) (source : Option SourceRecord) → source ≡ map.get r.sources n → KnowsPapers r asked known
-    → KnowsPapers r (with_number n asked) (with_source known n source)
+pub source_known : (r : Register) (asked : ℕ → Bool) (known : GatheredSources) (n : ℕ) (source : Option SourceRecord) → source ≡ map.get r.sources n → KnowsSources r asked known
+    → KnowsSources r (with_number n asked) (with_source known n source)
 source_known r asked known n source is knows = record { sources = ap (λ m. put_one m n source) knows.sources ∙ one_kept asked r.sources n source is }

@@ -12,48 +12,48 @@ use Rattle.land_core.specs.declared.kind.Kind.{Kind}
 use Rattle.land_core.specs.declared.kind.Kind.TheVariants as kind
 use Rattle.land_core.specs.declared.register.Register.{Register}
 use Rattle.land_core.specs.declared.role.Role.{Role}
-use Rattle.land_rules.specs.Denials.Sight.{SightTellsVerdicts, WhatIsAwaitedIsSeen, is_awaited, is_unit_of_conveyancer, sees_by_awaiting, told_by}
-use Rattle.land_rules.specs.Denials.Standing.{EvidenceIsEnough, LookedUpIsEnough, decided, discharged}
-use Rattle.land_rules.specs.Laws.{IsSoundOrNothing, is_itself, rule_of_role}
-use Rattle.land_rules.specs.Relations.{is_lodger_on}
+use Rattle.land_rules.specs.Denials.Sight.{SightDecidesVerdicts, PendingUnitsAreVisible, is_visible_by_pending, is_unit_of_conveyancer, sees_by_pending, verdict_given_sight}
+use Rattle.land_rules.specs.Denials.Standing.{EvidenceIsEnough, LookupsAreEnough, mutation_of_ask, entry_of_ask}
+use Rattle.land_rules.specs.Laws.{IsSoundOrNothing, views_itself, rule_of_role}
+use Rattle.land_rules.specs.Relations.{has_pending_mutation_on}
 use Rattle.land_rules.specs.Rules.{Rules, first_denial, sees, sight_rules, standing_rules, verdict_of, view_rules}
 use Rattle.land_rules.specs.declared.verdict.Verdict.{Verdict}
 use Rattle.land_rules.specs.declared.verdict.Verdict.TheVariants.{Allowed, Denied}
 use Rattle.land_select.proofs.Callers.{put_there}
 use Rattle.land_select.specs.Verdicts.{evidence_in, record_at, roles_in}
-use Rattle.land_select_joins.specs.Lookups.Parts.{IsPart}
-use Rattle.land_tables_schema.specs.Rows.Looks.{IsLook}
+use Rattle.land_select_joins.specs.Lookups.Parts.{ReadsPart}
+use Rattle.land_tables_schema.specs.Rows.ReadQueries.{IsStoreRead}
 use Rattle.sqlite.specs.State.{HasCleanDisk, State}
 use Rattle.sqlite_trees.specs.Tree.{Trees}
 
 -- no read of an open store is a read-only query
-pub looked_at_nothing : {X E : Type 0} (x : X) (Given : X → Type 0) (a : State) → (HasCleanDisk a → IsTrue a.is_open) → (HasCleanDisk a → Given x) → IsLook {X = X} {E = E} (Ok x) Given a a
+pub looked_at_nothing : {X E : Type 0} (x : X) (Given : X → Type 0) (a : State) → (HasCleanDisk a → IsTrue a.is_open) → (HasCleanDisk a → Given x) → IsStoreRead {X = X} {E = E} (Ok x) Given a a
 looked_at_nothing x Given a is_open given = record {
   given = given;
-  same = λ clean. (record { was_open = is_open clean; is_open = is_open clean; now_is = refl; committed_is = refl; mode = refl }, record { changes = refl; last_rowid = refl }, refl);
+  same = λ clean. (record { was_open = is_open clean; is_open = is_open clean; now_is = refl; committed_is = refl; autocommit = refl }, record { changes = refl; last_rowid = refl }, refl);
   left = λ _. tt;
   survives = record { clean = omega arith; shield = λ x. x; counts = omega arith; limit = refl; closes = λ _ t. inl t; crash = λ _ _ x. inl x };
 }
 
 -- two parts of a register as one
-pub both_parts : {T U : Type 0} (f : Register → T) (g : Register → U) (t : ℤ) (db : Trees) (x : T) (y : U) → IsPart f t db x → IsPart g t db y → IsPart {T = T × U} (λ r. (f r, g r)) t db (x, y)
+pub both_parts : {T U : Type 0} (f : Register → T) (g : Register → U) (t : ℤ) (db : Trees) (x : T) (y : U) → ReadsPart f t db x → ReadsPart g t db y → ReadsPart {T = T × U} (λ r. (f r, g r)) t db (x, y)
 both_parts f g t db x y one two moments h held r have stand = ap₂ (λ a b. (a, b)) (one moments h held r have stand) (two moments h held r have stand)
 
 -- ---- the caller
 
-at_number : {V : Type 0} (o : Option ℕ) (m : FinMap nat_cmp V) → IfSome o (λ n. record_at m o ≡ map.get m n)
-at_number None m = tt
-at_number (Some n) m = refl
+read_mutation_records : {V : Type 0} (o : Option ℕ) (m : FinMap nat_cmp V) → IfSome o (λ n. record_at m o ≡ map.get m n)
+read_mutation_records None m = tt
+read_mutation_records (Some n) m = refl
 
 -- the evidence is denied by the rules that deny the register
-pub evidence_denies : EvidenceIsEnough → LookedUpIsEnough → (r : Register) (caller : Caller) (a : Ask) (past : Bool) (evidence : Register) → evidence ≡ evidence_in r caller a
+pub evidence_denies : EvidenceIsEnough → LookupsAreEnough → (r : Register) (caller : Caller) (a : Ask) (past : Bool) (evidence : Register) → evidence ≡ evidence_in r caller a
     → first_denial (standing_rules evidence caller a past) ≡ first_denial (standing_rules r caller a past)
 evidence_denies enough looked r caller a past evidence is =
     let party = map.get r.parties caller.party in
-    let entry = record_at r.rrrs (discharged a) in
-    let mutation = record_at r.mutations (decided a) in
+    let entry = record_at r.rrrs (entry_of_ask a) in
+    let mutation = record_at r.mutations (mutation_of_ask a) in
     let it =
-    looked r caller a party (roles_in r caller.party) entry mutation (record { party_is = refl; roles_are = refl; entry_is = at_number (discharged a) r.rrrs; mutation_is = at_number (decided a) r.mutations }) in
+    looked r caller a party (roles_in r caller.party) entry mutation (record { party_is = refl; roles_are = refl; entry_is = read_mutation_records (entry_of_ask a) r.rrrs; mutation_is = read_mutation_records (mutation_of_ask a) r.mutations }) in
     ap (λ (m : Register). first_denial (standing_rules m caller a past)) is
     ∙ enough (evidence_in r caller a) r caller a past (record { party = put_there caller.party (stands r kind.Party caller.party); role = it.role; entry = it.entry; mutation = it.mutation })
 
@@ -64,15 +64,15 @@ denied_is_not_allowed j e = cc
 
 -- visibility alone decides the verdict, except on a conveyancer's view of a unit; also if the register is
 -- empty
-pub sight_told : SightTellsVerdicts → (r : Register) → IsSoundOrNothing r → (caller : Caller) (k : Kind) (n : ℕ) → is_unit_of_conveyancer caller.role k ≡ false
-    → told_by (sees r caller k n) false caller k n ≡ first_denial (view_rules r caller k n)
+pub sight_told : SightDecidesVerdicts → (r : Register) → IsSoundOrNothing r → (caller : Caller) (k : Kind) (n : ℕ) → is_unit_of_conveyancer caller.role k ≡ false
+    → verdict_given_sight (sees r caller k n) false caller k n ≡ first_denial (view_rules r caller k n)
 sight_told law r premise caller k n other =
-    ap (λ b. cond (sees r caller k n) Allowed (Denied (cond (b || is_itself caller k n) 27 (rule_of_role caller.role k))))
-    (and_false (is_unit_of_conveyancer caller.role k) ∙ sym (ap (λ b. b && is_lodger_on r caller.party n) other))
+    ap (λ b. cond (sees r caller k n) Allowed (Denied (cond (b || views_itself caller k n) 27 (rule_of_role caller.role k))))
+    (and_false (is_unit_of_conveyancer caller.role k) ∙ sym (ap (λ b. b && has_pending_mutation_on r caller.party n) other))
     ∙ sym (law r premise caller k n)
 
 -- a conveyancer sees a unit by a pending mutation
-by_awaiting : (role : Role) (k : Kind) → is_unit_of_conveyancer role k ≡ true → (k ≡ kind.Unit) × (sees_by_awaiting role kind.Unit ≡ true)
+by_awaiting : (role : Role) (k : Kind) → is_unit_of_conveyancer role k ≡ true → (k ≡ kind.Unit) × (sees_by_pending role kind.Unit ≡ true)
 by_awaiting role kind.Party is = absurd (false≢true is)
 by_awaiting role kind.Unit is = (refl, is)
 by_awaiting role kind.Parcel is = absurd (false≢true is)
@@ -81,11 +81,11 @@ by_awaiting role kind.Source is = absurd (false≢true is)
 by_awaiting role kind.Mutation is = absurd (false≢true is)
 
 -- so a pending mutation decides, with its existence apart from that of the unit
-pub unit_told : SightTellsVerdicts → WhatIsAwaitedIsSeen → (r : Register) → IsSoundOrNothing r → (caller : Caller) (k : Kind) (n : ℕ) → is_unit_of_conveyancer caller.role k ≡ true
-    → told_by (is_awaited r caller kind.Unit n) (is_lodger_on r caller.party n) caller kind.Unit n ≡ first_denial (view_rules r caller k n)
-unit_told law awaited r premise caller k n is =
+pub unit_told : SightDecidesVerdicts → PendingUnitsAreVisible → (r : Register) → IsSoundOrNothing r → (caller : Caller) (k : Kind) (n : ℕ) → is_unit_of_conveyancer caller.role k ≡ true
+    → verdict_given_sight (is_visible_by_pending r caller kind.Unit n) (has_pending_mutation_on r caller.party n) caller kind.Unit n ≡ first_denial (view_rules r caller k n)
+unit_told law is_pending r premise caller k n is =
     let it = by_awaiting caller.role k is in
-    ap (λ b. told_by b (is_lodger_on r caller.party n) caller kind.Unit n) (sym (awaited r premise caller kind.Unit n it.1))
+    ap (λ b. verdict_given_sight b (has_pending_mutation_on r caller.party n) caller kind.Unit n) (sym (is_pending r premise caller kind.Unit n it.1))
     ∙ sym (law r premise caller kind.Unit n)
     ∙ ap (λ (which : Kind). first_denial (view_rules r caller which n)) (sym it.0)
 

@@ -6,7 +6,7 @@ pub mod Gathering
 pub mod Judged
 pub mod Keeping
 pub mod Listing
-pub mod Looks
+pub mod ReadQueries
 pub mod Named
 pub mod NamedObjects
 pub mod PartySight

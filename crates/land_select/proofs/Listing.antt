@@ -12,8 +12,8 @@ use Rattle.std.specs.Ordering.{nat_cmp}
 use Rattle.land_acts.proofs.EnteredEntries.{here}
 use Rattle.land_acts.proofs.TransferSums.{apart_to}
 use Rattle.land_core.proofs.FiniteMaps.{none_is_not_some}
-use Rattle.land_core.proofs.Reflection.{get-only, some_at}
-use Rattle.land_core.specs.Entries.{only, with_entries}
+use Rattle.land_core.proofs.Reflection.{get-entries_where, some_at}
+use Rattle.land_core.specs.Entries.{entries_where, with_entries}
 use Rattle.land_core.specs.Register.{members_of, nothing, roles_of}
 use Rattle.land_core.specs.declared.kind.Kind.{Kind}
 use Rattle.land_core.specs.declared.kind.Kind.TheVariants as kind
@@ -65,9 +65,9 @@ one_more_within numbers i first last least most inside low high above below all 
     (all-append (λ n. is_within least most n ≡ true) (take i numbers) (n ∷ []) (all_widened first last least most low high (take i numbers) all) (in_range least most n above below, tt))
 
 -- the contents of a map in the range are in the filtered map
-found_within : {V : Type 0} (found m : FinMap nat_cmp V) (first last n : ℕ) → found ≡ only (λ k v. is_within first last k) m → is_within first last n ≡ true → map.get found n ≡ map.get m n
+found_within : {V : Type 0} (found m : FinMap nat_cmp V) (first last n : ℕ) → found ≡ entries_where (λ k v. is_within first last k) m → is_within first last n ≡ true → map.get found n ≡ map.get m n
 found_within {V = V} found m first last n is within =
-    ap (λ (f : FinMap nat_cmp V). map.get f n) is ∙ get-only nat_cmp_total nat_cmp-IsAntisymmetric (λ k v. is_within first last k) m n (λ v. within)
+    ap (λ (f : FinMap nat_cmp V). map.get f n) is ∙ get-entries_where nat_cmp_total nat_cmp-IsAntisymmetric (λ k v. is_within first last k) m n (λ v. within)
 
 -- a unit
 abbrev unit_named : Register → ℕ → Option UnitRecord → List NamedObject
@@ -77,7 +77,7 @@ unit_same : (one other : Register) (n : ℕ) (o : Option UnitRecord) → unit_na
 unit_same one other n None = refl
 unit_same one other n (Some u) = refl
 
-pub units_alone : (found : FinMap nat_cmp UnitRecord) (r : Register) (first last : ℕ) → found ≡ only (λ n v. is_within first last n) r.units → ListsAlike kind.Unit first last (record nothing { units = found }) r
+pub units_alone : (found : FinMap nat_cmp UnitRecord) (r : Register) (first last : ℕ) → found ≡ entries_where (λ n v. is_within first last n) r.units → ListsAlike kind.Unit first last (record nothing { units = found }) r
 units_alone found r low high is n within =
     ap (unit_named (record nothing { units = found }) n) (found_within found r.units low high n is within) ∙ unit_same (record nothing { units = found }) r n (map.get r.units n)
 
@@ -89,7 +89,7 @@ parcel_same : (one other : Register) (n : ℕ) (o : Option ParcelRecord) → par
 parcel_same one other n None = refl
 parcel_same one other n (Some u) = refl
 
-pub parcels_alone : (found : FinMap nat_cmp ParcelRecord) (r : Register) (first last : ℕ) → found ≡ only (λ n v. is_within first last n) r.parcels → ListsAlike kind.Parcel first last (record nothing { parcels = found }) r
+pub parcels_alone : (found : FinMap nat_cmp ParcelRecord) (r : Register) (first last : ℕ) → found ≡ entries_where (λ n v. is_within first last n) r.parcels → ListsAlike kind.Parcel first last (record nothing { parcels = found }) r
 parcels_alone found r low high is n within =
     ap (parcel_named (record nothing { parcels = found }) n) (found_within found r.parcels low high n is within) ∙ parcel_same (record nothing { parcels = found }) r n (map.get r.parcels n)
 
@@ -101,7 +101,7 @@ source_same : (one other : Register) (n : ℕ) (o : Option SourceRecord) → sou
 source_same one other n None = refl
 source_same one other n (Some u) = refl
 
-pub sources_alone : (found : FinMap nat_cmp SourceRecord) (r : Register) (first last : ℕ) → found ≡ only (λ n v. is_within first last n) r.sources → ListsAlike kind.Source first last (record nothing { sources = found }) r
+pub sources_alone : (found : FinMap nat_cmp SourceRecord) (r : Register) (first last : ℕ) → found ≡ entries_where (λ n v. is_within first last n) r.sources → ListsAlike kind.Source first last (record nothing { sources = found }) r
 sources_alone found r low high is n within =
     ap (source_named (record nothing { sources = found }) n) (found_within found r.sources low high n is within) ∙ source_same (record nothing { sources = found }) r n (map.get r.sources n)
 
@@ -113,7 +113,7 @@ mutation_same : (one other : Register) (n : ℕ) (o : Option MutationRecord) →
 mutation_same one other n None = refl
 mutation_same one other n (Some u) = refl
 
-pub mutations_alone : (found : FinMap nat_cmp MutationRecord) (r : Register) (first last : ℕ) → found ≡ only (λ n v. is_within first last n) r.mutations → ListsAlike kind.Mutation first last (record nothing { mutations = found }) r
+pub mutations_alone : (found : FinMap nat_cmp MutationRecord) (r : Register) (first last : ℕ) → found ≡ entries_where (λ n v. is_within first last n) r.mutations → ListsAlike kind.Mutation first last (record nothing { mutations = found }) r
 mutations_alone found r low high is n within =
     ap (mutation_named (record nothing { mutations = found }) n) (found_within found r.mutations low high n is within) ∙ mutation_same (record nothing { mutations = found }) r n (map.get r.mutations n)
 
@@ -125,7 +125,7 @@ party_same : (one other : Register) (n : ℕ) (o : Option PartyRecord) → party
 party_same one other n None = refl
 party_same one other n (Some p) = refl
 
-pub parties_alone : (found : FinMap nat_cmp PartyRecord) (r : Register) (first last : ℕ) → found ≡ only (λ n v. is_within first last n) r.parties → ListsAlike kind.Party first last (record nothing { parties = found }) r
+pub parties_alone : (found : FinMap nat_cmp PartyRecord) (r : Register) (first last : ℕ) → found ≡ entries_where (λ n v. is_within first last n) r.parties → ListsAlike kind.Party first last (record nothing { parties = found }) r
 parties_alone found r low high is n within =
     ap (party_named (record nothing { parties = found }) n) (found_within found r.parties low high n is within) ∙ party_same (record nothing { parties = found }) r n (map.get r.parties n)
 
@@ -177,7 +177,7 @@ entry_with n e name = record { object = object.Rrr (record { number = n; unit = 
 abbrev entry_named : Register → ℕ → Option RrrRecord → List NamedObject
 entry_named r n o = option_map_or (λ it. named r it ∷ []) (option_map object.Rrr (option_map (λ e. record { number = n; unit = e.unit; party = e.party; class = e.class; source = e.source }) o)) []
 
-module _ (found : FinMap nat_cmp RrrRecord) (list : List Numbered) (r : Register) (first_number last_number : ℕ) (is : found ≡ only (λ n v. is_within first_number last_number n) r.rrrs)
+module _ (found : FinMap nat_cmp RrrRecord) (list : List Numbered) (r : Register) (first_number last_number : ℕ) (is : found ≡ entries_where (λ n v. is_within first_number last_number n) r.rrrs)
     (all : (party : Numbered) → Contains list party ↔ ((has_entry_among r (of_range first_number last_number) party.0 ≡ true) × (map.get r.parties party.0 ≡ Some party.1))) where
   abbrev alone : Register
   alone = record nothing { rrrs = found; parties = with_entries map.empty list }
@@ -201,8 +201,8 @@ module _ (found : FinMap nat_cmp RrrRecord) (list : List Numbered) (r : Register
       go (Some it) some =
           one_put list map.empty e.party it ((all (e.party, it)).1 (has_one, some)) (λ party there same. one_value (sym ((all party).0 there).1 ∙ ap (map.get r.parties) same ∙ some)) ∙ sym some
 
-  pub entries_alone : ListsAlike kind.Rrr first_number last_number alone r
-  entries_alone n within = ap (entry_named alone n) (found_within found r.rrrs first_number last_number n is within) ∙ go (map.get r.rrrs n) refl
+  pub register_of_entries : ListsAlike kind.Rrr first_number last_number alone r
+  register_of_entries n within = ap (entry_named alone n) (found_within found r.rrrs first_number last_number n is within) ∙ go (map.get r.rrrs n) refl
     where
       go : (o : Option RrrRecord) → map.get r.rrrs n ≡ o → entry_named alone n o ≡ entry_named r n o
       go None got = refl

@@ -8,13 +8,13 @@ use Rattle.std.specs.List.{Contains}
 use Rattle.std.specs.Option.{option_map_or}
 use Rattle.std.specs.Ordering.{nat_cmp}
 use Rattle.std.proofs.lemmas.Bool.{and_parts}
-use Rattle.land_core.proofs.Reflection.{entries-only, some_at}
+use Rattle.land_core.proofs.Reflection.{entries-entries_where, some_at}
 use Rattle.land_core.specs.declared.caller.Caller.{Caller}
 use Rattle.land_core.specs.declared.kind.Kind.TheVariants.{Rrr}
 use Rattle.land_core.specs.declared.party.PartyRecord.{PartyRecord}
 use Rattle.land_core.specs.declared.register.Register.{Register}
 use Rattle.land_core.specs.declared.rrr.RrrRecord.{RrrRecord}
-use Rattle.land_keep.specs.Sheets.{entries_seen, name_at, named_rrr}
+use Rattle.land_keep.specs.Sheets.{visible_entries, name_at, named_rrr}
 use Rattle.land_rules.specs.Rules.{sees}
 use Rattle.land_select.specs.Views.{visible_rrrs, name_among, named_among, with_name}
 use Rattle.land_select_joins.proofs.Containing.{first, first_or_later, in_nothing, later}
@@ -91,9 +91,9 @@ is_seen r caller unit e = nat_eq e.1.unit unit && sees r caller Rrr e.0
 -- so the visible entries with names are those of the title sheet
 pub named_in_sight : (r : Register) (caller : Caller) (unit : ℕ) (entries : FinMap nat_cmp RrrRecord) (parties : List PartyVersion) → entries ≡ visible_rrrs r caller unit
     → ((party : ℕ × PartyRecord) → Contains (map_list what_of parties) party ↔ ((has_entry_in r unit party.0 ≡ true) × (map.get r.parties party.0 ≡ Some party.1)))
-    → named_among parties (map.entries entries) ≡ entries_seen r caller unit
+    → named_among parties (map.entries entries) ≡ visible_entries r caller unit
 named_in_sight r caller unit entries parties are all =
-    ap (λ m. named_among parties (map.entries m)) are ∙ ap (named_among parties) (entries-only nat_cmp_total nat_cmp-IsAntisymmetric (λ n e. nat_eq e.unit unit && sees r caller Rrr n) r.rrrs)
+    ap (λ m. named_among parties (map.entries m)) are ∙ ap (named_among parties) (entries-entries_where nat_cmp_total nat_cmp-IsAntisymmetric (λ n e. nat_eq e.unit unit && sees r caller Rrr n) r.rrrs)
     ∙ same_mapped (λ (e : ℕ × RrrRecord). with_name e.0 e.1 (name_among parties e.1.party)) (λ e. named_rrr r e.0 e.1) (filter (is_seen r caller unit) (map.entries r.rrrs))
     (λ e among.
     let it = passes_filter (is_seen r caller unit) (map.entries r.rrrs) e among in

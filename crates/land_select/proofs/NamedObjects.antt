@@ -10,12 +10,12 @@ use Rattle.std.specs.Option.{option_map_or}
 use Rattle.std.specs.Ordering.{nat_cmp}
 use Rattle.std.specs.Prelude.{map as map_list}
 use Rattle.std.proofs.lemmas.Cmp.{nat_eq_equiv}
-use Rattle.land_acts.specs.Slices.{content_names_party, is_mandate, is_mutation_where, mutations_looked_at, names_mandate, names_party, names_unit}
+use Rattle.land_acts.specs.Slices.{content_names_party, is_same_mandate, is_mutation_where, mutations_in_slice, names_mandate, names_party, names_unit}
 use Rattle.land_core.proofs.Booleans.{or_nothing, same_tests}
 use Rattle.land_core.proofs.FiniteSets.{exact_grants, grants_total}
-use Rattle.land_core.proofs.Reflection.{get-only, list_any-map}
+use Rattle.land_core.proofs.Reflection.{get-entries_where, list_any-map}
 use Rattle.land_core.specs.Contents.{names_unit as content_names_unit}
-use Rattle.land_core.specs.Entries.{only, some}
+use Rattle.land_core.specs.Entries.{entries_where, some}
 use Rattle.land_core.specs.Grants.{Grants, grant_of, grants_in}
 use Rattle.land_core.specs.Register.{holds}
 use Rattle.land_core.specs.Role.{is_role}
@@ -74,9 +74,9 @@ listed_unit n (content.Discharge it) = one_unit n it.unit
 -- ---- acts
 
 -- the mutation that an act decides is one of those that it refers to
-module _ (r : Register) (k : ℕ) (mutations : FinMap nat_cmp MutationRecord) (are : mutations ≡ only (λ n m. nat_eq n k) r.mutations) where
+module _ (r : Register) (k : ℕ) (mutations : FinMap nat_cmp MutationRecord) (are : mutations ≡ entries_where (λ n m. nat_eq n k) r.mutations) where
   decided_there : map.get mutations k ≡ map.get r.mutations k
-  decided_there = ap (λ ms. map.get ms k) are ∙ get-only nat_cmp_total nat_cmp-IsAntisymmetric (λ n m. nat_eq n k) r.mutations k (λ m. nat_eq_equiv.refl k)
+  decided_there = ap (λ ms. map.get ms k) are ∙ get-entries_where nat_cmp_total nat_cmp-IsAntisymmetric (λ n m. nat_eq n k) r.mutations k (λ m. nat_eq_equiv.refl k)
 
   decided_names : (names : ℕ → Content → Bool) (listed : Content → List ℕ) → ((n : ℕ) (c : Content) → names n c ≡ lists (listed c) n) → (n : ℕ)
       → is_mutation_where (λ m. names n m.content) r k ≡ lists (of_mutation listed mutations k) n
@@ -86,7 +86,7 @@ module _ (r : Register) (k : ℕ) (mutations : FinMap nat_cmp MutationRecord) (a
       go None = refl
       go (Some m) = same n m.content
 
-pub party_listed : (r : Register) (caller : Caller) (a : Act) (mutations : FinMap nat_cmp MutationRecord) → mutations ≡ mutations_looked_at r caller a → (n : ℕ)
+pub party_listed : (r : Register) (caller : Caller) (a : Act) (mutations : FinMap nat_cmp MutationRecord) → mutations ≡ mutations_in_slice r caller a → (n : ℕ)
     → names_party r a n ≡ lists (parties_of a mutations) n
 party_listed r caller (act.Enrol it) mutations are n = refl
 party_listed r caller (act.Group it) mutations are n = sym (list_any-map (nat_eq n) (λ member. member.party) it.members)
@@ -102,7 +102,7 @@ party_listed r caller (act.Lodge it) mutations are n = listed_party n it.content
 party_listed r caller (act.Approve it) mutations are n = decided_names r it.mutation mutations are content_names_party parties_of_content listed_party n
 party_listed r caller (act.Refuse it) mutations are n = decided_names r it.mutation mutations are content_names_party parties_of_content listed_party n
 
-pub unit_listed : (r : Register) (caller : Caller) (a : Act) (mutations : FinMap nat_cmp MutationRecord) → mutations ≡ mutations_looked_at r caller a → (n : ℕ)
+pub unit_listed : (r : Register) (caller : Caller) (a : Act) (mutations : FinMap nat_cmp MutationRecord) → mutations ≡ mutations_in_slice r caller a → (n : ℕ)
     → names_unit r a n ≡ lists (units_of a mutations) n
 unit_listed r caller (act.Enrol it) mutations are n = refl
 unit_listed r caller (act.Group it) mutations are n = refl
@@ -118,7 +118,7 @@ unit_listed r caller (act.Lodge it) mutations are n = listed_unit n it.content
 unit_listed r caller (act.Approve it) mutations are n = decided_names r it.mutation mutations are content_names_unit units_of_content listed_unit n
 unit_listed r caller (act.Refuse it) mutations are n = decided_names r it.mutation mutations are content_names_unit units_of_content listed_unit n
 
-pub mandate_named : (caller : Caller) (a : Act) (m : Mandate) → names_mandate caller a m ≡ option_map_or (λ it. is_mandate it m) (mandate_of_act caller a) false
+pub mandate_named : (caller : Caller) (a : Act) (m : Mandate) → names_mandate caller a m ≡ option_map_or (λ it. is_same_mandate it m) (mandate_of_act caller a) false
 mandate_named caller (act.Mandate it) m = refl
 mandate_named caller (act.Withdraw it) m = refl
 mandate_named caller other m = refl
@@ -145,7 +145,7 @@ administers roles.StateAdministrator h = refl
 granted : (g : Grant) (n : ℕ) (role : Role) → g.party ≡ n → g.role ≡ role → grant_of n role ≡ g
 granted g n role e f = ap₂ grant_of (sym e) (sym f)
 
-pub office_listed : (r : Register) (office : Grants) → office ≡ only (λ grant u. is_role grant.role roles.StateAdministrator) r.roles → (n : ℕ)
+pub office_listed : (r : Register) (office : Grants) → office ≡ entries_where (λ grant u. is_role grant.role roles.StateAdministrator) r.roles → (n : ℕ)
     → holds r n roles.StateAdministrator ≡ lists (map_list (λ grant. grant.party) (grants_in office)) n
 unfolding grants_in
 office_listed r office are n =

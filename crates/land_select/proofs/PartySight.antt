@@ -18,8 +18,8 @@ use Rattle.land_rules.specs.CircleLaws.{CirclesSeeTogether, without_mandates}
 use Rattle.land_rules.specs.Circles.{circle_of, is_name_of}
 use Rattle.land_rules.specs.Denials.Interests.{AreNamesOf}
 use Rattle.land_rules.specs.Denials.Sight.{sees_all}
-use Rattle.land_rules.specs.Laws.{IsSoundOrNothing, SeenIsExactly, citizen}
-use Rattle.land_rules.specs.Relations.{holds_as, is_member_of}
+use Rattle.land_rules.specs.Laws.{IsSoundOrNothing, SeenListsAreExact, citizen}
+use Rattle.land_rules.specs.Relations.{holds_under_name, is_member_of}
 use Rattle.land_rules.specs.Rules.{is_allowed, seen_of, sees}
 use Rattle.land_rules.specs.declared.verdict.Verdict.TheVariants.{Allowed, Denied}
 use Rattle.land_select.specs.Parties.{AreOtherNames, AreOwnNames, is_own_name, relation_of}
@@ -28,15 +28,15 @@ use Rattle.land_select_joins.proofs.Containing.{any_decides, first, first_or_lat
 use Rattle.land_select_joins.proofs.Naming.{Joins, member_decides}
 use Rattle.land_select_joins.proofs.Standing.{has_decides}
 use Rattle.land_select_joins.proofs.Views.{plain}
-use Rattle.land_select_joins.specs.Joins.Running.{AreAll}
-use Rattle.land_select_joins.specs.Lookups.Seers.{IsSeer}
+use Rattle.land_select_joins.specs.Joins.Execution.{AreAll}
+use Rattle.land_select_joins.specs.Lookups.Viewers.{IsViewer}
 use Rattle.land_select_joins.specs.Sights.{AnySelects, selections_of}
 use Rattle.land_select_joins.specs.Sights.Laws.{SelectionsAreTheRules}
 use Rattle.land_select_joins.specs.Sights.Selections.{selects}
 use Rattle.land_select_joins.specs.declared.lookups.relation.Relation.{Relation}
 use Rattle.land_select_joins.specs.declared.lookups.relation.Relation.TheVariants.{Holding}
 use Rattle.land_select_joins.specs.declared.sights.selection.Selection.TheVariants.{Itself, HeldParties, CreditParties, LodgedParties}
-use Rattle.land_tables_history.specs.History.{StandsAt}
+use Rattle.land_tables_history.specs.History.{IsRegisterAt}
 use Rattle.land_tables_history.specs.declared.history.History.{History}
 
 -- ---- names
@@ -84,7 +84,7 @@ seen_stands r caller n = last_rule _ _ _ _ _
 
 -- ---- why a party is visible
 
-module _ (rules : SelectionsAreTheRules) (seen : SeenIsExactly) (together : CirclesSeeTogether) (r : Register) (t : ℤ) (h : History) (premise : IsSoundOrNothing r) (is : StandsAt t h r) (n : ℕ) where
+module _ (rules : SelectionsAreTheRules) (seen : SeenListsAreExact) (together : CirclesSeeTogether) (r : Register) (t : ℤ) (h : History) (premise : IsSoundOrNothing r) (is : IsRegisterAt t h r) (n : ℕ) where
   -- a caller that would see the party without mandates selects it
   alone_decides : (caller : Caller) → Decides (list_any (nat_eq n) (seen_of (without_mandates r) caller Party)) (AnySelects (selections_of caller.role Party) t h caller.party n)
   alone_decides caller =
@@ -109,13 +109,13 @@ module _ (rules : SelectionsAreTheRules) (seen : SeenIsExactly) (together : Circ
   -- a citizen holds rights in the name of one of its circle, or of a group with a member in the circle
   name_decides : (party named : ℕ) → Decides (is_name_of r (circle_of r party) named) ((one : ℕ) × Contains (circle_of r party) one × ((named ≡ one) ⊎ Joins t h named one))
   name_decides party named =
-      any_decides (λ one. holds_as r one named) (λ one. (named ≡ one) ⊎ Joins t h named one) (circle_of r party)
+      any_decides (λ one. holds_under_name r one named) (λ one. (named ≡ one) ⊎ Joins t h named one) (circle_of r party)
       (λ one among. Decides-or (nat_eq named one) (is_member_of r one named) (Decides-eqb named one) (member_decides r t h is named one))
 
   -- a name of the caller that is a viewer of the party
   abbrev ToldBy : Option Relation → Caller → Type 0
   ToldBy None caller = ⊥
-  ToldBy (Some relation) caller = (seer : ℕ) × (is_own_name r caller seer ≡ true) × IsSeer relation t h n seer
+  ToldBy (Some relation) caller = (seer : ℕ) × (is_own_name r caller seer ≡ true) × IsViewer relation t h n seer
 
   -- ---- a citizen
 
@@ -132,7 +132,7 @@ module _ (rules : SelectionsAreTheRules) (seen : SeenIsExactly) (together : Circ
         (name_decides party told.held.1.party).1 (one, among, inr (through.joined, through.joined_stands, sym through.group, through.member)),
         (
           it.0,
-          record { held = told.held; interest = record { stands = through.stands; party = refl; class = through.class }; stands = told.stands; unit = told.unit; tells = told.tells },
+          record { held = told.held; interest = record { stands = through.stands; party = refl; class = through.class }; stands = told.stands; unit = told.unit; yields = told.yields },
           it.2,
         ),
       )
@@ -162,7 +162,7 @@ module _ (rules : SelectionsAreTheRules) (seen : SeenIsExactly) (together : Circ
               };
               stands = seen_by.1.stands;
               unit = seen_by.1.unit;
-              tells = seen_by.1.tells;
+              yields = seen_by.1.yields;
             },
             seen_by.2,
           ))))
@@ -243,10 +243,10 @@ module _ (rules : SelectionsAreTheRules) (seen : SeenIsExactly) (together : Circ
         (subst (λ o. Decides (sees r caller Party n) (ToldBy o caller)) none (told_decides caller.party caller.role all (other_is others)))
 
     -- another one, with viewers
-    pub told_seen : (relation : Relation) (seers : List ℕ) → AreOtherNames caller names n r → relation_of caller.role ≡ Some relation → AreAll seers (IsSeer relation t h n)
-        → list_any (λ seer. list_any (nat_eq seer) names) seers ≡ sees r caller Party n
-    told_seen relation seers others some are =
+    pub told_seen : (relation : Relation) (viewers_of_party : List ℕ) → AreOtherNames caller names n r → relation_of caller.role ≡ Some relation → AreAll viewers_of_party (IsViewer relation t h n)
+        → list_any (λ seer. list_any (nat_eq seer) names) viewers_of_party ≡ sees r caller Party n
+    told_seen relation viewers_of_party others some are =
         same_from_decides _ _
         (Decides-like _ (λ it. (it.0, it.2, (are it.0).0 it.1)) (λ told. (told.0, (are told.0).1 told.2, told.1))
-        (any_decides (λ seer. list_any (nat_eq seer) names) (λ seer. is_own_name r caller seer ≡ true) seers (λ seer among. listed_decides r caller names others.0 seer)))
+        (any_decides (λ seer. list_any (nat_eq seer) names) (λ seer. is_own_name r caller seer ≡ true) viewers_of_party (λ seer among. listed_decides r caller names others.0 seer)))
         (subst (λ o. Decides (sees r caller Party n) (ToldBy o caller)) some (told_decides caller.party caller.role all (other_is others)))

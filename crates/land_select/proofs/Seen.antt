@@ -3,7 +3,7 @@ use Rattle.std.proofs.Common.{◌≡◌, ◌∙◌, ap, refl, sym, Bool, true, f
 use Rattle.std.proofs.lemmas.Int.{ints}
 use Rattle.std.specs.Prelude.{ℤ, int_lt}
 use Rattle.land_acts.specs.Slices.{slice_of}
-use Rattle.land_core.specs.Laws.{SoundnessByLookUps}
+use Rattle.land_core.specs.Laws.{SoundnessByNumber}
 use Rattle.land_core.specs.declared.act.Act.{Act}
 use Rattle.land_core.specs.declared.ask.Ask.{Ask}
 use Rattle.land_core.specs.declared.caller.Caller.{Caller}
@@ -18,42 +18,42 @@ use Rattle.land_keep.specs.declared.store_fault.StoreFault.{StoreFault}
 use Rattle.land_rules.specs.Rules.{seen_of, verdict_of}
 use Rattle.land_rules.specs.declared.verdict.Verdict.{Verdict}
 use Rattle.land_select.specs.Results.{IsResult}
-use Rattle.land_select.specs.Slices.Gathered.{IsSo}
-use Rattle.land_select.specs.Cache.{IsFoundFor}
+use Rattle.land_select.specs.Slices.Gathered.{HoldsOfRegister}
+use Rattle.land_select.specs.Cache.{IsValueFor}
 use Rattle.land_select.specs.Verdicts.{IsVerdictWith}
-use Rattle.land_select.specs.Views.{IsShownGiven}
+use Rattle.land_select.specs.Views.{AgreesIfGiven}
 use Rattle.land_select.specs.declared.cache.CachedValue.{CachedValue}
 use Rattle.land_select_joins.specs.Joins.Sight.{IsSight}
-use Rattle.land_select_joins.specs.Lookups.Parts.{IsPart}
+use Rattle.land_select_joins.specs.Lookups.Parts.{ReadsPart}
 use Rattle.land_tables.proofs.LookedAt.{IsLookedAt}
 use Rattle.land_tables.proofs.One.{have_members}
 use Rattle.land_tables.proofs.WrittenTimelines.{stays_last}
-use Rattle.land_tables.specs.Standing.{timeline_in}
+use Rattle.land_tables.specs.Standing.{decoded_timeline}
 use Rattle.sqlite.specs.State.{State}
 
 -- the numbers selected at a time are those that the policy lets the caller see in the register at that time
 pub sight_seen : (s : State) (caller : Caller) (kind : Kind) (t u : ℤ) → IsLookedAt t u → (r : Result (List ℕ) StoreFault) → IfOk r (IsResult (IsSight caller kind u) s)
-    → IfOk r (λ it. it ≡ seen_of (register_at (timeline_in s.now.trees) t) caller kind)
+    → IfOk r (λ it. it ≡ seen_of (register_at (decoded_timeline s.now.trees) t) caller kind)
 sight_seen s caller kind t u place (Ok it) answer =
-    let tl = timeline_in s.now.trees in
+    let tl = decoded_timeline s.now.trees in
     let holds = answer.register.holds in
     answer.answer holds.listed holds.history holds.holds (register_at tl t) (sound_or_nothing tl t answer.register.sound) (place s answer.register)
 sight_seen s caller kind t u place (Err fault) answer = tt
 
 -- a part of the register that is read at a time is that of the register at that time
-pub part_stands : SoundnessByLookUps → {T : Type 0} (part : Register → T) (s : State) (t u : ℤ) → IsLookedAt t u → (r : Result T StoreFault) → IfOk r (IsResult (IsPart part u) s)
-    → IfOk r (λ it. it ≡ part (register_at (timeline_in s.now.trees) t))
+pub part_stands : SoundnessByNumber → {T : Type 0} (part : Register → T) (s : State) (t u : ℤ) → IsLookedAt t u → (r : Result T StoreFault) → IfOk r (IsResult (ReadsPart part u) s)
+    → IfOk r (λ it. it ≡ part (register_at (decoded_timeline s.now.trees) t))
 part_stands look_ups part s t u place (Ok it) answer =
-    let tl = timeline_in s.now.trees in
+    let tl = decoded_timeline s.now.trees in
     let holds = answer.register.holds in
     answer.answer holds.listed holds.history holds.holds (register_at tl t) (have_members look_ups tl t answer.register.sound) (place s answer.register)
 part_stands look_ups part s t u place (Err fault) answer = tt
 
 -- the same for a view, with a premise on the register at that time
-pub given_stands : {T : Type 0} (Given : Register → Type 0) (shown : Register → T) (s : State) (t u : ℤ) → IsLookedAt t u → (it : T) → IsResult (IsShownGiven Given shown u) s it
-    → Given (register_at (timeline_in s.now.trees) t) → it ≡ shown (register_at (timeline_in s.now.trees) t)
+pub given_stands : {T : Type 0} (Given : Register → Type 0) (shown : Register → T) (s : State) (t u : ℤ) → IsLookedAt t u → (it : T) → IsResult (AgreesIfGiven Given shown u) s it
+    → Given (register_at (decoded_timeline s.now.trees) t) → it ≡ shown (register_at (decoded_timeline s.now.trees) t)
 given_stands Given shown s t u place it answer given =
-    let tl = timeline_in s.now.trees in
+    let tl = decoded_timeline s.now.trees in
     let holds = answer.register.holds in
     answer.answer holds.listed holds.history holds.holds (register_at tl t) (sound_or_nothing tl t answer.register.sound) (place s answer.register) given
 
@@ -62,10 +62,10 @@ the_last = (omega (arith, ints), omega (arith, ints))
 
 -- the verdict on the tables is that of the latest register and the register at the time, and the cached value
 -- is correct for the latter
-verdict_stands : SoundnessByLookUps → (s : State) (caller : Caller) (a : Ask) (past : Bool) (t u : ℤ) → IsLookedAt t u → (it : Verdict × CachedValue) → IsResult (IsVerdictWith caller a past u) s it
-    → (it.0 ≡ verdict_of (last_register (timeline_in s.now.trees)) (register_at (timeline_in s.now.trees) t) caller a past) × IsFoundFor (register_at (timeline_in s.now.trees) t) caller a it.1
+verdict_stands : SoundnessByNumber → (s : State) (caller : Caller) (a : Ask) (past : Bool) (t u : ℤ) → IsLookedAt t u → (it : Verdict × CachedValue) → IsResult (IsVerdictWith caller a past u) s it
+    → (it.0 ≡ verdict_of (last_register (decoded_timeline s.now.trees)) (register_at (decoded_timeline s.now.trees) t) caller a past) × IsValueFor (register_at (decoded_timeline s.now.trees) t) caller a it.1
 verdict_stands look_ups s caller a past t u place it answer =
-    let tl = timeline_in s.now.trees in
+    let tl = decoded_timeline s.now.trees in
     let sound = answer.register.sound in
     let holds = answer.register.holds in
     let last : register_at tl last_moment ≡ last_register tl = stays_last tl last_moment sound.rising (last_is_moment tl sound) in
@@ -74,20 +74,20 @@ verdict_stands look_ups s caller a past t u place it answer =
     (told.0 ∙ ap (λ (now : Register). verdict_of now (register_at tl t) caller a past) last, told.1)
 
 -- so it is the verdict on the request, and the cached value is correct at the requested time
-pub verdict_told : SoundnessByLookUps → (s : State) (caller : Caller) (a : Ask) (now t u : ℤ) → t ≡ moment_of a now → IsLookedAt t u → (it : Verdict × CachedValue)
-    → IsResult (IsVerdictWith caller a (int_lt t now) u) s it → (it.0 ≡ verdict_at (timeline_in s.now.trees) caller a now) × IsFoundFor (register_at (timeline_in s.now.trees) t) caller a it.1
+pub verdict_told : SoundnessByNumber → (s : State) (caller : Caller) (a : Ask) (now t u : ℤ) → t ≡ moment_of a now → IsLookedAt t u → (it : Verdict × CachedValue)
+    → IsResult (IsVerdictWith caller a (int_lt t now) u) s it → (it.0 ≡ verdict_at (decoded_timeline s.now.trees) caller a now) × IsValueFor (register_at (decoded_timeline s.now.trees) t) caller a it.1
 verdict_told look_ups s caller a now t u is_moment place it answer =
-    let tl = timeline_in s.now.trees in
+    let tl = decoded_timeline s.now.trees in
     let told = verdict_stands look_ups s caller a (int_lt t now) t u place it answer in
     (subst (λ (x : ℤ). it.0 ≡ verdict_of (last_register tl) (register_at tl x) caller a (int_lt x now)) is_moment told.0, told.1)
 
 -- the slice of the tables is that of the latest register; a closed store has none
-pub slice_stands : SoundnessByLookUps → (s : State) (caller : Caller) (a : Act) (next : ℕ) (before after : Bool) → (r : Result Register StoreFault) → Closes before after r
-    → (before ≡ false → next ≡ (last_register (timeline_in s.now.trees)).next) → IfOk r (IsResult (λ db it. IsSo (λ r. r.next ≡ next → it ≡ slice_of r caller a) last_moment db) s)
-    → IfOk r (λ it. it ≡ slice_of (last_register (timeline_in s.now.trees)) caller a)
+pub slice_stands : SoundnessByNumber → (s : State) (caller : Caller) (a : Act) (next : ℕ) (before after : Bool) → (r : Result Register StoreFault) → Closes before after r
+    → (before ≡ false → next ≡ (last_register (decoded_timeline s.now.trees)).next) → IfOk r (IsResult (λ db it. HoldsOfRegister (λ r. r.next ≡ next → it ≡ slice_of r caller a) last_moment db) s)
+    → IfOk r (λ it. it ≡ slice_of (last_register (decoded_timeline s.now.trees)) caller a)
 slice_stands look_ups s caller a next true after (Ok it) closes is answer = absurd closes
 slice_stands look_ups s caller a next false after (Ok it) closes is answer =
-    let tl = timeline_in s.now.trees in
+    let tl = decoded_timeline s.now.trees in
     let sound = answer.register.sound in
     let holds = answer.register.holds in
     let last : register_at tl last_moment ≡ last_register tl = stays_last tl last_moment sound.rising (last_is_moment tl sound) in

@@ -8,32 +8,32 @@ use Rattle.std.specs.List.{Contains}
 use Rattle.std.specs.Option.{option_map_or}
 use Rattle.std.specs.Ordering.{nat_cmp}
 use Rattle.std.proofs.lemmas.Bool.Decides.{Decides-eqb, Decides-or}
-use Rattle.land_core.proofs.Reflection.{entries-only}
+use Rattle.land_core.proofs.Reflection.{entries-entries_where}
 use Rattle.land_core.specs.Entries.{with_entries}
 use Rattle.land_core.specs.declared.caller.Caller.{Caller}
 use Rattle.land_core.specs.declared.kind.Kind.TheVariants.{Rrr}
 use Rattle.land_core.specs.declared.register.Register.{Register}
 use Rattle.land_core.specs.declared.rrr.RrrRecord.{RrrRecord}
 use Rattle.land_rules.specs.Circles.{circle_of, is_group_of, is_name_of}
-use Rattle.land_rules.specs.Denials.Interests.{InterestsTellSight, entries_of, interest_at, sees_by_interest, shows_entry}
+use Rattle.land_rules.specs.Denials.Interests.{InterestsDecideSight, entries_in_unit, interest_at, sees_by_interest, shows_entry}
 use Rattle.land_rules.specs.Laws.{IsSoundOrNothing}
-use Rattle.land_rules.specs.Relations.{holds_as, is_member_of}
+use Rattle.land_rules.specs.Relations.{holds_under_name, is_member_of}
 use Rattle.land_rules.specs.Rules.{sees}
 use Rattle.land_select.proofs.Viewed.{agreed, twice}
-use Rattle.land_select.specs.Views.{visible_rrrs, shown_of}
+use Rattle.land_select.specs.Views.{visible_rrrs, entries_by_interest}
 use Rattle.land_select_joins.proofs.Containing.{any_decides}
 use Rattle.land_select_joins.proofs.Naming.{Joins, member_decides}
 use Rattle.land_select_joins.proofs.Standing.{entry_there}
 use Rattle.land_select_joins.proofs.United.{contains_both, given_by, given_to}
 use Rattle.land_select_joins.proofs.Views.{plain}
-use Rattle.land_select_joins.specs.Joins.Running.{AnyGiven, AreAll}
+use Rattle.land_select_joins.specs.Joins.Execution.{AnySelectsFor, AreAll}
 use Rattle.land_select_joins.specs.Sights.{AnySelects}
 use Rattle.land_select_joins.specs.declared.sights.selection.Selection.TheVariants.{ItsGroups}
-use Rattle.land_tables_history.specs.History.{StandsAt}
+use Rattle.land_tables_history.specs.History.{IsRegisterAt}
 use Rattle.land_tables_history.specs.declared.history.History.{History}
 
 -- the groups selected for some parties are those with one of them as a member
-pub groups_are : (r : Register) (t : ℤ) (h : History) → StandsAt t h r → (callers groups : List ℕ) → AreAll groups (AnyGiven (ItsGroups ∷ []) t h callers)
+pub groups_are : (r : Register) (t : ℤ) (h : History) → IsRegisterAt t h r → (callers groups : List ℕ) → AreAll groups (AnySelectsFor (ItsGroups ∷ []) t h callers)
     → (group : ℕ) → Contains groups group ↔ (is_group_of r callers group ≡ true)
 groups_are r t h is callers groups all group = (
   (λ among. let it = given_to (ItsGroups ∷ []) t h group callers ((all group).0 among) in decided.1 (it.0, it.1, joined it.0 it.2)),
@@ -66,7 +66,7 @@ names_are r party callers groups are grouped named = (
 
     names : Decides (is_name_of r (circle_of r party) named) ((one : ℕ) × Contains (circle_of r party) one × ((named ≡ one) ⊎ (is_member_of r one named ≡ true)))
     names =
-        any_decides (λ one. holds_as r one named) (λ one. (named ≡ one) ⊎ (is_member_of r one named ≡ true)) (circle_of r party)
+        any_decides (λ one. holds_under_name r one named) (λ one. (named ≡ one) ⊎ (is_member_of r one named ≡ true)) (circle_of r party)
         (λ one among. Decides-or (nat_eq named one) (is_member_of r one named) (Decides-eqb named one) (plain (is_member_of r one named)))
 
 -- a test that is needed only if another one passes
@@ -75,10 +75,10 @@ only_where true b c same = same refl
 only_where false b c same = refl
 
 -- the entries of a unit that an interest shows are visible
-pub shown_in_sight : InterestsTellSight → (r : Register) (caller : Caller) (unit : ℕ) → IsSoundOrNothing r → sees_by_interest caller.role Rrr ≡ true → shown_of r caller (entries_of r unit) ≡ visible_rrrs r caller unit
+pub shown_in_sight : InterestsDecideSight → (r : Register) (caller : Caller) (unit : ℕ) → IsSoundOrNothing r → sees_by_interest caller.role Rrr ≡ true → entries_by_interest r caller (entries_in_unit r unit) ≡ visible_rrrs r caller unit
 shown_in_sight law r caller unit premise by =
     ap (with_entries (map.empty {R = nat_cmp}))
-    (ap (filter (λ e. shows_entry (interest_at r caller unit) caller.party e.1)) (entries-only nat_cmp_total nat_cmp-IsAntisymmetric (λ n e. nat_eq e.unit unit) r.rrrs)
+    (ap (filter (λ e. shows_entry (interest_at r caller unit) caller.party e.1)) (entries-entries_where nat_cmp_total nat_cmp-IsAntisymmetric (λ n e. nat_eq e.unit unit) r.rrrs)
     ∙ twice (λ e. shows_entry (interest_at r caller unit) caller.party e.1) (λ e. nat_eq e.1.unit unit) (map.entries r.rrrs)
     ∙ agreed (λ e. nat_eq e.1.unit unit && shows_entry (interest_at r caller unit) caller.party e.1) (λ e. nat_eq e.1.unit unit && sees r caller Rrr e.0) (map.entries r.rrrs)
     (λ e among. only_where (nat_eq e.1.unit unit) (shows_entry (interest_at r caller unit) caller.party e.1) (sees r caller Rrr e.0) (λ same. seen e among ((Decides-eqb e.1.unit unit).0 same))))

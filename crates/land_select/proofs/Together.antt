@@ -2,7 +2,7 @@
 use Rattle.std.proofs.Common.{inl, inr, List, [], ◌∷◌, map, sym, subst}
 use Rattle.land_keep.proofs.Timelines.{sound_or_nothing}
 use Rattle.land_keep.specs.Timeline.{register_at}
-use Rattle.land_select.specs.Laws.{AreAnswer, Asked, GiveTogether, SightTextsAreTheRules}
+use Rattle.land_select.specs.Laws.{AreResultRows, Asked, YieldTogether, SightTextsAreTheRules}
 use Rattle.land_select_joins.proofs.Containing.{first, first_or_later, in_nothing, later}
 use Rattle.land_select_joins.specs.Joins.Meaning.{TextsSelect}
 use Rattle.land_select_joins.specs.Joins.Texts.{text_of}
@@ -17,7 +17,7 @@ use Rattle.sqlite_value.specs.Order.{Row}
 
 -- the statements of selections together return the union of the selections
 module _ (texts_select : TextsSelect) (it : Asked) (moments : List Moment) (history : History) (holds : HoldsHistory it.db moments history) where
-  together : (ss : List Selection) → GiveTogether (map text_of ss) it (AnySelects ss it.moment history it.caller)
+  together : (ss : List Selection) → YieldTogether (map text_of ss) it (AnySelects ss it.moment history it.caller)
   together [] = record {
     answered = λ text h. absurd (in_nothing text h);
     none_more = λ text h rows answer row has. absurd (in_nothing text h);
@@ -28,12 +28,12 @@ module _ (texts_select : TextsSelect) (it : Asked) (moments : List Moment) (hist
       let rest = together ss in
       record {
         answered = λ text h. elim (first_or_later (text_of s) (map text_of ss) text h) [
-          | inl same ↦ subst (λ x. (rows : List Row) × AreAnswer it x rows) same (one.rows, one.answer)
+          | inl same ↦ subst (λ x. (rows : List Row) × AreResultRows it x rows) same (one.rows, one.answer)
           | inr more ↦ rest.answered text more
         ];
         none_more = λ text h rows answer row has. elim (first_or_later (text_of s) (map text_of ss) text h) [
           | inl same ↦
-              let are = one.each rows (subst (λ x. AreAnswer it x rows) (sym same) answer) in
+              let are = one.each rows (subst (λ x. AreResultRows it x rows) (sym same) answer) in
               let number = are.each row has in
               (number.0, number.1, inl ((are.meant number.0).0 (subst (Has rows) number.1 has)))
           | inr more ↦ let found = rest.none_more text more rows answer row has in (found.0, found.1, inr found.2)

@@ -16,8 +16,8 @@ use Rattle.land_select.specs.Views.{visible_rrrs}
 use Rattle.land_select.specs.declared.cache.CachedValue.{CachedValue}
 use Rattle.land_select.specs.declared.cache.CachedValue.TheVariants as found
 use Rattle.land_select.specs.declared.cache.Cache.{Cache}
-use Rattle.land_select_joins.specs.Joins.Running.{OfHeld}
-use Rattle.land_tables_history.specs.History.{StandsAt}
+use Rattle.land_select_joins.specs.Joins.Execution.{HoldsOfHistory}
+use Rattle.land_tables_history.specs.History.{IsRegisterAt}
 use Rattle.sqlite_trees.specs.Tree.{Trees}
 
 -- an object, if there is one, as a cached value
@@ -27,39 +27,39 @@ cached_object (Some it) = found.Object it
 
 -- A cached value is correct for a caller and an object of a register: it is that object, or the entries of
 -- that unit that the caller sees.
-abbrev pub IsFound : Register → Caller → Kind → (number : ℕ) → CachedValue → Type 0
-IsFound r caller k n found.Nothing = Unit {0}
-IsFound r caller k n (found.Object it) = object_at r k n ≡ Some it
-IsFound r caller k n (found.VisibleEntries entries) = entries ≡ visible_rrrs r caller n
+abbrev pub IsValueOf : Register → Caller → Kind → (number : ℕ) → CachedValue → Type 0
+IsValueOf r caller k n found.Nothing = Unit {0}
+IsValueOf r caller k n (found.Object it) = object_at r k n ≡ Some it
+IsValueOf r caller k n (found.VisibleEntries entries) = entries ≡ visible_rrrs r caller n
 
 -- a cached object is the object of this kind and number
-abbrev pub IsObjectFound : Register → Kind → (number : ℕ) → CachedValue → Type 0
-IsObjectFound r k n found.Nothing = Unit {0}
-IsObjectFound r k n (found.Object it) = object_at r k n ≡ Some it
-IsObjectFound r k n (found.VisibleEntries entries) = Unit {0}
+abbrev pub IsObjectValueOf : Register → Kind → (number : ℕ) → CachedValue → Type 0
+IsObjectValueOf r k n found.Nothing = Unit {0}
+IsObjectValueOf r k n (found.Object it) = object_at r k n ≡ Some it
+IsObjectValueOf r k n (found.VisibleEntries entries) = Unit {0}
 
 -- If the tables hold a history that at time t represents a register, sound or empty, the result is this fact
 -- of it, and the cached value is correct.
-abbrev pub IsToldWith : {T : Type 0} → (Register → T) → Caller → Kind → (number : ℕ) → (t : ℤ) → Trees → T
+abbrev pub IsFactWith : {T : Type 0} → (Register → T) → Caller → Kind → (number : ℕ) → (t : ℤ) → Trees → T
     × CachedValue → Type 0
-IsToldWith told caller k n t db it =
-    OfHeld db (λ h. (r : Register) → IsSoundOrNothing r → StandsAt t h r → (it.0 ≡ told r)
-    × IsFound r caller k n it.1)
+IsFactWith told caller k n t db it =
+    HoldsOfHistory db (λ h. (r : Register) → IsSoundOrNothing r → IsRegisterAt t h r → (it.0 ≡ told r)
+    × IsValueOf r caller k n it.1)
 
 -- the cached value is correct for a request; for lists and acts it is not used
-abbrev pub IsFoundFor : Register → Caller → Ask → CachedValue → Type 0
-IsFoundFor r caller (ask.View k n at) it = IsFound r caller k n it
-IsFoundFor r caller (ask.List k at) it = Unit {0}
-IsFoundFor r caller (ask.Sheet unit at) it = IsFound r caller kind.Unit unit it
-IsFoundFor r caller (ask.Do act) it = Unit {0}
+abbrev pub IsValueFor : Register → Caller → Ask → CachedValue → Type 0
+IsValueFor r caller (ask.View k n at) it = IsValueOf r caller k n it
+IsValueFor r caller (ask.List k at) it = Unit {0}
+IsValueFor r caller (ask.Sheet unit at) it = IsValueOf r caller kind.Unit unit it
+IsValueFor r caller (ask.Do act) it = Unit {0}
 
 -- the verdict of the sight rules on a request, with the cached value
-abbrev pub IsSightedWith : Caller → Ask → (t : ℤ) → Trees → Verdict × CachedValue → Type 0
-IsSightedWith caller a t db it = OfHeld db
-    (λ h. (r : Register) → IsSoundOrNothing r → StandsAt t h r
-    → (it.0 ≡ first_denial (sight_rules r caller a)) × IsFoundFor r caller a it.1)
+abbrev pub IsSightVerdictWith : Caller → Ask → (t : ℤ) → Trees → Verdict × CachedValue → Type 0
+IsSightVerdictWith caller a t db it = HoldsOfHistory db
+    (λ h. (r : Register) → IsSoundOrNothing r → IsRegisterAt t h r
+    → (it.0 ≡ first_denial (sight_rules r caller a)) × IsValueFor r caller a it.1)
 
 -- the cache is correct for a timeline
-abbrev pub IsKeptOf : Timeline → Option Cache → Type 0
-IsKeptOf tl None = Unit {0}
-IsKeptOf tl (Some it) = IsFound (register_at tl it.moment) it.caller it.kind it.number it.found
+abbrev pub IsCacheOf : Timeline → Option Cache → Type 0
+IsCacheOf tl None = Unit {0}
+IsCacheOf tl (Some it) = IsValueOf (register_at tl it.moment) it.caller it.kind it.number it.found

@@ -13,7 +13,7 @@ use Rattle.land_select_joins.specs.Joins.Meaning.{command_in, given}
 use Rattle.land_select_joins.specs.Joins.Texts.{text_of}
 use Rattle.land_select_joins.specs.Sights.{selections_of}
 use Rattle.land_tables.specs.Standing.{HoldsTimeline}
-use Rattle.land_tables_schema.specs.Land.{land_with}
+use Rattle.land_tables_schema.specs.Schemas.{schema_v2_with}
 use Rattle.sqlite.specs.Effect.{Reads}
 use Rattle.sqlite.specs.Listing.{understood}
 use Rattle.sqlite.specs.declared.types.Value.TheVariants.{Int}
@@ -34,19 +34,19 @@ pub record Asked : Type 0 where
   pub moment : ℤ
 
 -- these rows are a result of a statement in sqlite; parameter 1 is the caller, parameter 2 the time
-abbrev pub AreAnswer : Asked → (text : List ℕ) → (rows : List Row) → Type 0
-AreAnswer it text rows =
-    Reads (command_in (understood (land_with it.indexes) text))
-    (record { schema = land_with it.indexes; trees = it.db }) (given it.caller it.moment) rows
+abbrev pub AreResultRows : Asked → (text : List ℕ) → (rows : List Row) → Type 0
+AreResultRows it text rows =
+    Reads (command_in (understood (schema_v2_with it.indexes) text))
+    (record { schema = schema_v2_with it.indexes; trees = it.db }) (given it.caller it.moment) rows
 
 -- Statements together return exactly the wanted numbers: each statement has a result, each row of a result is
 -- one wanted number, and each wanted number is a row of all results of one of the statements.
-pub record GiveTogether (texts : List (List ℕ)) (it : Asked) (Wanted : ℕ → Type 0) : Type 0 where
-  pub answered : (text : List ℕ) → Contains texts text → (rows : List Row) × AreAnswer it text rows
-  pub none_more : (text : List ℕ) → Contains texts text → (rows : List Row) → AreAnswer it text rows
+pub record YieldTogether (texts : List (List ℕ)) (it : Asked) (Wanted : ℕ → Type 0) : Type 0 where
+  pub answered : (text : List ℕ) → Contains texts text → (rows : List Row) × AreResultRows it text rows
+  pub none_more : (text : List ℕ) → Contains texts text → (rows : List Row) → AreResultRows it text rows
       → (row : Row) → Has rows row → (n : ℕ) × (row ≡ Int (pos n) ∷ []) × Wanted n
   pub none_missing : (n : ℕ) → Wanted n → (text : List ℕ) × Contains texts text
-      × ((rows : List Row) → AreAnswer it text rows → Has rows (Int (pos n) ∷ []))
+      × ((rows : List Row) → AreResultRows it text rows → Has rows (Int (pos n) ∷ []))
 
 -- On tables that hold a sound timeline, with any indexes, the statements of a role's sight of a kind together
 -- return, at each time, exactly the numbers that the policy, without mandates, lets the caller see in the
@@ -54,6 +54,6 @@ pub record GiveTogether (texts : List (List ℕ)) (it : Asked) (Wanted : ℕ →
 abbrev pub SightTextsAreTheRules : Type 0
 SightTextsAreTheRules = (indexes : List Index) (db : Trees) (tl : Timeline) → HoldsTimeline db tl
     → IsSoundTimeline tl → (t : ℤ) → IsMoment t → (caller : Caller) (k : Kind)
-    → GiveTogether (sight_texts caller.role k)
+    → YieldTogether (sight_texts caller.role k)
     (record { indexes = indexes; db = db; caller = caller.party; moment = t })
     (Contains (seen_of (without_mandates (register_at tl t)) caller k))

@@ -3,10 +3,10 @@ use Rattle.std.specs.Prelude.{◌≡◌, ℕ, ℤ, true}
 use Rattle.land_core.specs.declared.kind.Kind.{Kind}
 use Rattle.land_core.specs.declared.register.Register.{Register}
 use Rattle.land_keep.specs.Named.{named_at}
-use Rattle.land_select_joins.specs.Joins.Running.{OfHeld}
+use Rattle.land_select_joins.specs.Joins.Execution.{HoldsOfHistory}
 use Rattle.land_select_joins.specs.Lookups.Ranges.{is_within}
 use Rattle.land_tables_history.specs.Groups.{HaveMembers}
-use Rattle.land_tables_history.specs.History.{StandsAt}
+use Rattle.land_tables_history.specs.History.{IsRegisterAt}
 use Rattle.sqlite_trees.specs.Tree.{Trees}
 
 -- two registers list the objects of a kind in a range alike
@@ -17,5 +17,5 @@ ListsAlike k first last one other =
 -- If the tables hold a history that at time t represents a register without empty groups, this register lists
 -- the range like it.
 abbrev pub ListsRange : Kind → (first last : ℕ) → (t : ℤ) → Trees → Register → Type 0
-ListsRange k first last t db it = OfHeld db
-    (λ h. (r : Register) → HaveMembers r.members → StandsAt t h r → ListsAlike k first last it r)
+ListsRange k first last t db it = HoldsOfHistory db
+    (λ h. (r : Register) → HaveMembers r.members → IsRegisterAt t h r → ListsAlike k first last it r)

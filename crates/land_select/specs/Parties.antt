@@ -9,11 +9,11 @@ use Rattle.land_core.specs.declared.role.Role.{Role}
 use Rattle.land_core.specs.declared.role.Role.TheVariants.{Citizen, Conveyancer, Notary, Bank}
 use Rattle.land_core.specs.declared.role.Role.TheVariants.{CertifiedSurveyor, StateAdministrator}
 use Rattle.land_rules.specs.Circles.{circle_of, is_name_of}
-use Rattle.land_select_joins.specs.Joins.Running.{OfHeld}
+use Rattle.land_select_joins.specs.Joins.Execution.{HoldsOfHistory}
 use Rattle.land_select_joins.specs.declared.lookups.relation.Relation.{Relation}
 use Rattle.land_select_joins.specs.declared.lookups.relation.Relation.TheVariants.{Holding, Crediting}
 use Rattle.land_select_joins.specs.declared.lookups.relation.Relation.TheVariants.{Awaiting}
-use Rattle.land_tables_history.specs.History.{StandsAt}
+use Rattle.land_tables_history.specs.History.{IsRegisterAt}
 use Rattle.sqlite_trees.specs.Tree.{Trees}
 
 -- The relation by which a role sees the parties of entries: a citizen by the rights that it holds, a bank by
@@ -43,5 +43,5 @@ AreOtherNames caller names party r = AreOwnNames caller names r × (list_any (na
 
 -- If the tables hold a history that at time t represents a register, the list has the caller's names in it.
 abbrev pub AreOwnNamesAt : Caller → (t : ℤ) → Trees → List ℕ → Type 0
-AreOwnNamesAt caller t db names = OfHeld db
-    (λ h. (r : Register) → StandsAt t h r → AreOwnNames caller names r)
+AreOwnNamesAt caller t db names = HoldsOfHistory db
+    (λ h. (r : Register) → IsRegisterAt t h r → AreOwnNames caller names r)

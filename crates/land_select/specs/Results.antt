@@ -1,5 +1,5 @@
 -- Results of queries.
-use Rattle.land_tables.specs.Office.{HoldsRegister}
+use Rattle.land_tables.specs.TablesState.{HoldsRegister}
 use Rattle.sqlite.specs.State.{State}
 use Rattle.sqlite_trees.specs.Tree.{Trees}
 

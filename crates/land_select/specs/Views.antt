@@ -6,36 +6,36 @@ use Rattle.std.specs.FinMap.{FinMap}
 use Rattle.std.specs.Ordering.{nat_cmp}
 use Rattle.std.specs.List.{Contains}
 use Rattle.std.specs.Option.{option_map}
-use Rattle.land_core.specs.Entries.{only}
+use Rattle.land_core.specs.Entries.{entries_where}
 use Rattle.land_core.specs.declared.caller.Caller.{Caller}
 use Rattle.land_core.specs.declared.kind.Kind.TheVariants.{Rrr}
 use Rattle.land_core.specs.declared.party.PartyRecord.{PartyRecord}
 use Rattle.land_core.specs.declared.register.Register.{Register}
 use Rattle.land_core.specs.declared.rrr.RrrRecord.{RrrRecord}
 use Rattle.land_core.specs.declared.unit.UnitRecord.{UnitRecord}
-use Rattle.land_keep.specs.Sheets.{entries_seen, parcels_at}
+use Rattle.land_keep.specs.Sheets.{visible_entries, parcels_at}
 use Rattle.land_keep.specs.declared.view.NamedRrr.{NamedRrr}
 use Rattle.land_keep.specs.declared.view.View.{View}
 use Rattle.land_rules.specs.Circles.{circle_of, is_group_of, is_name_of}
 use Rattle.land_rules.specs.Denials.Interests.{AreNamesOf, Entries, interest_of, shows_entry}
 use Rattle.land_rules.specs.Laws.{IsSoundOrNothing}
-use Rattle.land_rules.specs.Relations.{is_lodger_on}
+use Rattle.land_rules.specs.Relations.{has_pending_mutation_on}
 use Rattle.land_rules.specs.Rules.{sees}
-use Rattle.land_select_joins.specs.Joins.Running.{OfHeld}
-use Rattle.land_tables_history.specs.History.{StandsAt}
+use Rattle.land_select_joins.specs.Joins.Execution.{HoldsOfHistory}
+use Rattle.land_tables_history.specs.History.{IsRegisterAt}
 use Rattle.land_tables_history.specs.declared.version.Version.{Version}
 use Rattle.sqlite_trees.specs.Tree.{Trees}
 
 -- If the tables hold a history that at time t represents a register, sound or empty, the value is this fact
 -- of it.
-abbrev pub IsShown : {T : Type 0} → (Register → T) → (t : ℤ) → Trees → T → Type 0
-IsShown shown t db it = OfHeld db (λ h. (r : Register) → IsSoundOrNothing r → StandsAt t h r → it ≡ shown r)
+abbrev pub AgreesWithRegister : {T : Type 0} → (Register → T) → (t : ℤ) → Trees → T → Type 0
+AgreesWithRegister shown t db it = HoldsOfHistory db (λ h. (r : Register) → IsSoundOrNothing r → IsRegisterAt t h r → it ≡ shown r)
 
 -- the same, if a premise holds of that register
-abbrev pub IsShownGiven : {T : Type 0} → (Given : Register → Type 0) → (Register → T) → (t : ℤ) → Trees → T
+abbrev pub AgreesIfGiven : {T : Type 0} → (Given : Register → Type 0) → (Register → T) → (t : ℤ) → Trees → T
     → Type 0
-IsShownGiven Given shown t db it = OfHeld db
-    (λ h. (r : Register) → IsSoundOrNothing r → StandsAt t h r → Given r → it ≡ shown r)
+AgreesIfGiven Given shown t db it = HoldsOfHistory db
+    (λ h. (r : Register) → IsSoundOrNothing r → IsRegisterAt t h r → Given r → it ≡ shown r)
 
 -- the name of a party in a list of versions; empty if it is not there
 abbrev pub name_among : List (Version (ℕ × PartyRecord)) → (number : ℕ) → List ℕ
@@ -56,34 +56,34 @@ named_among parties entries = map_list (λ e. with_name e.0 e.1 (name_among part
 
 -- the entries of a unit that a caller sees
 abbrev pub visible_rrrs : Register → Caller → (unit : ℕ) → FinMap nat_cmp RrrRecord
-visible_rrrs r caller unit = only (λ n e. nat_eq e.unit unit && sees r caller Rrr n) r.rrrs
+visible_rrrs r caller unit = entries_where (λ n e. nat_eq e.unit unit && sees r caller Rrr n) r.rrrs
 
 -- If the tables hold a history that at time t represents a register, the list has exactly the groups in it
 -- with a member in a list.
 abbrev pub AreGroupsAt : (callers : List ℕ) → (t : ℤ) → Trees → List ℕ → Type 0
-AreGroupsAt callers t db groups = OfHeld db
-    (λ h. (r : Register) → StandsAt t h r → (group : ℕ) → Contains groups group
+AreGroupsAt callers t db groups = HoldsOfHistory db
+    (λ h. (r : Register) → IsRegisterAt t h r → (group : ℕ) → Contains groups group
     ↔ (is_group_of r callers group ≡ true))
 
 -- the list has exactly the names in which a citizen holds rights in that register
 abbrev pub AreNamesAt : Caller → (t : ℤ) → Trees → List ℕ → Type 0
-AreNamesAt caller t db names = OfHeld db (λ h. (r : Register) → StandsAt t h r → AreNamesOf r caller names)
+AreNamesAt caller t db names = HoldsOfHistory db (λ h. (r : Register) → IsRegisterAt t h r → AreNamesOf r caller names)
 
 -- the entries of a unit that the caller's interest in the unit shows
-abbrev pub shown_of : Register → Caller → Entries → Entries
-shown_of r caller entries = only (λ n e. shows_entry
+abbrev pub entries_by_interest : Register → Caller → Entries → Entries
+entries_by_interest r caller entries = entries_where (λ n e. shows_entry
     (interest_of (is_name_of r (circle_of r caller.party)) caller entries) caller.party e) entries
 
 -- the entries of a unit if a pending mutation of the party refers to it, else none
-abbrev pub awaited_of : Register → (party unit : ℕ) → Entries → Entries
-awaited_of r party unit entries = if is_lodger_on r party unit then entries else map.empty
+abbrev pub pending_entries : Register → (party unit : ℕ) → Entries → Entries
+pending_entries r party unit entries = if has_pending_mutation_on r party unit then entries else map.empty
 
 -- the view of a unit record for a caller
 abbrev pub view_from : Register → Caller → (unit : ℕ) → (moment : ℤ) → UnitRecord → View
 view_from r caller unit moment found = record {
   unit = record { number = unit; name = found.name; checked = found.checked };
   parcels = parcels_at r unit;
-  rrrs = entries_seen r caller unit;
+  rrrs = visible_entries r caller unit;
   at = moment;
 }
 

@@ -3,7 +3,7 @@ ghost use Rattle.std.specs.Prelude.{◌≡◌, IfSome, None, Some, true};
 ghost use Rattle.land_core.specs.Register.{object_at};
 ghost use Rattle.land_core.specs.declared.kind.Kind.TheVariants as kinds;
 ghost use Rattle.land_keep.specs.Timeline.{Timeline, register_at};
-ghost use Rattle.land_select.specs.Cache.{IsFound, IsFoundFor, IsKeptOf, cached_object};
+ghost use Rattle.land_select.specs.Cache.{IsValueOf, IsValueFor, IsCacheOf, cached_object};
 
 use land_core::ask::Ask;
 use land_core::caller::Caller;
@@ -68,7 +68,7 @@ pub(crate) fn cached_object(object: Option<Object>) -> CachedValue
 /// Returns a new cache for the view of an object or the sheet of a unit; `None` for lists and acts, whose
 /// replies reuse nothing.
 pub(crate) fn cache_for(caller: Caller, ask: &Ask, at: i64, found: CachedValue) -> Option<Cache>
-    ensures { (tl : Timeline) → IsFoundFor (register_at tl at) caller ask.now found → IsKeptOf tl result }
+    ensures { (tl : Timeline) → IsValueFor (register_at tl at) caller ask.now found → IsCacheOf tl result }
 {
     let (kind, number) = match ask {
         Ask::View { kind, number, .. } => (*kind, *number),
@@ -100,7 +100,7 @@ pub(crate) fn forget(cache: &mut Option<Cache>)
 
 /// Returns the object of a kind and a number at a time, if it is cached.
 pub(crate) fn take_object(cache: Option<Cache>, kind: Kind, number: u64, at: i64) -> Option<Object>
-    ensures { (tl : Timeline) → IsKeptOf tl cache
+    ensures { (tl : Timeline) → IsCacheOf tl cache
         → IfSome result (λ it. object_at (register_at tl at) kind number ≡ Some it) }
 {
     match cache {
@@ -120,8 +120,8 @@ pub(crate) fn take_object(cache: Option<Cache>, kind: Kind, number: u64, at: i64
 
 /// Returns the value that is cached for a caller, a unit and a time.
 pub(crate) fn take_unit(cache: Option<Cache>, caller: Caller, unit: u64, at: i64) -> CachedValue
-    ensures { (tl : Timeline) → IsKeptOf tl cache
-        → IsFound (register_at tl at) caller kinds.Unit unit result }
+    ensures { (tl : Timeline) → IsCacheOf tl cache
+        → IsValueOf (register_at tl at) caller kinds.Unit unit result }
 {
     match cache {
         Some(it) => {

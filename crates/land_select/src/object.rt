@@ -22,9 +22,9 @@ pub(crate) struct ObjectQuery {
 
 impl Query<Option<Object>> for ObjectQuery {
     ghost use Rattle.land_core.specs.Register.{object_at};
-    ghost use Rattle.land_select_joins.specs.Lookups.Parts.{IsPart};
+    ghost use Rattle.land_select_joins.specs.Lookups.Parts.{ReadsPart};
 
-    ghost results = { λ it db found. IsPart (λ r. object_at r it.kind it.number) it.moment db found };
+    ghost results = { λ it db found. ReadsPart (λ r. object_at r it.kind it.number) it.moment db found };
 
     fn run<S: Alter>(
         &self,

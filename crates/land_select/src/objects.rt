@@ -3,13 +3,13 @@
 ghost use Rattle.std.specs.FinMap as map;
 ghost use Rattle.std.specs.List.{AllByRecursion};
 ghost use Rattle.std.specs.Prelude.{◌≡◌, ℕ, true, map as map_list, IfOk};
-ghost use Rattle.land_core.specs.Entries.{only, with_entries};
+ghost use Rattle.land_core.specs.Entries.{entries_where, with_entries};
 ghost use Rattle.land_core.specs.Register.{nothing};
 ghost use Rattle.land_core.specs.declared.kind.Kind.TheVariants as kinds;
 ghost use Rattle.land_core.specs.declared.register.Register.{Register as Whole};
 ghost use Rattle.land_keep.specs.Named.{objects_at};
 ghost use Rattle.land_select.specs.Listing.{ListsAlike, ListsRange};
-ghost use Rattle.land_select_joins.specs.Lookups.Parts.{IsPart};
+ghost use Rattle.land_select_joins.specs.Lookups.Parts.{ReadsPart};
 ghost use Rattle.land_select_joins.specs.Lookups.Ranges.{is_within};
 ghost use Rattle.land_select_joins.specs.TableReads.{ReadsTables};
 ghost use Rattle.land_tables_history.specs.declared.version.Version.{Version as Spanned};
@@ -44,13 +44,13 @@ where
 {
     /// Builds a register with these records only.
     fn alone(alloc: Global, found: Records<Self>) -> Register
-        ensures { (r : Whole) (first last : ℕ) → found ≡ only (λ n v. is_within first last n) (Self.part r)
+        ensures { (r : Whole) (first last : ℕ) → found ≡ entries_where (λ n v. is_within first last n) (Self.part r)
             → ListsAlike Self.KIND first last result r };
 }
 
 impl Listed for PartyRecord {
     fn alone(alloc: Global, found: Records<PartyRecord>) -> Register
-        ensures { (r : Whole) (first last : ℕ) → found ≡ only (λ n v. is_within first last n) r.parties
+        ensures { (r : Whole) (first last : ℕ) → found ≡ entries_where (λ n v. is_within first last n) r.parties
             → ListsAlike kinds.Party first last result r }
     {
         Register {
@@ -62,7 +62,7 @@ impl Listed for PartyRecord {
 
 impl Listed for UnitRecord {
     fn alone(alloc: Global, found: Records<UnitRecord>) -> Register
-        ensures { (r : Whole) (first last : ℕ) → found ≡ only (λ n v. is_within first last n) r.units
+        ensures { (r : Whole) (first last : ℕ) → found ≡ entries_where (λ n v. is_within first last n) r.units
             → ListsAlike kinds.Unit first last result r }
     {
         Register {
@@ -74,7 +74,7 @@ impl Listed for UnitRecord {
 
 impl Listed for ParcelRecord {
     fn alone(alloc: Global, found: Records<ParcelRecord>) -> Register
-        ensures { (r : Whole) (first last : ℕ) → found ≡ only (λ n v. is_within first last n) r.parcels
+        ensures { (r : Whole) (first last : ℕ) → found ≡ entries_where (λ n v. is_within first last n) r.parcels
             → ListsAlike kinds.Parcel first last result r }
     {
         Register {
@@ -86,7 +86,7 @@ impl Listed for ParcelRecord {
 
 impl Listed for SourceRecord {
     fn alone(alloc: Global, found: Records<SourceRecord>) -> Register
-        ensures { (r : Whole) (first last : ℕ) → found ≡ only (λ n v. is_within first last n) r.sources
+        ensures { (r : Whole) (first last : ℕ) → found ≡ entries_where (λ n v. is_within first last n) r.sources
             → ListsAlike kinds.Source first last result r }
     {
         Register {
@@ -98,7 +98,7 @@ impl Listed for SourceRecord {
 
 impl Listed for MutationRecord {
     fn alone(alloc: Global, found: Records<MutationRecord>) -> Register
-        ensures { (r : Whole) (first last : ℕ) → found ≡ only (λ n v. is_within first last n) r.mutations
+        ensures { (r : Whole) (first last : ℕ) → found ≡ entries_where (λ n v. is_within first last n) r.mutations
             → ListsAlike kinds.Mutation first last result r }
     {
         Register {
@@ -109,7 +109,7 @@ impl Listed for MutationRecord {
 }
 
 /// Reads a register that lists the objects of a kind in a range at a time.
-fn ranged<V: Listed, S: Alter>(
+fn read_range<V: Listed, S: Alter>(
     alloc: Global,
     conn: &mut Connection<S>,
     first: u64,
@@ -118,9 +118,9 @@ fn ranged<V: Listed, S: Alter>(
 ) -> Result<Register, ReadFault>
 where
     Version<(u64, V)>: FromRow,
-    requires land { HasRegisterTables S.Store conn.old }
-    ensures look { ReadsTables S.Store result (ListsRange V.KIND first last at) conn.old conn.new }
-    ensures mode { LeavesAutocommit conn.old conn.new }
+    requires has_tables { HasRegisterTables S.Store conn.old }
+    ensures reads_only { ReadsTables S.Store result (ListsRange V.KIND first last at) conn.old conn.new }
+    ensures autocommit { LeavesAutocommit conn.old conn.new }
 {
     let found = records::<V, S>(alloc, conn, first, last, at)?;
     Ok(V::alone(alloc, found))
@@ -142,7 +142,7 @@ fn records_of(
 }
 
 /// Builds a register with these entries and these parties only.
-fn entries_alone(
+fn register_of_entries(
     alloc: Global,
     entries: Records<RrrRecord>,
     parties: &[Version<(u64, PartyRecord)>],
@@ -168,13 +168,13 @@ fn entries<S: Alter>(
     last: u64,
     at: i64,
 ) -> Result<Register, ReadFault>
-    requires land { HasRegisterTables S.Store conn.old }
-    ensures look { ReadsTables S.Store result (ListsRange kinds.Rrr first last at) conn.old conn.new }
-    ensures mode { LeavesAutocommit conn.old conn.new }
+    requires has_tables { HasRegisterTables S.Store conn.old }
+    ensures reads_only { ReadsTables S.Store result (ListsRange kinds.Rrr first last at) conn.old conn.new }
+    ensures autocommit { LeavesAutocommit conn.old conn.new }
 {
     let found = records::<RrrRecord, S>(alloc, conn, first, last, at)?;
     let parties = parties_within(alloc, conn, first, last, at)?;
-    Ok(entries_alone(alloc, found, parties.as_slice())?)
+    Ok(register_of_entries(alloc, found, parties.as_slice())?)
 }
 
 /// Reads a register that lists the objects of any kind in a range at a time.
@@ -186,17 +186,17 @@ fn register_of<S: Alter>(
     last: u64,
     at: i64,
 ) -> Result<Register, ReadFault>
-    requires land { HasRegisterTables S.Store conn.old }
-    ensures look { ReadsTables S.Store result (ListsRange kind first last at) conn.old conn.new }
-    ensures mode { LeavesAutocommit conn.old conn.new }
+    requires has_tables { HasRegisterTables S.Store conn.old }
+    ensures reads_only { ReadsTables S.Store result (ListsRange kind first last at) conn.old conn.new }
+    ensures autocommit { LeavesAutocommit conn.old conn.new }
 {
     match kind {
-        Kind::Party => ranged::<PartyRecord, S>(alloc, conn, first, last, at),
-        Kind::Unit => ranged::<UnitRecord, S>(alloc, conn, first, last, at),
-        Kind::Parcel => ranged::<ParcelRecord, S>(alloc, conn, first, last, at),
+        Kind::Party => read_range::<PartyRecord, S>(alloc, conn, first, last, at),
+        Kind::Unit => read_range::<UnitRecord, S>(alloc, conn, first, last, at),
+        Kind::Parcel => read_range::<ParcelRecord, S>(alloc, conn, first, last, at),
         Kind::Rrr => entries(alloc, conn, first, last, at),
-        Kind::Source => ranged::<SourceRecord, S>(alloc, conn, first, last, at),
-        Kind::Mutation => ranged::<MutationRecord, S>(alloc, conn, first, last, at),
+        Kind::Source => read_range::<SourceRecord, S>(alloc, conn, first, last, at),
+        Kind::Mutation => read_range::<MutationRecord, S>(alloc, conn, first, last, at),
     }
 }
 
@@ -221,10 +221,10 @@ fn objects<S: Alter>(
     numbers: &[u64],
     at: i64,
 ) -> Result<Sequence<NamedObject>, ReadFault>
-    requires land { HasRegisterTables S.Store conn.old }
-    ensures look { ReadsTables S.Store result (IsPart (λ r. objects_at r kind numbers.now) at) conn.old
+    requires has_tables { HasRegisterTables S.Store conn.old }
+    ensures reads_only { ReadsTables S.Store result (ReadsPart (λ r. objects_at r kind numbers.now) at) conn.old
         conn.new }
-    ensures mode { LeavesAutocommit conn.old conn.new }
+    ensures autocommit { LeavesAutocommit conn.old conn.new }
 {
     let range = range_of(numbers);
     let (first, last) = range;
@@ -245,9 +245,9 @@ pub(crate) struct ObjectsQuery<'a> {
 
 impl Query<Sequence<NamedObject>> for ObjectsQuery<'_> {
     ghost use Rattle.land_keep.specs.Named.{objects_at};
-    ghost use Rattle.land_select_joins.specs.Lookups.Parts.{IsPart};
+    ghost use Rattle.land_select_joins.specs.Lookups.Parts.{ReadsPart};
 
-    ghost results = { λ it db found. IsPart (λ r. objects_at r it.kind it.numbers.now) it.moment db found };
+    ghost results = { λ it db found. ReadsPart (λ r. objects_at r it.kind it.numbers.now) it.moment db found };
 
     fn run<S: Alter>(
         &self,

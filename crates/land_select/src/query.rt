@@ -1,18 +1,18 @@
 //! Runs read-only queries on the tables of a register.
 ghost use Rattle.std.specs.Prelude.{◌≡◌, ◌≢◌, Err, IfOk};
-ghost use Rattle.land_keep.specs.Keeping.{Closes, IsLive};
+ghost use Rattle.land_keep.specs.Keeping.{Closes, IsHonestAndOpen};
 ghost use Rattle.land_keep.specs.declared.store_fault.StoreFault.TheVariants as store;
 ghost use Rattle.land_select.specs.Results.{IsResult};
 ghost use Rattle.land_select_joins.specs.TableReads.{ReadsTables};
 ghost use Rattle.land_tables.specs.Calls.{IsSafeRead};
-ghost use Rattle.land_tables.specs.Office.{HoldsRegister, IsHonest, held};
+ghost use Rattle.land_tables.specs.TablesState.{HoldsRegister, IsHonest, held};
 ghost use Rattle.land_tables_schema.specs.Connections.{HasRegisterTables, IsUsable, LeavesAutocommit};
 ghost use Rattle.sqlite.specs.Held.{state};
 ghost use Rattle.sqlite.specs.State.{HasCleanDisk, Survives};
 ghost use Rattle.sqlite_trees.specs.Tree.{Trees};
 
 use land_keep::store_fault::StoreFault;
-use land_tables::failing::failed;
+use land_tables::failed_reads::fault_after;
 use land_tables::tables::Tables;
 use land_tables_rows::listing::fault::ReadFault;
 use sqlite::{Alter, Connection};
@@ -27,9 +27,9 @@ pub(crate) trait Query<T> {
     /// value is unreadable.
     fn run<S: Alter>(&self, alloc: Global, conn: &mut Connection<S>) -> Result<T, ReadFault>
         requires open { IsUsable S.Store conn.old }
-        requires land { HasRegisterTables S.Store conn.old }
-        ensures look { ReadsTables S.Store result (results self.now) conn.old conn.new }
-        ensures mode { LeavesAutocommit conn.old conn.new };
+        requires has_tables { HasRegisterTables S.Store conn.old }
+        ensures reads_only { ReadsTables S.Store result (results self.now) conn.old conn.new }
+        ensures autocommit { LeavesAutocommit conn.old conn.new };
 }
 
 /// Runs a query on a connection. Without error 502 the store stays open and unchanged.
@@ -42,11 +42,11 @@ fn execute_in<S: Alter, T, Q: Query<T>>(
     ensures open { result ≢ Err store.Closed }
     ensures safe { IsSafeRead result (λ it. Q.results query.now (state S.Store conn.old).now.trees it)
         (state S.Store conn.old) (state S.Store conn.new) }
-    ensures mode { LeavesAutocommit conn.old conn.new }
+    ensures autocommit { LeavesAutocommit conn.old conn.new }
 {
     match query.run(alloc, conn) {
         Ok(answer) => Ok(answer),
-        Err(fault) => Err(failed(conn, fault)),
+        Err(fault) => Err(fault_after(conn, fault)),
     }
 }
 
@@ -59,7 +59,7 @@ pub(crate) fn execute<S: Alter, T, Q: Query<T>>(
 ) -> Result<T, StoreFault>
     ensures value { IsHonest S.Store tables.new
         → IfOk result (λ it. IsResult (Q.results query.now) (state S.Store tables.old.conn) it) }
-    ensures same { IsLive (IsHonest S.Store tables.new) tables.new.is_closed
+    ensures same { IsHonestAndOpen (IsHonest S.Store tables.new) tables.new.is_closed
         → held S.Store tables.new ≡ held S.Store tables.old }
     ensures was { IsHonest S.Store tables.new → IsHonest S.Store tables.old }
     ensures last { tables.new.last ≡ tables.old.last }

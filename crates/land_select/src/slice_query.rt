@@ -25,9 +25,9 @@ pub(crate) struct SliceQuery<'a> {
 
 impl Query<Slice> for SliceQuery<'_> {
     ghost use Rattle.land_acts.specs.Slices.{slice_of};
-    ghost use Rattle.land_select.specs.Slices.Gathered.{IsSo};
+    ghost use Rattle.land_select.specs.Slices.Gathered.{HoldsOfRegister};
 
-    ghost results = { λ it db slice. IsSo (λ r. r.next ≡ it.next → slice ≡ slice_of r it.caller it.act.now)
+    ghost results = { λ it db slice. HoldsOfRegister (λ r. r.next ≡ it.next → slice ≡ slice_of r it.caller it.act.now)
         it.moment db };
 
     fn run<S: Alter>(&self, alloc: Global, conn: &mut Connection<S>) -> Result<Slice, ReadFault> {

@@ -16,12 +16,12 @@ use land_core::ask::Ask;
 use land_core::caller::Caller;
 use land_core::change::Change;
 use land_core::kind::Kind;
-use land_core::laws::soundness_by_look_ups;
+use land_core::laws::soundness_by_number;
 use land_core::limits::LAST_MOMENT;
 use land_core::object::Object;
 use land_core::sequence::{NumberList, Sequence};
 use land_keep::keeper::Keeper;
-use land_keep::moments::named_moment;
+use land_keep::moments::explicit_moment;
 use land_keep::named::NamedObject;
 use land_keep::store_fault::StoreFault;
 use land_keep::view::View;
@@ -43,18 +43,18 @@ pub struct SqlKeeper<S: Alter> {
 }
 
 impl<S: Alter> Model for SqlKeeper<S> {
-    ghost use Rattle.land_keep.specs.Keeping.{IsLive};
-    ghost use Rattle.land_select.specs.Cache.{IsKeptOf};
-    ghost use Rattle.land_tables.specs.Office.{IsHonest, Office, held, office_code};
+    ghost use Rattle.land_keep.specs.Keeping.{IsHonestAndOpen};
+    ghost use Rattle.land_select.specs.Cache.{IsCacheOf};
+    ghost use Rattle.land_tables.specs.TablesState.{IsHonest, TablesState, held, tables_code};
 
-    ghost Value = { Office S };
+    ghost Value = { TablesState S };
 
-    ghost coded = { office_code S.code };
+    ghost coded = { tables_code S.code };
 
     ghost view = { λ k. k.tables };
 
-    ghost invariant = { λ k. IsLive (IsHonest S.Store k.tables) k.tables.is_closed
-        → IsKeptOf (held S.Store k.tables) k.cache };
+    ghost invariant = { λ k. IsHonestAndOpen (IsHonest S.Store k.tables) k.tables.is_closed
+        → IsCacheOf (held S.Store k.tables) k.cache };
 }
 
 impl<S: Alter + Drop> Drop for SqlKeeper<S> {
@@ -92,7 +92,7 @@ impl<S: Alter> Keeper for SqlKeeper<S> {
     ghost use Rattle.land_keep.specs.Named.{objects_at};
     ghost use Rattle.land_keep.specs.Sheets.{view_at};
     ghost use Rattle.land_keep.specs.Timeline.{last_stamp};
-    ghost use Rattle.land_tables.specs.Office.{IsHonest, held};
+    ghost use Rattle.land_tables.specs.TablesState.{IsHonest, held};
 
     ghost timeline = { λ keeper. held S.Store keeper };
 
@@ -116,14 +116,14 @@ impl<S: Alter> Keeper for SqlKeeper<S> {
         now: i64,
     ) -> Result<Verdict, StoreFault> {
         forget(&mut self.cache);
-        let at = named_moment(ask).unwrap_or(now);
-        soundness_by_look_ups();
-        let asked_for = at.min(LAST_MOMENT);
+        let at = explicit_moment(ask).unwrap_or(now);
+        soundness_by_number();
+        let known_or_zero = at.min(LAST_MOMENT);
         let denial = VerdictQuery {
             caller,
             ask,
             past: at < now,
-            moment: asked_for,
+            moment: known_or_zero,
         };
         let told = execute(alloc, &mut self.tables, &denial)?;
         let (verdict, found) = told;
@@ -162,7 +162,7 @@ impl<S: Alter> Keeper for SqlKeeper<S> {
         if let Some(found) = take_object(cache, kind, number, at) {
             return Ok(Some(found));
         }
-        soundness_by_look_ups();
+        soundness_by_number();
         let looked_at = at.min(LAST_MOMENT);
         let object = ObjectQuery {
             kind,
@@ -180,7 +180,7 @@ impl<S: Alter> Keeper for SqlKeeper<S> {
         at: i64,
     ) -> Result<Sequence<NamedObject>, StoreFault> {
         forget(&mut self.cache);
-        soundness_by_look_ups();
+        soundness_by_number();
         let moment = at.min(LAST_MOMENT);
         let listed = ObjectsQuery {
             kind,
@@ -212,7 +212,7 @@ impl<S: Alter> Keeper for SqlKeeper<S> {
 
     fn slice(&mut self, alloc: Global, caller: Caller, act: &Act) -> Result<Slice, StoreFault> {
         forget(&mut self.cache);
-        soundness_by_look_ups();
+        soundness_by_number();
         let sliced = SliceQuery {
             caller,
             act,

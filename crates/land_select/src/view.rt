@@ -2,25 +2,25 @@
 ghost use Rattle.std.specs.FinMap as map;
 ghost use Rattle.std.specs.List.{list_any};
 ghost use Rattle.std.specs.Prelude.{◌≡◌, nat_eq, map as map_list, [], IfOk, Some};
-ghost use Rattle.land_core.specs.Entries.{only};
+ghost use Rattle.land_core.specs.Entries.{entries_where};
 ghost use Rattle.land_core.specs.declared.caller.Caller.{Caller as Who};
 ghost use Rattle.land_core.specs.declared.kind.Kind.TheVariants as kinds;
-ghost use Rattle.land_keep.specs.Sheets.{entries_seen, parcels_at, shown_parcel, view_at};
-ghost use Rattle.land_select.specs.Cache.{IsFound, IsObjectFound};
-ghost use Rattle.land_select.specs.Views.{IsShown, IsShownGiven, visible_rrrs, name_among, named_among};
+ghost use Rattle.land_keep.specs.Sheets.{visible_entries, parcels_at, numbered_parcel, view_at};
+ghost use Rattle.land_select.specs.Cache.{IsValueOf, IsObjectValueOf};
+ghost use Rattle.land_select.specs.Views.{AgreesWithRegister, AgreesIfGiven, visible_rrrs, name_among, named_among};
 ghost use Rattle.land_select.specs.Views.{named_at, view_from, with_name};
-ghost use Rattle.land_select_joins.specs.Lookups.Parts.{IsPart};
+ghost use Rattle.land_select_joins.specs.Lookups.Parts.{ReadsPart};
 ghost use Rattle.land_select_joins.specs.TableReads.{ReadsTables};
 ghost use Rattle.land_tables_schema.specs.Connections.{HasRegisterTables, IsUsable, LeavesAutocommit};
 
 use crate::cache::CachedValue;
 use crate::query::Query;
-use crate::verdict::conveyancer::awaited_of;
-use crate::verdict::interest::shown_of;
+use crate::verdict::conveyancer::pending_entries;
+use crate::verdict::interest::entries_by_interest;
 use land_core::caller::Caller;
 use land_core::duplicate::Duplicate;
 use land_core::kind::Kind;
-use land_core::laws::soundness_by_look_ups;
+use land_core::laws::soundness_by_number;
 use land_core::object::Object;
 use land_core::parcel::{Parcel, ParcelRecord};
 use land_core::party::PartyRecord;
@@ -32,10 +32,10 @@ use land_core::unit::{Unit, UnitRecord};
 use land_keep::view::{NamedRrr, View};
 use land_rules::denials::interests::sees_by_interest;
 use land_rules::denials::laws::{
-    all_that_stands_is_seen, interests_tell_sight, what_is_awaited_is_seen,
+    full_sight_shows_all, interests_decide_sight, pending_units_are_visible,
 };
-use land_rules::denials::sight::{sees_all, sees_by_awaiting};
-use land_rules::laws::seen_is_exact;
+use land_rules::denials::sight::{sees_all, sees_by_pending};
+use land_rules::laws::seen_lists_are_exact;
 use land_select_joins::joins::sight::sight;
 use land_select_joins::lookups::of_entries::parties;
 use land_select_joins::lookups::{by_number, of_unit};
@@ -50,7 +50,7 @@ fn shown_parcels(
     alloc: Global,
     found: &Records<ParcelRecord>,
 ) -> Result<Sequence<Parcel>, AllocError>
-    ensures { IfOk result (λ it. it ≡ map_list (λ e. shown_parcel e.0 e.1) (map.entries found.now)) }
+    ensures { IfOk result (λ it. it ≡ map_list (λ e. numbered_parcel e.0 e.1) (map.entries found.now)) }
 {
     let mut parcels = Sequence::new(alloc);
     for (number, parcel) in found.iter() {
@@ -66,15 +66,15 @@ fn shown_parcels(
 }
 
 /// Reads the parcels of a unit at a time, in increasing order of numbers.
-fn parcels_of<S: Alter>(
+fn read_parcels<S: Alter>(
     alloc: Global,
     conn: &mut Connection<S>,
     unit: u64,
     at: i64,
 ) -> Result<Sequence<Parcel>, ReadFault>
-    requires land { HasRegisterTables S.Store conn.old }
-    ensures look { ReadsTables S.Store result (IsPart (λ r. parcels_at r unit) at) conn.old conn.new }
-    ensures mode { LeavesAutocommit conn.old conn.new }
+    requires has_tables { HasRegisterTables S.Store conn.old }
+    ensures reads_only { ReadsTables S.Store result (ReadsPart (λ r. parcels_at r unit) at) conn.old conn.new }
+    ensures autocommit { LeavesAutocommit conn.old conn.new }
 {
     let found = of_unit::parcels(alloc, conn, unit, at)?;
     Ok(shown_parcels(alloc, &found)?)
@@ -130,7 +130,7 @@ fn listed_entries(
     found: &Records<RrrRecord>,
     listed: &[u64],
 ) -> Result<Records<RrrRecord>, AllocError>
-    ensures { IfOk result (λ it. it ≡ only (λ n e. list_any (nat_eq n) listed.now) found.now) }
+    ensures { IfOk result (λ it. it ≡ entries_where (λ n e. list_any (nat_eq n) listed.now) found.now) }
 {
     let mut kept = Records::new(alloc);
     for (number, entry) in found.iter() {
@@ -158,7 +158,7 @@ fn named_entries(
 }
 
 /// Reads the entries of a unit that a caller sees at a time, by number.
-fn entries_in_sight<S: Alter>(
+fn read_visible_entries<S: Alter>(
     alloc: Global,
     conn: &mut Connection<S>,
     caller: Caller,
@@ -166,43 +166,43 @@ fn entries_in_sight<S: Alter>(
     at: i64,
 ) -> Result<Records<RrrRecord>, ReadFault>
     requires open { IsUsable S.Store conn.old }
-    requires land { HasRegisterTables S.Store conn.old }
-    ensures look { ReadsTables S.Store result (IsShown (λ r. visible_rrrs r caller unit) at) conn.old
+    requires has_tables { HasRegisterTables S.Store conn.old }
+    ensures reads_only { ReadsTables S.Store result (AgreesWithRegister (λ r. visible_rrrs r caller unit) at) conn.old
         conn.new }
-    ensures mode { LeavesAutocommit conn.old conn.new }
+    ensures autocommit { LeavesAutocommit conn.old conn.new }
 {
-    seen_is_exact();
-    soundness_by_look_ups();
-    all_that_stands_is_seen();
-    interests_tell_sight();
-    what_is_awaited_is_seen();
+    seen_lists_are_exact();
+    soundness_by_number();
+    full_sight_shows_all();
+    interests_decide_sight();
+    pending_units_are_visible();
     let entries = of_unit::entries(alloc, conn, unit, at)?;
     if sees_all(caller.role, Kind::Rrr) {
         return Ok(entries);
     }
     if sees_by_interest(caller.role, Kind::Rrr) {
-        return shown_of(alloc, conn, caller, &entries, at);
+        return entries_by_interest(alloc, conn, caller, &entries, at);
     }
-    if sees_by_awaiting(caller.role, Kind::Rrr) {
-        return awaited_of(alloc, conn, caller.party, unit, entries, at);
+    if sees_by_pending(caller.role, Kind::Rrr) {
+        return pending_entries(alloc, conn, caller.party, unit, entries, at);
     }
     let listed = sight(alloc, conn, caller, Kind::Rrr, at)?;
     Ok(listed_entries(alloc, &entries, listed.as_slice())?)
 }
 
 /// Reads the names of the parties of entries that a caller sees, and returns the entries in increasing order.
-fn with_names<S: Alter>(
+fn attach_names<S: Alter>(
     alloc: Global,
     conn: &mut Connection<S>,
     unit: u64,
     entries: &Records<RrrRecord>,
     at: i64,
 ) -> Result<Sequence<NamedRrr>, ReadFault>
-    requires land { HasRegisterTables S.Store conn.old }
-    ensures look { (caller : Who) → ReadsTables S.Store result
-        (IsShownGiven (λ r. entries.now ≡ visible_rrrs r caller unit) (λ r. entries_seen r caller unit) at)
+    requires has_tables { HasRegisterTables S.Store conn.old }
+    ensures reads_only { (caller : Who) → ReadsTables S.Store result
+        (AgreesIfGiven (λ r. entries.now ≡ visible_rrrs r caller unit) (λ r. visible_entries r caller unit) at)
         conn.old conn.new }
-    ensures mode { LeavesAutocommit conn.old conn.new }
+    ensures autocommit { LeavesAutocommit conn.old conn.new }
 {
     let found = parties(alloc, conn, unit, at)?;
     Ok(named_entries(alloc, entries, found.as_slice())?)
@@ -210,7 +210,7 @@ fn with_names<S: Alter>(
 
 /// Returns the entries of a unit that a caller sees at a time, with the names of their parties, in increasing
 /// order: the cached ones, else those read from the tables.
-fn seen_entries<S: Alter>(
+fn read_named_entries<S: Alter>(
     alloc: Global,
     conn: &mut Connection<S>,
     caller: Caller,
@@ -219,17 +219,17 @@ fn seen_entries<S: Alter>(
     found: &CachedValue,
 ) -> Result<Sequence<NamedRrr>, ReadFault>
     requires open { IsUsable S.Store conn.old }
-    requires land { HasRegisterTables S.Store conn.old }
-    ensures look { ReadsTables S.Store result
-        (IsShownGiven (λ r. IsFound r caller kinds.Unit unit found.now) (λ r. entries_seen r caller unit) at)
+    requires has_tables { HasRegisterTables S.Store conn.old }
+    ensures reads_only { ReadsTables S.Store result
+        (AgreesIfGiven (λ r. IsValueOf r caller kinds.Unit unit found.now) (λ r. visible_entries r caller unit) at)
         conn.old conn.new }
-    ensures mode { LeavesAutocommit conn.old conn.new }
+    ensures autocommit { LeavesAutocommit conn.old conn.new }
 {
     match found {
-        CachedValue::VisibleEntries(entries) => with_names(alloc, conn, unit, entries, at),
+        CachedValue::VisibleEntries(entries) => attach_names(alloc, conn, unit, entries, at),
         CachedValue::Object(_) | CachedValue::Nothing => {
-            let entries = entries_in_sight(alloc, conn, caller, unit, at)?;
-            with_names(alloc, conn, unit, &entries, at)
+            let entries = read_visible_entries(alloc, conn, caller, unit, at)?;
+            attach_names(alloc, conn, unit, &entries, at)
         }
     }
 }
@@ -242,22 +242,22 @@ fn view_with<S: Alter>(
     unit_record: UnitRecord,
 ) -> Result<Option<View>, ReadFault>
     requires open { IsUsable S.Store conn.old }
-    requires land { HasRegisterTables S.Store conn.old }
-    ensures look { ReadsTables S.Store result
-        (IsShownGiven (λ r. IsFound r seen.entry.caller kinds.Unit seen.entry.unit seen.entry.found.now)
+    requires has_tables { HasRegisterTables S.Store conn.old }
+    ensures reads_only { ReadsTables S.Store result
+        (AgreesIfGiven (λ r. IsValueOf r seen.entry.caller kinds.Unit seen.entry.unit seen.entry.found.now)
         (λ r. Some (view_from r seen.entry.caller seen.entry.unit seen.entry.moment unit_record))
         seen.entry.moment) conn.old conn.new }
-    ensures mode { LeavesAutocommit conn.old conn.new }
+    ensures autocommit { LeavesAutocommit conn.old conn.new }
 {
-    soundness_by_look_ups();
+    soundness_by_number();
     let UnitViewQuery {
         caller,
         unit,
         moment,
         found,
     } = seen;
-    let parcels = parcels_of(alloc, conn, unit, moment)?;
-    let rrrs = seen_entries(alloc, conn, caller, unit, moment, found)?;
+    let parcels = read_parcels(alloc, conn, unit, moment)?;
+    let rrrs = read_named_entries(alloc, conn, caller, unit, moment, found)?;
     let UnitRecord { name, checked } = unit_record;
     Ok(Some(View {
         unit: Unit {
@@ -272,7 +272,7 @@ fn view_with<S: Alter>(
 }
 
 /// Returns the record of a unit at a time: that of the cached unit, else the one read from the tables.
-fn record_of<S: Alter>(
+fn read_unit_record<S: Alter>(
     alloc: Global,
     conn: &mut Connection<S>,
     unit: u64,
@@ -280,13 +280,13 @@ fn record_of<S: Alter>(
     found: &CachedValue,
 ) -> Result<Option<UnitRecord>, ReadFault>
     requires open { IsUsable S.Store conn.old }
-    requires land { HasRegisterTables S.Store conn.old }
-    ensures look { ReadsTables S.Store result
-        (IsShownGiven (λ r. IsObjectFound r kinds.Unit unit found.now) (λ r. map.get r.units unit) at)
+    requires has_tables { HasRegisterTables S.Store conn.old }
+    ensures reads_only { ReadsTables S.Store result
+        (AgreesIfGiven (λ r. IsObjectValueOf r kinds.Unit unit found.now) (λ r. map.get r.units unit) at)
         conn.old conn.new }
-    ensures mode { LeavesAutocommit conn.old conn.new }
+    ensures autocommit { LeavesAutocommit conn.old conn.new }
 {
-    soundness_by_look_ups();
+    soundness_by_number();
     match found {
         CachedValue::Object(Object::Unit(it)) => Ok(Some(UnitRecord {
             name: it.name.copy(alloc)?,
@@ -305,14 +305,14 @@ fn view<S: Alter>(
     seen: UnitViewQuery<'_>,
 ) -> Result<Option<View>, ReadFault>
     requires open { IsUsable S.Store conn.old }
-    requires land { HasRegisterTables S.Store conn.old }
-    ensures look { ReadsTables S.Store result
-        (IsShownGiven (λ r. IsFound r seen.entry.caller kinds.Unit seen.entry.unit seen.entry.found.now)
+    requires has_tables { HasRegisterTables S.Store conn.old }
+    ensures reads_only { ReadsTables S.Store result
+        (AgreesIfGiven (λ r. IsValueOf r seen.entry.caller kinds.Unit seen.entry.unit seen.entry.found.now)
         (λ r. view_at r seen.entry.caller seen.entry.unit seen.entry.moment) seen.entry.moment) conn.old
         conn.new }
-    ensures mode { LeavesAutocommit conn.old conn.new }
+    ensures autocommit { LeavesAutocommit conn.old conn.new }
 {
-    let known = record_of(alloc, conn, seen.unit, seen.moment, seen.found)?;
+    let known = read_unit_record(alloc, conn, seen.unit, seen.moment, seen.found)?;
     match known {
         Some(unit_record) => view_with(alloc, conn, seen, unit_record),
         None => Ok(None),
@@ -335,10 +335,10 @@ pub(crate) struct UnitViewQuery<'a> {
 impl Query<Option<View>> for UnitViewQuery<'_> {
     ghost use Rattle.land_core.specs.declared.kind.Kind.TheVariants as kinds;
     ghost use Rattle.land_keep.specs.Sheets.{view_at};
-    ghost use Rattle.land_select.specs.Cache.{IsFound};
-    ghost use Rattle.land_select.specs.Views.{IsShownGiven};
+    ghost use Rattle.land_select.specs.Cache.{IsValueOf};
+    ghost use Rattle.land_select.specs.Views.{AgreesIfGiven};
 
-    ghost results = { λ it db shown. IsShownGiven (λ r. IsFound r it.caller kinds.Unit it.unit it.found.now)
+    ghost results = { λ it db shown. AgreesIfGiven (λ r. IsValueOf r it.caller kinds.Unit it.unit it.found.now)
         (λ r. view_at r it.caller it.unit it.moment) it.moment db shown };
 
     fn run<S: Alter>(

@@ -16,20 +16,20 @@ use Rattle.land_core.specs.declared.role.Role.TheVariants.{Citizen, Conveyancer,
 use Rattle.land_rules.specs.CircleLaws.{CirclesSeeTogether, without_mandates}
 use Rattle.land_rules.specs.Circles.{circle_of}
 use Rattle.land_rules.specs.Denials.Sight.{sees_all}
-use Rattle.land_rules.specs.Laws.{IsSoundOrNothing, SeenIsExactly, citizen}
+use Rattle.land_rules.specs.Laws.{IsSoundOrNothing, SeenListsAreExact, citizen}
 use Rattle.land_rules.specs.Rules.{seen_of}
 use Rattle.land_select_joins.proofs.Ascending.{ascend, same_list}
 use Rattle.land_select_joins.proofs.Containing.{any_decides}
 use Rattle.land_select_joins.proofs.Seeing.{ascending}
 use Rattle.land_select_joins.proofs.United.{given_by, given_to}
-use Rattle.land_select_joins.specs.Joins.Running.{AnyGiven, AreAll}
+use Rattle.land_select_joins.specs.Joins.Execution.{AnySelectsFor, AreAll}
 use Rattle.land_select_joins.specs.Sights.{AnySelects, selections_of}
 use Rattle.land_select_joins.specs.Sights.Laws.{SelectionsAreTheRules}
 use Rattle.land_select_joins.specs.declared.sights.selection.Selection.{Selection}
-use Rattle.land_tables_history.specs.History.{StandsAt}
+use Rattle.land_tables_history.specs.History.{IsRegisterAt}
 use Rattle.land_tables_history.specs.declared.history.History.{History}
 
-module _ (rules : SelectionsAreTheRules) (seen : SeenIsExactly) (together : CirclesSeeTogether) (r : Register) (t : ℤ) (h : History) (premise : IsSoundOrNothing r) (stands : StandsAt t h r) (party : ℕ) (k : Kind) where
+module _ (rules : SelectionsAreTheRules) (seen : SeenListsAreExact) (together : CirclesSeeTogether) (r : Register) (t : ℤ) (h : History) (premise : IsSoundOrNothing r) (stands : IsRegisterAt t h r) (party : ℕ) (k : Kind) where
   abbrev pub given : List Selection
   given = selections_of Citizen k
 
@@ -47,7 +47,7 @@ module _ (rules : SelectionsAreTheRules) (seen : SeenIsExactly) (together : Circ
   circle_decides number = any_decides (is_shown number) (λ one. AnySelects given t h one number) (circle_of r party) (λ one among. shown_decides number one)
 
   -- so the numbers of the circle, in increasing order and each once, are the list of what the citizen sees
-  pub seen_by_circle : (callers listed : List ℕ) → ((number : ℕ) → Contains callers number ↔ Contains (circle_of r party) number) → AreAll listed (AnyGiven given t h callers) → IsStrictlyIncreasing listed
+  pub seen_by_circle : (callers listed : List ℕ) → ((number : ℕ) → Contains callers number ↔ Contains (circle_of r party) number) → AreAll listed (AnySelectsFor given t h callers) → IsStrictlyIncreasing listed
       → listed ≡ seen_of r (citizen party) k
   seen_by_circle callers listed are all rising =
       same_list listed _ (ascend listed rising) (ascending _ (seen r (citizen party) k).ascending) (λ number. (forth number, back number))

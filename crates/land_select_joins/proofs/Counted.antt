@@ -2,7 +2,7 @@
 use Rattle.std.proofs.Common.{◌≡◌, inl, inr, ℕ, pos, List, [], ◌∷◌, map, Ok, Err, IfErr, IfOk, Result, refl, sym, ap, ap₂, subst, ◌∙◌}
 use Rattle.std.specs.List.{AllByRecursion, Contains}
 use Rattle.land_select_joins.specs.Joins.Meaning.{AreNumberRows}
-use Rattle.land_select_joins.specs.Joins.Running.{AreAll, HoldsNone, OfHeld}
+use Rattle.land_select_joins.specs.Joins.Execution.{AreAll, HoldsNoHistory, HoldsOfHistory}
 use Rattle.land_tables_history.specs.declared.history.History.{History}
 use Rattle.land_tables_rows.proofs.Readings.{each_all}
 use Rattle.land_tables_rows.specs.Listing.Reading.{IsRead}
@@ -61,12 +61,12 @@ module _ (rows : List Row) (Wanted : ℕ → Type 0) (are : AreNumberRows rows W
       ((one.0, ap counted one.1 ∙ one_is_read one.0), readable more (λ r h. sub r (inr h)))
 
 -- rows of numbers that the current versions select
-module _ (Wanted : History → ℕ → Type 0) (db : Trees) (rows : List Row) (are : OfHeld db (λ h. AreNumberRows rows (Wanted h))) where
-  pub numbers_told : (r : Result (List ℕ) ReadFault) → IsRead counted rows r → IfOk r (λ numbers. OfHeld db (λ h. AreAll numbers (Wanted h)))
+module _ (Wanted : History → ℕ → Type 0) (db : Trees) (rows : List Row) (are : HoldsOfHistory db (λ h. AreNumberRows rows (Wanted h))) where
+  pub numbers_told : (r : Result (List ℕ) ReadFault) → IsRead counted rows r → IfOk r (λ numbers. HoldsOfHistory db (λ h. AreAll numbers (Wanted h)))
   numbers_told (Ok numbers) read = λ moments h held. all_numbers rows (Wanted h) (are moments h held) numbers (each_all counted rows numbers read)
   numbers_told (Err fault) read = tt
 
-  pub none_held : (r : Result (List ℕ) ReadFault) → IsRead counted rows r → IfErr r (HoldsNone db)
+  pub none_held : (r : Result (List ℕ) ReadFault) → IsRead counted rows r → IfErr r (HoldsNoHistory db)
   none_held (Ok numbers) read = tt
   none_held (Err fault) read = λ is moments h held.
       let it = each_from rows (readable rows (Wanted h) (are moments h held) rows (λ r has. has)) in

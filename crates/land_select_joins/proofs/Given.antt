@@ -6,7 +6,7 @@ use Rattle.land_select_joins.proofs.Places.{as_stored}
 use Rattle.land_select_joins.proofs.Selected.{filter_of, join_of, places_of, selected, shown_of}
 use Rattle.land_select_joins.proofs.Sets.{plainly}
 use Rattle.land_select_joins.specs.Joins.Meaning.{given}
-use Rattle.land_select_joins.specs.Joins.Running.{AreRowsOf, asked_for}
+use Rattle.land_select_joins.specs.Joins.Execution.{AreRowsOf, known_or_zero}
 use Rattle.land_select_joins.specs.Joins.Texts.{text_of}
 use Rattle.land_select_joins.specs.declared.sights.selection.Selection.{Selection}
 use Rattle.sqlite.specs.Program.{overlay}
@@ -17,9 +17,9 @@ use Rattle.sqlite_value.specs.Order.{Row}
 abbrev pub query_of : Selection → Query
 query_of s = plainly (from (places_of s)) (filter_of s) (shown_of s ∷ [])
 
-pub are_rows_of : (s : Selection) (t : ℤ) (caller : ℕ) (db : Trees) (rows : List Row) → IsAnswer (query_of s) (overlay db []) (given (asked_for caller) t) rows → AreRowsOf s t caller db rows
+pub are_rows_of : (s : Selection) (t : ℤ) (caller : ℕ) (db : Trees) (rows : List Row) → IsAnswer (query_of s) (overlay db []) (given (known_or_zero caller) t) rows → AreRowsOf s t caller db rows
 are_rows_of s t caller db rows a moments h held =
-    let asked = asked_for caller in
+    let asked = known_or_zero caller in
     let ps = places_of s in
     let fs = filter_of s in
     let terms = known_in (text_of s) ps fs (shown_of s) (join_of s) in

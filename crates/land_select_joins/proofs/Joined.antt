@@ -10,7 +10,7 @@ use Rattle.land_tables_history.specs.declared.history.History.{History}
 use Rattle.land_tables_history.specs.declared.moment.Moment.{Moment}
 use Rattle.land_tables_history.specs.declared.version.Version.{Version}
 use Rattle.land_tables_rows.specs.Writing.History.{HoldsHistory}
-use Rattle.land_tables_schema.specs.Land.{land_with}
+use Rattle.land_tables_schema.specs.Schemas.{schema_v2_with}
 use Rattle.sqlite.proofs.Callers.{IsPlain, command_of}
 use Rattle.sqlite.specs.Command.TheVariants.{Select}
 use Rattle.sqlite.specs.Effect.{Database, Reads}
@@ -112,9 +112,9 @@ start caller t = given caller t ∷ []
 
 -- a statement is a join of these tables with these terms, and returns one number
 pub record IsJoin (text : List ℕ) (places : List Place) (filter : List Term) (shown : Term) : Type 0 where
-  pub asks : (indexes : List Index) → Asks (land_with indexes) text (plainly (from places) filter (shown ∷ []))
-  pub meant : (indexes : List Index) → command_in (understood (land_with indexes) text) ≡ Select (record { lets = []; body = plainly (from places) filter (shown ∷ []) }) (asks indexes).names
-  pub accepted : (indexes : List Index) (caller : ℕ) (t : ℤ) → accepts_program (land_with indexes) [] (plainly (from places) filter (shown ∷ [])) (given caller t) ≡ true
+  pub asks : (indexes : List Index) → Asks (schema_v2_with indexes) text (plainly (from places) filter (shown ∷ []))
+  pub meant : (indexes : List Index) → command_in (understood (schema_v2_with indexes) text) ≡ Select (record { lets = []; body = plainly (from places) filter (shown ∷ []) }) (asks indexes).names
+  pub accepted : (indexes : List Index) (caller : ℕ) (t : ℤ) → accepts_program (schema_v2_with indexes) [] (plainly (from places) filter (shown ∷ [])) (given caller t) ≡ true
   pub simple : is_simple shown ≡ true
   pub known : (caller : ℕ) (t : ℤ) → ForAll places (λ s. (are_known filter s && is_whole (eval shown s)) ≡ true) (start caller t)
 
@@ -186,7 +186,7 @@ module _ (places : List Place) (filter : List Term) (shown : Term) where
       → ((number : ℕ) → Says places filter shown h caller t number ↔ Wanted number) → GivesNumbers text indexes db caller t Wanted
   meaning text is indexes db moments h caller t Wanted held is_so =
       let terms = known_in text places filter shown is in
-      let here : Database = record { schema = land_with indexes; trees = db } in
+      let here : Database = record { schema = schema_v2_with indexes; trees = db } in
       let rows = answer_of (from places) filter (shown ∷ []) (overlay db []) (given caller t) in
       record {
         each = λ rows reads.

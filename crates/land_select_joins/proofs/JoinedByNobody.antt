@@ -5,8 +5,8 @@ use Rattle.land_core.specs.declared.mutation.MutationRecord.{MutationRecord}
 use Rattle.land_core.specs.declared.party.PartyRecord.{PartyRecord}
 use Rattle.land_select_joins.proofs.Places.{members, mutations, parties, row_of, rrrs}
 use Rattle.land_select_joins.proofs.Selected.{of, version}
-use Rattle.land_select_joins.specs.Joins.Running.{asked_for}
-use Rattle.land_select_joins.specs.Sights.Selections.{Awaits, Entry, Stands, selects}
+use Rattle.land_select_joins.specs.Joins.Execution.{known_or_zero}
+use Rattle.land_select_joins.specs.Sights.Selections.{LodgedPending, Entry, IsCurrent, selects}
 use Rattle.land_select_joins.specs.declared.sights.selection.Selection.{Selection}
 use Rattle.land_select_joins.specs.declared.sights.selection.Selection.TheVariants as selection
 use Rattle.land_tables_history.specs.declared.group_member.GroupMember.{GroupMember}
@@ -16,23 +16,23 @@ use Rattle.land_tables_rows.specs.Writing.History.{HoldsHistory}
 use Rattle.sqlite_trees.specs.Tree.{Trees}
 
 module _ (db : Trees) (moments : List Moment) (h : History) (held : HoldsHistory db moments h) (t : ℤ) (number : ℕ) where
-  party_within : (p : ℕ × PartyRecord) → Stands t h.parties p → is_number p.0 ≡ true
+  party_within : (p : ℕ × PartyRecord) → IsCurrent t h.parties p → is_number p.0 ≡ true
   party_within p stands = let v = version t h.parties p stands in (row_of db moments h held parties (of p v.since v.until) v.has).2.1
 
-  member_within : (m : GroupMember) → Stands t h.members m → is_number m.member.party ≡ true
+  member_within : (m : GroupMember) → IsCurrent t h.members m → is_number m.member.party ≡ true
   member_within m stands = let v = version t h.members m stands in (row_of db moments h held members (of m v.since v.until) v.has).2.1.0
 
-  entry_within : (e : Entry) → Stands t h.rrrs e → is_number e.1.party ≡ true
+  entry_within : (e : Entry) → IsCurrent t h.rrrs e → is_number e.1.party ≡ true
   entry_within e stands = let v = version t h.rrrs e stands in (row_of db moments h held rrrs (of e v.since v.until) v.has).2.1.0
 
-  lodger_within : (m : ℕ × MutationRecord) → Stands t h.mutations m → is_number m.1.lodger ≡ true
+  lodger_within : (m : ℕ × MutationRecord) → IsCurrent t h.mutations m → is_number m.1.lodger ≡ true
   lodger_within m stands = let v = version t h.mutations m stands in (row_of db moments h held mutations (of m v.since v.until) v.has).2.1.0
 
   -- a caller that is in a table has a number in range
   somebody : (n caller : ℕ) → n ≡ caller → is_number n ≡ true → is_number caller ≡ true
   somebody n caller same within = ap is_number (sym same) ∙ within
 
-  lodged : (caller unit : ℕ) → Awaits t h caller unit → is_number caller ≡ true
+  lodged : (caller unit : ℕ) → LodgedPending t h caller unit → is_number caller ≡ true
   lodged caller unit a = somebody a.mutation.1.lodger caller a.lodger (lodger_within a.mutation a.mutation_stands)
 
   none : {X : Type 0} (caller : ℕ) → is_number caller ≡ false → is_number caller ≡ true → X
@@ -60,7 +60,7 @@ module _ (db : Trees) (moments : List Moment) (h : History) (held : HoldsHistory
   alike selection.LodgedParties caller other out x = none caller out (lodged caller x.0.1.unit x.1.awaits)
 
   -- so a caller gets what its replacement gets
-  pub asked_so : (s : Selection) (caller : ℕ) → selects s t h (asked_for caller) number ↔ selects s t h caller number
+  pub asked_so : (s : Selection) (caller : ℕ) → selects s t h (known_or_zero caller) number ↔ selects s t h caller number
   asked_so s caller = go (is_number caller) refl
     where
       go : (b : Bool) → is_number caller ≡ b → selects s t h (if b then caller else 0) number ↔ selects s t h caller number

@@ -12,8 +12,8 @@ use Rattle.land_select_joins.proofs.Places.{shows}
 use Rattle.land_select_joins.proofs.Records.{are_rows}
 use Rattle.land_select_joins.proofs.Shapes.{Fits}
 use Rattle.land_select_joins.proofs.Tested.{by_reference, decides_by}
-use Rattle.land_select_joins.specs.Joins.Running.{asked_for}
-use Rattle.land_select_joins.specs.Lookups.RecordRows.{AreRowsLodgedAs}
+use Rattle.land_select_joins.specs.Joins.Execution.{known_or_zero}
+use Rattle.land_select_joins.specs.Lookups.RecordRows.{AreLodgedRows}
 use Rattle.land_select_joins.specs.declared.lookups.texts.TheConstants.{MUTATION_LODGED_AS}
 use Rattle.land_tables_history.specs.Standing.{stands}
 use Rattle.land_tables_history.specs.declared.version.Version.{Version}
@@ -25,7 +25,7 @@ use Rattle.land_tables_rows.specs.Reading.Cells.{end_in, moment_in, number_in, r
 use Rattle.land_tables_rows.specs.Reading.Words.{state_in}
 use Rattle.land_tables_schema.proofs.Updates.{passes, plainly}
 use Rattle.land_tables_schema.proofs.Versions.{columns_of}
-use Rattle.land_tables_schema.specs.Land.{land_with}
+use Rattle.land_tables_schema.specs.Schemas.{schema_v2_with}
 use Rattle.land_tables_schema.specs.Rows.Versions.{whole}
 use Rattle.land_wire_json.specs.Bodies.Mutations.{content_in}
 use Rattle.sqlite.specs.Listing.{understood}
@@ -40,7 +40,7 @@ use Rattle.sqlite_value.specs.declared.value.Value.TheVariants.{Int, Null, Text}
 
 -- the parameters: the lodger, the time, the reference
 abbrev pub asked : (lodger : ℕ) → (t : ℤ) → (reference : List ℕ) → Row
-asked lodger t reference = Int (pos (asked_for lodger)) ∷ Int t ∷ Text reference ∷ []
+asked lodger t reference = Int (pos (known_or_zero lodger)) ∷ Int t ∷ Text reference ∷ []
 
 -- the tests of WHERE: the lodger, the reference and the lifespan
 abbrev pub filter : List Term
@@ -50,7 +50,7 @@ abbrev pub query : Query
 query = plainly mutations.table.tree filter (columns_of 1 1 10)
 
 -- the statement is exactly this query
-pub asks : (indexes : List Index) → Asks (land_with indexes) MUTATION_LODGED_AS.now query
+pub asks : (indexes : List Index) → Asks (schema_v2_with indexes) MUTATION_LODGED_AS.now query
 unfolding understood everything
 asks indexes = record { names = codes "number" ∷ codes "lodger" ∷ codes "reference" ∷ codes "source" ∷ codes "lodged" ∷ codes "act" ∷ codes "content" ∷ codes "state" ∷ codes "since" ∷ codes "until" ∷ []; command = refl; unlisted = refl; plain = (refl, refl) }
 
@@ -87,6 +87,6 @@ module _ (r : Row) (v : Version (ℕ × MutationRecord)) (e : mutations.said (mu
       (decides_by filter (asked lodger t reference) shape r fits refl)
 
 -- the result of the statement has the rows of that mutation
-pub are_lodged_as : (lodger : ℕ) (reference : List ℕ) (t : ℤ) (db : Trees) (rows : List Row) → IsAnswer query (overlay db []) (asked lodger t reference) rows → AreRowsLodgedAs lodger reference t db rows
+pub are_lodged_as : (lodger : ℕ) (reference : List ℕ) (t : ℤ) (db : Trees) (rows : List Row) → IsAnswer query (overlay db []) (asked lodger t reference) rows → AreLodgedRows lodger reference t db rows
 are_lodged_as lodger reference t db rows answer =
     are_rows mutations filter (columns_of 1 1 10) (asked lodger t reference) (λ mutation. is_lodged_as lodger reference mutation.1) t db refl (λ r. refl) (λ r v e. tests r v e lodger reference t) rows answer

@@ -7,7 +7,7 @@ use Rattle.std.specs.Bool.{Decides}
 use Rattle.std.specs.FinMap as map
 use Rattle.std.specs.List.{Contains, list_any}
 use Rattle.std.specs.Option.{option_map_or}
-use Rattle.land_core.specs.Contents.{names_where}
+use Rattle.land_core.specs.Contents.{refers_to_unit_where}
 use Rattle.land_core.specs.Entries.{has}
 use Rattle.land_core.specs.Members.{Members, member_of, members_in}
 use Rattle.land_core.specs.Register.{is_member}
@@ -19,9 +19,9 @@ use Rattle.land_core.specs.declared.register.Register.{Register}
 use Rattle.land_fraction.specs.Ratio.{Ratio}
 use Rattle.land_select_joins.proofs.Containing.{any_decides, from_flat_map, from_map, to_flat_map, to_map}
 use Rattle.land_select_joins.proofs.Standing.{entry_found, entry_there, listed, one_stands, unlisted}
-use Rattle.land_select_joins.specs.Sights.Selections.{Stands}
+use Rattle.land_select_joins.specs.Sights.Selections.{IsCurrent}
 use Rattle.land_tables_history.specs.Groups.{group_members}
-use Rattle.land_tables_history.specs.History.{StandsAt, named_units, namings_of}
+use Rattle.land_tables_history.specs.History.{IsRegisterAt, named_units, namings_of}
 use Rattle.land_tables_history.specs.Standing.{standing}
 use Rattle.land_tables_history.specs.declared.group_member.GroupMember.{GroupMember}
 use Rattle.land_tables_history.specs.declared.history.History.{History}
@@ -29,11 +29,11 @@ use Rattle.land_tables_history.specs.declared.naming.Naming.{Naming}
 
 -- a current member of a group
 abbrev pub Joins : (t : ℤ) → History → (group party : ℕ) → Type 0
-Joins t h group party = (joined : GroupMember) × Stands t h.members joined × (joined.group ≡ group) × (joined.member.party ≡ party)
+Joins t h group party = (joined : GroupMember) × IsCurrent t h.members joined × (joined.group ≡ group) × (joined.member.party ≡ party)
 
 -- a mutation refers to a unit that passes a test
 abbrev pub Names : (t : ℤ) → History → ℕ × MutationRecord → (ℕ → Type 0) → Type 0
-Names t h e P = (n : Naming) × (Stands t h.namings n × (n.mutation ≡ e.0)) × P n.unit
+Names t h e P = (n : Naming) × (IsCurrent t h.namings n × (n.mutation ≡ e.0)) × P n.unit
 
 abbrev in_group : ℕ → ℕ × Ratio → GroupMember
 in_group group e = record { group = group; member = member_of e.0 e.1 }
@@ -46,14 +46,14 @@ alone true = refl
 alone false = refl
 
 -- a test of the units to which a content refers
-any_named : (passes : ℕ → Bool) (c : Content) → names_where passes c ≡ list_any passes (named_units c)
+any_named : (passes : ℕ → Bool) (c : Content) → refers_to_unit_where passes c ≡ list_any passes (named_units c)
 any_named passes (content.Transfer it) = alone (passes it.unit)
 any_named passes (content.Subdivision it) = alone (passes it.unit)
 any_named passes (content.Merger it) = refl
 any_named passes (content.Mortgage it) = alone (passes it.unit)
 any_named passes (content.Discharge it) = alone (passes it.unit)
 
-module _ (r : Register) (t : ℤ) (h : History) (is : StandsAt t h r) where
+module _ (r : Register) (t : ℤ) (h : History) (is : IsRegisterAt t h r) where
   -- the member of a group in the register
   joined_from : (group party : ℕ) → is_member r group party ≡ true → Joins t h group party
   joined_from group party has_it = found (map.get r.members group) refl has_it
@@ -79,7 +79,7 @@ module _ (r : Register) (t : ℤ) (h : History) (is : StandsAt t h r) where
       subst (λ (m : Member). is_member r group m.party ≡ true) entry.2
       (ap (λ o. option_map_or (λ members. has members entry.0.0) o false) at ∙ ap is_some (entry_there members entry.0 entry.1))
 
-  is_joined : (joined : GroupMember) → Stands t h.members joined → is_member r joined.group joined.member.party ≡ true
+  is_joined : (joined : GroupMember) → IsCurrent t h.members joined → is_member r joined.group joined.member.party ≡ true
   is_joined joined stands =
       let all = Contains-permutation (standing t h.members) (group_members r.members) joined is.members stands in
       let of_group = from_flat_map (λ g. map_list (λ m. record { group = g.0; member = m }) (members_in g.1)) (map.entries r.members) joined all in
@@ -94,7 +94,7 @@ module _ (r : Register) (t : ℤ) (h : History) (is : StandsAt t h r) where
   )
 
   -- a current mutation, and the reference to one of its units
-  pub naming_stands : (e : ℕ × MutationRecord) → Stands t h.mutations e → (unit : ℕ) → Contains (named_units e.1.content) unit → Stands t h.namings (naming_of e.0 unit)
+  pub naming_stands : (e : ℕ × MutationRecord) → IsCurrent t h.mutations e → (unit : ℕ) → Contains (named_units e.1.content) unit → IsCurrent t h.namings (naming_of e.0 unit)
   naming_stands e stands unit named =
       let all : Contains (namings_of r.mutations) (naming_of e.0 unit) =
       to_flat_map (λ m. map_list (λ unit. record { mutation = m.0; unit = unit }) (named_units m.1.content)) (map.entries r.mutations) e (naming_of e.0 unit)
@@ -102,7 +102,7 @@ module _ (r : Register) (t : ℤ) (h : History) (is : StandsAt t h r) where
       Contains-permutation (namings_of r.mutations) (standing t h.namings) (naming_of e.0 unit) (IsPermutation-sym (standing t h.namings) (namings_of r.mutations) is.namings) all
 
   -- a current reference has a current mutation
-  pub named_by : (n : Naming) → Stands t h.namings n → (e : ℕ × MutationRecord) × Stands t h.mutations e × (n.mutation ≡ e.0) × Contains (named_units e.1.content) n.unit
+  pub named_by : (n : Naming) → IsCurrent t h.namings n → (e : ℕ × MutationRecord) × IsCurrent t h.mutations e × (n.mutation ≡ e.0) × Contains (named_units e.1.content) n.unit
   named_by n stands =
       let all = Contains-permutation (standing t h.namings) (namings_of r.mutations) n is.namings stands in
       let of_mutation = from_flat_map (λ m. map_list (λ unit. record { mutation = m.0; unit = unit }) (named_units m.1.content)) (map.entries r.mutations) n all in
@@ -111,10 +111,10 @@ module _ (r : Register) (t : ℤ) (h : History) (is : StandsAt t h r) where
       let whole : naming_of e.0 it.0 ≡ n = it.2 in
       (e, unlisted t h.mutations r.mutations is.mutations e of_mutation.1, ap (λ (k : Naming). k.mutation) (sym whole), subst (λ (k : Naming). Contains (named_units e.1.content) k.unit) whole it.1)
 
-  pub names_decides : (passes : ℕ → Bool) (P : ℕ → Type 0) → ((unit : ℕ) → Decides (passes unit) (P unit)) → (e : ℕ × MutationRecord) → Stands t h.mutations e
-      → Decides (names_where passes e.1.content) (Names t h e P)
+  pub names_decides : (passes : ℕ → Bool) (P : ℕ → Type 0) → ((unit : ℕ) → Decides (passes unit) (P unit)) → (e : ℕ × MutationRecord) → IsCurrent t h.mutations e
+      → Decides (refers_to_unit_where passes e.1.content) (Names t h e P)
   names_decides passes P each e stands =
-      Decides-at (names_where passes e.1.content) (list_any passes (named_units e.1.content)) (any_named passes e.1.content)
+      Decides-at (refers_to_unit_where passes e.1.content) (list_any passes (named_units e.1.content)) (any_named passes e.1.content)
       (Decides-like (list_any passes (named_units e.1.content))
       (λ it. (naming_of e.0 it.0, (naming_stands e stands it.0 it.1, refl), it.2))
       (λ it.

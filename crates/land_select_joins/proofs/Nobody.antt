@@ -1,17 +1,17 @@
 -- A number that is not in use returns only what each other number returns.
 use Rattle.std.proofs.Common.{◌≡◌, ◌⊎◌, inl, inr, ℕ, ℤ, [], ◌∷◌, Some, refl, subst}
 use Rattle.std.specs.FinMap as map
-use Rattle.land_core.specs.Laws.{SoundnessByLookUps}
+use Rattle.land_core.specs.Laws.{SoundnessByNumber}
 use Rattle.land_core.specs.declared.register.Register.{Register}
 use Rattle.land_select_joins.proofs.References.{nobody_stands, refers}
 use Rattle.land_select_joins.proofs.Standing.{there}
-use Rattle.land_select_joins.proofs.Views.{Refers, lodger_stands, member_stands, party_stands}
+use Rattle.land_select_joins.proofs.Views.{Refers, lodger_stands, member_stands, party_exists}
 use Rattle.land_select_joins.specs.Sights.{selections_of}
-use Rattle.land_select_joins.specs.Sights.Laws.{IsNamedAt, NobodiesSeeAlike, TheUnnamedSeeTheLeast}
-use Rattle.land_select_joins.specs.Sights.Selections.{Awaits, Credits, Entry, HoldsItself, HoldsThrough, StandsUnder, selects}
+use Rattle.land_select_joins.specs.Sights.Laws.{IsNamedAt, OutOfRangeSeeAlike, UnreferencedSeeLeast}
+use Rattle.land_select_joins.specs.Sights.Selections.{LodgedPending, Credits, Entry, HoldsItself, HoldsThrough, IsCurrentUnder, selects}
 use Rattle.land_select_joins.specs.declared.sights.selection.Selection.{Selection}
 use Rattle.land_select_joins.specs.declared.sights.selection.Selection.TheVariants as selection
-use Rattle.land_tables_history.specs.History.{StandsAt}
+use Rattle.land_tables_history.specs.History.{IsRegisterAt}
 use Rattle.land_tables_history.specs.declared.history.History.{History}
 
 module _ (t : ℤ) (h : History) (p : ℕ) where
@@ -24,7 +24,7 @@ module _ (t : ℤ) (h : History) (p : ℕ) where
   credits : (e : Entry) → Credits t h p e → IsNamedAt t h p
   credits e it = inr (inr (inl (e, it.stands, it.party)))
 
-  awaits : (unit : ℕ) → Awaits t h p unit → IsNamedAt t h p
+  awaits : (unit : ℕ) → LodgedPending t h p unit → IsNamedAt t h p
   awaits unit it = inr (inr (inr (it.mutation, it.mutation_stands, it.lodger)))
 
   -- a selected number is selected for all, or for a party in use
@@ -48,19 +48,19 @@ module _ (t : ℤ) (h : History) (p : ℕ) where
   given selection.LodgedEntries n it = inr (awaits it.0.1.unit it.1.awaits)
   given selection.LodgedParties n it = inr (awaits it.0.1.unit it.1.awaits)
 
-pub unnamed_alike : TheUnnamedSeeTheLeast
+pub unnamed_alike : UnreferencedSeeLeast
 unnamed_alike t h p unnamed [] other n it = it
 unnamed_alike t h p unnamed (s ∷ ss) other n (inl it) = elim (given t h p s n it) [ inl all ↦ inl (all other) | inr named ↦ absurd (unnamed named) ]
 unnamed_alike t h p unnamed (s ∷ ss) other n (inr more) = inr (unnamed_alike t h p unnamed ss other n more)
 
 -- a number in use exists as a party
-named_stands : (r : Register) (t : ℤ) (h : History) → StandsAt t h r → Refers r → (p : ℕ) → IsNamedAt t h p → StandsUnder t h.parties p
+named_stands : (r : Register) (t : ℤ) (h : History) → IsRegisterAt t h r → Refers r → (p : ℕ) → IsNamedAt t h p → IsCurrentUnder t h.parties p
 named_stands r t h is refers p (inl it) = it
 named_stands r t h is refers p (inr (inl it)) = member_stands r t h is refers p it.0.group p (it.0, it.1, refl, it.2)
-named_stands r t h is refers p (inr (inr (inl it))) = subst (StandsUnder t h.parties) it.2 (party_stands r t h is refers p it.0 it.1)
-named_stands r t h is refers p (inr (inr (inr it))) = subst (StandsUnder t h.parties) it.2 (lodger_stands r t h is refers p it.0 it.1)
+named_stands r t h is refers p (inr (inr (inl it))) = subst (IsCurrentUnder t h.parties) it.2 (party_exists r t h is refers p it.0 it.1)
+named_stands r t h is refers p (inr (inr (inr it))) = subst (IsCurrentUnder t h.parties) it.2 (lodger_stands r t h is refers p it.0 it.1)
 
-pub nobodies_alike : SoundnessByLookUps → TheUnnamedSeeTheLeast → NobodiesSeeAlike
+pub nobodies_alike : SoundnessByNumber → UnreferencedSeeLeast → OutOfRangeSeeAlike
 nobodies_alike look_ups alike r h t premise stands party other nobody none role k n it =
     alike t h party
     (λ named.

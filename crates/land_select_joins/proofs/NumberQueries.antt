@@ -8,11 +8,11 @@ use Rattle.land_select_joins.proofs.Places.{IsWithin, Place, What, as_stored, mu
 use Rattle.land_select_joins.proofs.Selected.{IsVersion, of, stood, undecided, version}
 use Rattle.land_select_joins.proofs.Sets.{plainly}
 use Rattle.land_select_joins.specs.Joins.Meaning.{given}
-use Rattle.land_select_joins.specs.Joins.Running.{asked_for}
-use Rattle.land_select_joins.specs.Lookups.Numbers.{AreRowsToldBy, tells}
-use Rattle.land_select_joins.specs.Lookups.Texts.{number_text_of}
-use Rattle.land_select_joins.specs.declared.lookups.number_look_up.NumberLookUp.{NumberLookUp}
-use Rattle.land_select_joins.specs.declared.lookups.number_look_up.NumberLookUp.TheVariants as record_lookup
+use Rattle.land_select_joins.specs.Joins.Execution.{known_or_zero}
+use Rattle.land_select_joins.specs.Lookups.Numbers.{AreColumnRows, yields}
+use Rattle.land_select_joins.specs.Lookups.Texts.{column_text_of}
+use Rattle.land_select_joins.specs.declared.lookups.column_lookup.ColumnLookup.{ColumnLookup}
+use Rattle.land_select_joins.specs.declared.lookups.column_lookup.ColumnLookup.TheVariants as record_lookup
 use Rattle.land_tables_history.specs.declared.history.History.{History}
 use Rattle.land_tables_history.specs.declared.moment.Moment.{Moment}
 use Rattle.land_tables_rows.specs.Writing.History.{HoldsHistory}
@@ -27,27 +27,27 @@ use Rattle.sqlite_value.specs.Order.{Row}
 -- ---- joins
 
 -- the tables
-abbrev pub places_of : NumberLookUp → List Place
+abbrev pub places_of : ColumnLookup → List Place
 places_of record_lookup.Party = parties ∷ []
 places_of record_lookup.Unit = units ∷ []
 places_of record_lookup.LodgerOfMutation = mutations ∷ []
 places_of record_lookup.LodgersOnUnit = names ∷ mutations ∷ []
 
 -- the tests: ON, the given number, the state and the lifespans
-abbrev pub filter_of : NumberLookUp → List Term
+abbrev pub filter_of : ColumnLookup → List Term
 filter_of record_lookup.Party = known.itself
 filter_of record_lookup.Unit = same (col 1 1) caller ∷ still 1 4
 filter_of record_lookup.LodgerOfMutation = same (col 1 1) caller ∷ still 1 9
 filter_of record_lookup.LodgersOnUnit = same (col 2 1) (col 1 1) ∷ same (col 1 2) caller ∷ word (col 2 8) (codes "lodged") ∷ still 1 3 ++ still 2 9
 
 -- the column of the result
-abbrev pub shown_of : NumberLookUp → Term
+abbrev pub shown_of : ColumnLookup → Term
 shown_of record_lookup.Party = col 1 1
 shown_of record_lookup.Unit = col 1 1
 shown_of record_lookup.LodgerOfMutation = col 1 2
 shown_of record_lookup.LodgersOnUnit = col 2 2
 
-unit_join : IsJoin (number_text_of record_lookup.Unit) (units ∷ []) (filter_of record_lookup.Unit) (col 1 1)
+unit_join : IsJoin (column_text_of record_lookup.Unit) (units ∷ []) (filter_of record_lookup.Unit) (col 1 1)
 unfolding understood everything
 unit_join = record {
   asks = λ indexes. record { names = codes "number" ∷ []; command = refl; unlisted = refl; plain = (refl, refl) };
@@ -57,7 +57,7 @@ unit_join = record {
   known = λ caller t v. refl;
 }
 
-lodger_join : IsJoin (number_text_of record_lookup.LodgerOfMutation) (mutations ∷ []) (filter_of record_lookup.LodgerOfMutation) (col 1 2)
+lodger_join : IsJoin (column_text_of record_lookup.LodgerOfMutation) (mutations ∷ []) (filter_of record_lookup.LodgerOfMutation) (col 1 2)
 unfolding understood everything
 lodger_join = record {
   asks = λ indexes. record { names = codes "lodger" ∷ []; command = refl; unlisted = refl; plain = (refl, refl) };
@@ -67,7 +67,7 @@ lodger_join = record {
   known = λ caller t v. refl;
 }
 
-lodgers_join : IsJoin (number_text_of record_lookup.LodgersOnUnit) (names ∷ mutations ∷ []) (filter_of record_lookup.LodgersOnUnit) (col 2 2)
+lodgers_join : IsJoin (column_text_of record_lookup.LodgersOnUnit) (names ∷ mutations ∷ []) (filter_of record_lookup.LodgersOnUnit) (col 2 2)
 unfolding understood everything
 lodgers_join = record {
   asks = λ indexes. record { names = codes "lodger" ∷ []; command = refl; unlisted = refl; plain = (refl, refl) };
@@ -77,7 +77,7 @@ lodgers_join = record {
   known = λ caller t n m. refl;
 }
 
-pub join_of : (l : NumberLookUp) → IsJoin (number_text_of l) (places_of l) (filter_of l) (shown_of l)
+pub join_of : (l : ColumnLookup) → IsJoin (column_text_of l) (places_of l) (filter_of l) (shown_of l)
 join_of record_lookup.Party = known.itself_join
 join_of record_lookup.Unit = unit_join
 join_of record_lookup.LodgerOfMutation = lodger_join
@@ -86,25 +86,25 @@ join_of record_lookup.LodgersOnUnit = lodgers_join
 -- ---- the terms of a statement select what its lookup returns
 
 module _ (h : History) (number : ℕ) (t : ℤ) (told : ℕ) where
-  a_party : Says (parties ∷ []) known.itself (col 1 1) h number t told ↔ tells record_lookup.Party t h number told
+  a_party : Says (parties ∷ []) known.itself (col 1 1) h number t told ↔ yields record_lookup.Party t h number told
   a_party = (
     (λ g. (g.0.what, stood t h.parties g.0 g.1 g.2.0.1.0 g.2.0.1.1.0, g.2.0.0, g.2.1)),
     (λ s. let v = version t h.parties s.0 s.1 in (of s.0 v.since v.until, v.has, ((s.2, (v.begun, (v.going, tt))), s.3))),
   )
 
-  a_unit : Says (units ∷ []) (filter_of record_lookup.Unit) (col 1 1) h number t told ↔ tells record_lookup.Unit t h number told
+  a_unit : Says (units ∷ []) (filter_of record_lookup.Unit) (col 1 1) h number t told ↔ yields record_lookup.Unit t h number told
   a_unit = (
     (λ g. (g.0.what, stood t h.units g.0 g.1 g.2.0.1.0 g.2.0.1.1.0, g.2.0.0, g.2.1)),
     (λ s. let v = version t h.units s.0 s.1 in (of s.0 v.since v.until, v.has, ((s.2, (v.begun, (v.going, tt))), s.3))),
   )
 
-  a_lodger : Says (mutations ∷ []) (filter_of record_lookup.LodgerOfMutation) (col 1 2) h number t told ↔ tells record_lookup.LodgerOfMutation t h number told
+  a_lodger : Says (mutations ∷ []) (filter_of record_lookup.LodgerOfMutation) (col 1 2) h number t told ↔ yields record_lookup.LodgerOfMutation t h number told
   a_lodger = (
     (λ g. (g.0.what, stood t h.mutations g.0 g.1 g.2.0.1.0 g.2.0.1.1.0, g.2.0.0, g.2.1)),
     (λ s. let v = version t h.mutations s.0 s.1 in (of s.0 v.since v.until, v.has, ((s.2, (v.begun, (v.going, tt))), s.3))),
   )
 
-  lodgers : Says (names ∷ mutations ∷ []) (filter_of record_lookup.LodgersOnUnit) (col 2 2) h number t told ↔ tells record_lookup.LodgersOnUnit t h number told
+  lodgers : Says (names ∷ mutations ∷ []) (filter_of record_lookup.LodgersOnUnit) (col 2 2) h number t told ↔ yields record_lookup.LodgersOnUnit t h number told
   lodgers = (
     (λ g. let n = g.0 in let m = g.2.0 in let say = g.2.2.0 in record {
       mutation = m.what;
@@ -127,7 +127,7 @@ module _ (h : History) (number : ℕ) (t : ℤ) (told : ℕ) where
     )),
   )
 
-pub told_by : (l : NumberLookUp) (h : History) (number : ℕ) (t : ℤ) (told : ℕ) → Says (places_of l) (filter_of l) (shown_of l) h number t told ↔ tells l t h number told
+pub told_by : (l : ColumnLookup) (h : History) (number : ℕ) (t : ℤ) (told : ℕ) → Says (places_of l) (filter_of l) (shown_of l) h number t told ↔ yields l t h number told
 told_by record_lookup.Party = a_party
 told_by record_lookup.Unit = a_unit
 told_by record_lookup.LodgerOfMutation = a_lodger
@@ -143,7 +143,7 @@ module _ (db : Trees) (moments : List Moment) (h : History) (held : HoldsHistory
   moved one number same is = ap is_number (sym same) ∙ is
 
   -- a lookup returns a number only for a given one that is in range
-  number_within : (l : NumberLookUp) (number told : ℕ) → tells l t h number told → is_number number ≡ true
+  number_within : (l : ColumnLookup) (number told : ℕ) → yields l t h number told → is_number number ≡ true
   number_within record_lookup.Party number told x = moved x.0.0 number x.2 (within parties x.0 (version t h.parties x.0 x.1))
   number_within record_lookup.Unit number told x = moved x.0.0 number x.2 (within units x.0 (version t h.units x.0 x.1))
   number_within record_lookup.LodgerOfMutation number told x = moved x.0.0 number x.2 (within mutations x.0 (version t h.mutations x.0 x.1)).1
@@ -153,25 +153,25 @@ module _ (db : Trees) (moments : List Moment) (h : History) (held : HoldsHistory
   none number out is = true≢false (sym is ∙ out)
 
   -- so a lookup returns the same for the replacement of a number
-  asked_so : (l : NumberLookUp) (number told : ℕ) → tells l t h (asked_for number) told ↔ tells l t h number told
+  asked_so : (l : ColumnLookup) (number told : ℕ) → yields l t h (known_or_zero number) told ↔ yields l t h number told
   asked_so l number told = go (is_number number) refl
     where
-      go : (b : Bool) → is_number number ≡ b → tells l t h (if b then number else 0) told ↔ tells l t h number told
+      go : (b : Bool) → is_number number ≡ b → yields l t h (if b then number else 0) told ↔ yields l t h number told
       go true is = ((λ x. x), (λ x. x))
       go false is = ((λ x. absurd (none 0 refl (number_within l 0 told x))), (λ x. absurd (none number is (number_within l number told x))))
 
 -- ---- results
 
-abbrev pub query_of : NumberLookUp → Query
+abbrev pub query_of : ColumnLookup → Query
 query_of l = plainly (from (places_of l)) (filter_of l) (shown_of l ∷ [])
 
 -- the result of a lookup's statement has the rows of the lookup
-pub are_rows_of : (l : NumberLookUp) (number : ℕ) (t : ℤ) (db : Trees) (rows : List Row) → IsAnswer (query_of l) (overlay db []) (given (asked_for number) t) rows → AreRowsToldBy l number t db rows
+pub are_rows_of : (l : ColumnLookup) (number : ℕ) (t : ℤ) (db : Trees) (rows : List Row) → IsAnswer (query_of l) (overlay db []) (given (known_or_zero number) t) rows → AreColumnRows l number t db rows
 are_rows_of l number t db rows a moments h held =
-    let asked = asked_for number in
+    let asked = known_or_zero number in
     let ps = places_of l in
     let fs = filter_of l in
-    let terms = known_in (number_text_of l) ps fs (shown_of l) (join_of l) in
+    let terms = known_in (column_text_of l) ps fs (shown_of l) (join_of l) in
     record {
       each = numbered ps fs (shown_of l) terms db (overlay db []) (as_stored db) moments h held asked t rows a;
       meant = λ n.

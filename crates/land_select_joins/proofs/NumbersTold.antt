@@ -11,14 +11,14 @@ use Rattle.land_core.specs.Entries.{has}
 use Rattle.land_core.specs.Register.{stands}
 use Rattle.land_core.specs.declared.kind.Kind.TheVariants as kind
 use Rattle.land_core.specs.declared.register.Register.{Register}
-use Rattle.land_rules.specs.Relations.{has_lodged, is_lodger_of, is_lodger_on}
+use Rattle.land_rules.specs.Relations.{has_lodged, is_lodger_of, has_pending_mutation_on}
 use Rattle.land_select_joins.proofs.Containing.{any_decides, first, in_nothing}
 use Rattle.land_select_joins.proofs.Standing.{at_decides, has_decides}
 use Rattle.land_select_joins.proofs.Views.{awaits_decides}
-use Rattle.land_select_joins.specs.Joins.Running.{AreAll}
-use Rattle.land_select_joins.specs.Lookups.Numbers.{IsItsOwn, tells}
-use Rattle.land_select_joins.specs.declared.lookups.number_look_up.NumberLookUp.TheVariants as record_lookup
-use Rattle.land_tables_history.specs.History.{StandsAt}
+use Rattle.land_select_joins.specs.Joins.Execution.{AreAll}
+use Rattle.land_select_joins.specs.Lookups.Numbers.{IsOwnNumber, yields}
+use Rattle.land_select_joins.specs.declared.lookups.column_lookup.ColumnLookup.TheVariants as record_lookup
+use Rattle.land_tables_history.specs.History.{IsRegisterAt}
 use Rattle.land_tables_history.specs.Standing.{IsPartAt}
 use Rattle.land_tables_history.specs.declared.history.History.{History}
 use Rattle.land_tables_history.specs.declared.version.Version.{Version}
@@ -40,29 +40,29 @@ module _ (Wanted : ℕ → Type 0) where
 -- ---- current versions
 
 -- the number itself is returned if a current record has it
-own_there : {V : Type 0} (t : ℤ) (versions : List (Version (ℕ × V))) (m : FinMap nat_cmp V) → IsPartAt t versions m → (number : ℕ) → Decides (has m number) ((n : ℕ) × IsItsOwn t versions number n)
+own_there : {V : Type 0} (t : ℤ) (versions : List (Version (ℕ × V))) (m : FinMap nat_cmp V) → IsPartAt t versions m → (number : ℕ) → Decides (has m number) ((n : ℕ) × IsOwnNumber t versions number n)
 own_there t versions m part number =
     Decides-like (has m number) (λ under. (under.0.0, (under.0, under.1, under.2, refl))) (λ it. (it.1.0, it.1.1, it.1.2)) (has_decides t versions m part number)
 
-module _ (r : Register) (t : ℤ) (h : History) (is : StandsAt t h r) where
+module _ (r : Register) (t : ℤ) (h : History) (is : IsRegisterAt t h r) where
   -- the number of a party is returned if it exists
-  pub party_told : (number : ℕ) (numbers : List ℕ) → AreAll numbers (tells record_lookup.Party t h number) → not (nat_eq (length numbers) 0) ≡ stands r kind.Party number
+  pub party_told : (number : ℕ) (numbers : List ℕ) → AreAll numbers (yields record_lookup.Party t h number) → not (nat_eq (length numbers) 0) ≡ stands r kind.Party number
   party_told number numbers all =
-      same_from_decides (not (nat_eq (length numbers) 0)) (stands r kind.Party number) (some_wanted (tells record_lookup.Party t h number) numbers all) (own_there t h.parties r.parties is.parties number)
+      same_from_decides (not (nat_eq (length numbers) 0)) (stands r kind.Party number) (some_wanted (yields record_lookup.Party t h number) numbers all) (own_there t h.parties r.parties is.parties number)
 
   -- and that of a unit
-  pub unit_told : (number : ℕ) (numbers : List ℕ) → AreAll numbers (tells record_lookup.Unit t h number) → not (nat_eq (length numbers) 0) ≡ stands r kind.Unit number
+  pub unit_told : (number : ℕ) (numbers : List ℕ) → AreAll numbers (yields record_lookup.Unit t h number) → not (nat_eq (length numbers) 0) ≡ stands r kind.Unit number
   unit_told number numbers all =
-      same_from_decides (not (nat_eq (length numbers) 0)) (stands r kind.Unit number) (some_wanted (tells record_lookup.Unit t h number) numbers all) (own_there t h.units r.units is.units number)
+      same_from_decides (not (nat_eq (length numbers) 0)) (stands r kind.Unit number) (some_wanted (yields record_lookup.Unit t h number) numbers all) (own_there t h.units r.units is.units number)
 
   -- the lodger of a mutation is returned
-  pub lodger_told : (party number : ℕ) (numbers : List ℕ) → AreAll numbers (tells record_lookup.LodgerOfMutation t h number) → list_any (nat_eq party) numbers ≡ has_lodged r party number
+  pub lodger_told : (party number : ℕ) (numbers : List ℕ) → AreAll numbers (yields record_lookup.LodgerOfMutation t h number) → list_any (nat_eq party) numbers ≡ has_lodged r party number
   lodger_told party number numbers all =
-      same_from_decides (list_any (nat_eq party) numbers) (has_lodged r party number) (one_wanted (tells record_lookup.LodgerOfMutation t h number) party numbers all)
+      same_from_decides (list_any (nat_eq party) numbers) (has_lodged r party number) (one_wanted (yields record_lookup.LodgerOfMutation t h number) party numbers all)
       (Decides-like (has_lodged r party number) (λ it. (it.0, it.1.0, it.2, it.1.1)) (λ it. (it.0, (it.1, it.3), it.2))
       (at_decides t h.mutations r.mutations is.mutations (is_lodger_of party) (λ e. e.1.lodger ≡ party) (λ e standing. Decides-eqb e.1.lodger party) number))
 
   -- and the lodger of a pending mutation that refers to a unit
-  pub lodgers_told : (party unit : ℕ) (numbers : List ℕ) → AreAll numbers (tells record_lookup.LodgersOnUnit t h unit) → list_any (nat_eq party) numbers ≡ is_lodger_on r party unit
+  pub lodgers_told : (party unit : ℕ) (numbers : List ℕ) → AreAll numbers (yields record_lookup.LodgersOnUnit t h unit) → list_any (nat_eq party) numbers ≡ has_pending_mutation_on r party unit
   lodgers_told party unit numbers all =
-      same_from_decides (list_any (nat_eq party) numbers) (is_lodger_on r party unit) (one_wanted (tells record_lookup.LodgersOnUnit t h unit) party numbers all) (awaits_decides r t h is party unit)
+      same_from_decides (list_any (nat_eq party) numbers) (has_pending_mutation_on r party unit) (one_wanted (yields record_lookup.LodgersOnUnit t h unit) party numbers all) (awaits_decides r t h is party unit)

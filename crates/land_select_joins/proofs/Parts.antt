@@ -7,8 +7,8 @@ use Rattle.std.specs.FinMap.{FinMap, nat_cmp-IsAntisymmetric}
 use Rattle.std.specs.List.{Contains}
 use Rattle.std.specs.Ordering.{nat_cmp}
 use Rattle.land_core.proofs.FiniteSets.{exact_grants, exact_mandates, grants_total, mandates_total}
-use Rattle.land_core.proofs.Reflection.{entries-only}
-use Rattle.land_core.specs.Entries.{only}
+use Rattle.land_core.proofs.Reflection.{entries-entries_where}
+use Rattle.land_core.specs.Entries.{entries_where}
 use Rattle.land_core.specs.Grants.{Grants, grants_in}
 use Rattle.land_core.specs.Mandates.{Mandates, mandates_in}
 use Rattle.land_core.specs.Members.{Members, members_in}
@@ -53,9 +53,9 @@ module _ {X : Type 0} (t : ℤ) (meant : X → Bool) where
 
 -- records
 pub part_found : {V : Type 0} (t : ℤ) (p : ℕ → V → Bool) (versions : List (Version (ℕ × V))) (m : FinMap nat_cmp V) → IsPartAt t versions m
-    → (found : List (Version (ℕ × V))) → IsPermutation found (filter (λ v. stands t v && p v.what.0 v.what.1) versions) → IsPartAt t found (only p m)
+    → (found : List (Version (ℕ × V))) → IsPermutation found (filter (λ v. stands t v && p v.what.0 v.what.1) versions) → IsPartAt t found (entries_where p m)
 part_found t p versions m part found are =
-    subst (IsPermutation (standing t found)) (sym (entries-only nat_cmp_total nat_cmp-IsAntisymmetric p m)) (stand_of t (λ e. p e.0 e.1) versions (finite.entries m) part found are)
+    subst (IsPermutation (standing t found)) (sym (entries-entries_where nat_cmp_total nat_cmp-IsAntisymmetric p m)) (stand_of t (λ e. p e.0 e.1) versions (finite.entries m) part found are)
 
 -- roles
 
@@ -68,23 +68,23 @@ first_kept q (e ∷ es) = go (q e.0) (first_kept q es)
     go true rest = ap (λ m. e.0 ∷ m) rest
     go false rest = rest
 
-grants_kept : (q : Grant → Bool) (grants : Grants) → grants_in (only (λ g u. q g) grants) ≡ filter q (grants_in grants)
+grants_kept : (q : Grant → Bool) (grants : Grants) → grants_in (entries_where (λ g u. q g) grants) ≡ filter q (grants_in grants)
 unfolding grants_in
-grants_kept q grants = ap (map (λ e. e.0)) (entries-only grants_total exact_grants (λ g u. q g) grants) ∙ first_kept q (finite.entries grants)
+grants_kept q grants = ap (map (λ e. e.0)) (entries-entries_where grants_total exact_grants (λ g u. q g) grants) ∙ first_kept q (finite.entries grants)
 
 pub roles_found : (t : ℤ) (q : Grant → Bool) (versions : List (Version Grant)) (grants : Grants) → AreRolesAt t versions grants
-    → (found : List (Version Grant)) → IsPermutation found (filter (λ v. stands t v && q v.what) versions) → AreRolesAt t found (only (λ g u. q g) grants)
+    → (found : List (Version Grant)) → IsPermutation found (filter (λ v. stands t v && q v.what) versions) → AreRolesAt t found (entries_where (λ g u. q g) grants)
 roles_found t q versions grants part found are =
     subst (IsPermutation (standing t found)) (sym (grants_kept q grants)) (stand_of t q versions (grants_in grants) part found are)
 
 -- mandates, likewise
 
-mandates_kept : (q : Mandate → Bool) (mandates : Mandates) → mandates_in (only (λ m u. q m) mandates) ≡ filter q (mandates_in mandates)
+mandates_kept : (q : Mandate → Bool) (mandates : Mandates) → mandates_in (entries_where (λ m u. q m) mandates) ≡ filter q (mandates_in mandates)
 unfolding mandates_in
-mandates_kept q mandates = ap (map (λ e. e.0)) (entries-only mandates_total exact_mandates (λ m u. q m) mandates) ∙ first_kept q (finite.entries mandates)
+mandates_kept q mandates = ap (map (λ e. e.0)) (entries-entries_where mandates_total exact_mandates (λ m u. q m) mandates) ∙ first_kept q (finite.entries mandates)
 
 pub mandates_found : (t : ℤ) (q : Mandate → Bool) (versions : List (Version Mandate)) (mandates : Mandates) → AreMandatesAt t versions mandates
-    → (found : List (Version Mandate)) → IsPermutation found (filter (λ v. stands t v && q v.what) versions) → AreMandatesAt t found (only (λ m u. q m) mandates)
+    → (found : List (Version Mandate)) → IsPermutation found (filter (λ v. stands t v && q v.what) versions) → AreMandatesAt t found (entries_where (λ m u. q m) mandates)
 mandates_found t q versions mandates part found are =
     subst (IsPermutation (standing t found)) (sym (mandates_kept q mandates)) (stand_of t q versions (mandates_in mandates) part found are)
 
@@ -132,15 +132,15 @@ module _ (q : ℕ → Bool) where
       go false h = h
 
   pub groups_found : (t : ℤ) (versions : List (Version GroupMember)) (groups : FinMap nat_cmp Members) → AreGroupsAt t versions groups
-      → (found : List (Version GroupMember)) → IsPermutation found (filter (λ v. stands t v && q v.what.group) versions) → AreGroupsAt t found (only (λ n members. q n) groups)
+      → (found : List (Version GroupMember)) → IsPermutation found (filter (λ v. stands t v && q v.what.group) versions) → AreGroupsAt t found (entries_where (λ n members. q n) groups)
   groups_found t versions groups part found are =
-      let all : filter joins (group_members groups) ≡ group_members (only (λ n members. q n) groups) =
-      groups_kept (finite.entries groups) ∙ ap (flat_map listed) (sym (entries-only nat_cmp_total nat_cmp-IsAntisymmetric (λ n members. q n) groups)) in
+      let all : filter joins (group_members groups) ≡ group_members (entries_where (λ n members. q n) groups) =
+      groups_kept (finite.entries groups) ∙ ap (flat_map listed) (sym (entries-entries_where nat_cmp_total nat_cmp-IsAntisymmetric (λ n members. q n) groups)) in
       subst (IsPermutation (standing t found)) all (stand_of t joins versions (group_members groups) part found are)
 
   -- the groups of a filtered map have their members
-  pub still_have : (groups : FinMap nat_cmp Members) → HaveMembers groups → HaveMembers (only (λ n members. q n) groups)
+  pub still_have : (groups : FinMap nat_cmp Members) → HaveMembers groups → HaveMembers (entries_where (λ n members. q n) groups)
   still_have groups have group is =
-      let there = entry_found (only (λ n members. q n) groups) group finite.empty is in
-      let among = subst (λ es. Contains es (group, finite.empty)) (entries-only nat_cmp_total nat_cmp-IsAntisymmetric (λ n members. q n) groups) there in
+      let there = entry_found (entries_where (λ n members. q n) groups) group finite.empty is in
+      let among = subst (λ es. Contains es (group, finite.empty)) (entries-entries_where nat_cmp_total nat_cmp-IsAntisymmetric (λ n members. q n) groups) there in
       have group (entry_there groups (group, finite.empty) (passes_filter (λ e. q e.0) (finite.entries groups) (group, finite.empty) among).0)

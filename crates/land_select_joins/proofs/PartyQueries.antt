@@ -20,11 +20,11 @@ use Rattle.land_select_joins.proofs.Standing.{some_decides, stood as standing_un
 use Rattle.land_select_joins.proofs.RangeQueries.{asked, in_range, ranged}
 use Rattle.land_select_joins.proofs.Tested.{asked_is, itself}
 use Rattle.land_select_joins.specs.Joins.Meaning.{given}
-use Rattle.land_select_joins.specs.Joins.Running.{HoldsNone, asked_for}
-use Rattle.land_select_joins.specs.Lookups.Parties.{ArePartiesAmong, ArePartyRows, HasEntry, SayParties, has_entry_among, of_range, of_unit}
-use Rattle.land_select_joins.specs.Sights.Selections.{Entry, Stands}
+use Rattle.land_select_joins.specs.Joins.Execution.{HoldsNoHistory, known_or_zero}
+use Rattle.land_select_joins.specs.Lookups.Parties.{ArePartiesAmong, ArePartyRows, HasEntry, YieldParties, has_entry_among, of_range, of_unit}
+use Rattle.land_select_joins.specs.Sights.Selections.{Entry, IsCurrent}
 use Rattle.land_select_joins.specs.declared.lookups.texts.TheConstants.{PARTIES_OF_ENTRIES, PARTIES_OF_UNIT}
-use Rattle.land_tables_history.specs.History.{StandsAt}
+use Rattle.land_tables_history.specs.History.{IsRegisterAt}
 use Rattle.land_tables_history.specs.declared.history.History.{History}
 use Rattle.land_tables_history.specs.declared.moment.Moment.{Moment}
 use Rattle.land_tables_history.specs.declared.version.Version.{Version}
@@ -33,8 +33,8 @@ use Rattle.land_tables_rows.specs.Listing.Reading.{IsRead, parties}
 use Rattle.land_tables_rows.specs.Writing.History.{HoldsHistory}
 use Rattle.land_tables_rows.specs.declared.listing.fault.ReadFault.{ReadFault}
 use Rattle.land_tables_schema.proofs.Versions.{columns_of}
-use Rattle.land_tables_schema.specs.Land.{land_with}
-use Rattle.land_tables_schema.specs.Rows.Looks.{columns_from}
+use Rattle.land_tables_schema.specs.Schemas.{schema_v2_with}
+use Rattle.land_tables_schema.specs.Rows.ReadQueries.{columns_from}
 use Rattle.land_wire_json.specs.declared.bodies.wire_fault.WireFault.{WireFault}
 use Rattle.sqlite.specs.Listing.{understood}
 use Rattle.sqlite.specs.Program.{overlay}
@@ -85,7 +85,7 @@ module _ (t : ℤ) (meant : ℕ → RrrRecord → Bool) (filter : List Term) (pa
         p.0,
         ap parties.said shown ∙ p.2,
         record {
-          party_stands = stood t h.parties p.0 p.1 say.1.1.1.1.0 say.1.1.1.1.1.0;
+          party_exists = stood t h.parties p.0 p.1 say.1.1.1.1.0 say.1.1.1.1.1.0;
           entry = e.0.what;
           entry_stands = stood t h.rrrs e.0 e.1 say.1.1.0 say.1.1.1.0;
           is_meant = say.1.0;
@@ -96,7 +96,7 @@ module _ (t : ℤ) (meant : ℕ → RrrRecord → Bool) (filter : List Term) (pa
   is_said : (party : ℕ × PartyRecord) → HasEntry t h meant party → (row : Row) × Has rows row × ((v : PartyVersion) × (parties.said row ≡ Ok v) × (v.what ≡ party))
   is_said party it =
       let e = version t h.rrrs it.entry it.entry_stands in
-      let p = version t h.parties party it.party_stands in
+      let p = version t h.parties party it.party_exists in
       let one = read_back db moments h held place.rrrs (of it.entry e.since e.until) e.has in
       let other = read_back db moments h held place.parties (of party p.since p.until) p.has in
       let passed =
@@ -117,21 +117,21 @@ abbrev pub unit_query : Query
 unit_query = query_of unit_filter
 
 -- the statement is exactly this query
-pub asks_unit : (indexes : List Index) → Asks (land_with indexes) PARTIES_OF_UNIT.now unit_query
+pub asks_unit : (indexes : List Index) → Asks (schema_v2_with indexes) PARTIES_OF_UNIT.now unit_query
 unfolding understood everything
 asks_unit indexes = record { names = codes "number" ∷ codes "name" ∷ codes "kind" ∷ codes "since" ∷ codes "until" ∷ []; command = refl; unlisted = refl; plain = (refl, refl) }
 
-unit_pairs : (unit : ℕ) (t : ℤ) → Pairs t (of_unit unit) unit_filter (given (asked_for unit) t)
+unit_pairs : (unit : ℕ) (t : ℤ) → Pairs t (of_unit unit) unit_filter (given (known_or_zero unit) t)
 unit_pairs unit t e p one other is its =
-    let params = given (asked_for unit) t in
+    let params = given (known_or_zero unit) t in
     let asked = asked_is e.what.1.unit unit is.1.2 in
     Decides-like (list_all (holds (params ∷ one ∷ other ∷ [])) unit_filter) (λ h. (h.0, (asked.1 h.1.0, h.1.1))) (λ h. (h.0, (asked.0 h.1.0, h.1.1)))
     (all_decided unit_filter (params ∷ shape place.rrrs e ∷ shape place.parties p ∷ []) (params ∷ one ∷ other ∷ [])
     (shape_itself params, (is_shape (shape place.rrrs e) one is.0, (is_shape (shape place.parties p) other its.0, tt))) refl)
 
-pub are_unit_rows : (unit : ℕ) (t : ℤ) (db : Trees) (rows : List Row) → IsAnswer unit_query (overlay db []) (given (asked_for unit) t) rows → ArePartyRows (of_unit unit) t db rows
+pub are_unit_rows : (unit : ℕ) (t : ℤ) (db : Trees) (rows : List Row) → IsAnswer unit_query (overlay db []) (given (known_or_zero unit) t) rows → ArePartyRows (of_unit unit) t db rows
 are_unit_rows unit t db rows a moments h held =
-    let params = given (asked_for unit) t in
+    let params = given (known_or_zero unit) t in
     record { each = said_so t (of_unit unit) unit_filter params (unit_pairs unit t) db moments h held rows a; all = is_said t (of_unit unit) unit_filter params (unit_pairs unit t) db moments h held rows a }
 
 -- ---- the entries in a range
@@ -143,7 +143,7 @@ abbrev pub range_query : Query
 range_query = query_of range_filter
 
 -- the statement is exactly this query
-pub asks_range : (indexes : List Index) → Asks (land_with indexes) PARTIES_OF_ENTRIES.now range_query
+pub asks_range : (indexes : List Index) → Asks (schema_v2_with indexes) PARTIES_OF_ENTRIES.now range_query
 unfolding understood everything
 asks_range indexes = record { names = codes "number" ∷ codes "name" ∷ codes "kind" ∷ codes "since" ∷ codes "until" ∷ []; command = refl; unlisted = refl; plain = (refl, refl) }
 
@@ -166,7 +166,7 @@ are_range_rows first last t db rows a moments h held =
 same_fine : (v w : PartyVersion) → ◌≡◌ {A = Result PartyVersion WireFault} (Ok v) (Ok w) → v ≡ w
 same_fine v w e = cc
 
-module _ (rows : List Row) (Wanted : ℕ × PartyRecord → Type 0) (say : SayParties rows Wanted) where
+module _ (rows : List Row) (Wanted : ℕ × PartyRecord → Type 0) (say : YieldParties rows Wanted) where
   abbrev what_of : PartyVersion → ℕ × PartyRecord
   what_of v = v.what
 
@@ -195,8 +195,8 @@ module _ (rows : List Row) (Wanted : ℕ × PartyRecord → Type 0) (say : SayPa
   readable (row ∷ more) sub = let one = say.each row (sub row (inl refl)) in ((one.0, one.1), readable more (λ r has. sub r (inr has)))
 
 -- a party with a matching entry, by the current versions
-entry_decides : (r : Register) (t : ℤ) (h : History) → StandsAt t h r → (meant : ℕ → RrrRecord → Bool) (party : ℕ)
-    → Decides (has_entry_among r meant party) ((e : Entry) × Stands t h.rrrs e × ((meant e.0 e.1 ≡ true) × (e.1.party ≡ party)))
+entry_decides : (r : Register) (t : ℤ) (h : History) → IsRegisterAt t h r → (meant : ℕ → RrrRecord → Bool) (party : ℕ)
+    → Decides (has_entry_among r meant party) ((e : Entry) × IsCurrent t h.rrrs e × ((meant e.0 e.1 ≡ true) × (e.1.party ≡ party)))
 entry_decides r t h is meant party =
     some_decides t h.rrrs r.rrrs is.rrrs (λ n e. meant n e && nat_eq e.party party) (λ e. (meant e.0 e.1 ≡ true) × (e.1.party ≡ party))
     (λ e standing. Decides-and (meant e.0 e.1) (nat_eq e.1.party party) (itself (meant e.0 e.1)) (Decides-eqb e.1.party party))
@@ -206,9 +206,9 @@ module _ (meant : ℕ → RrrRecord → Bool) (t : ℤ) (db : Trees) (rows : Lis
   parties_told (Ok versions) read = λ moments h held r is party.
       let all = all_read rows (HasEntry t h meant) (are moments h held) versions (each_all parties.said rows versions read) party in
       let decided = entry_decides r t h is meant party.0 in (
-        (λ among. let it = all.0 among in (decided.1 (it.entry, it.entry_stands, (it.is_meant, it.of_party)), there t h.parties r.parties is.parties party it.party_stands)),
+        (λ among. let it = all.0 among in (decided.1 (it.entry, it.entry_stands, (it.is_meant, it.of_party)), there t h.parties r.parties is.parties party it.party_exists)),
         (λ both. let e = decided.0 both.0 in all.1 (record {
-          party_stands = standing_under t h.parties r.parties is.parties party.0 party.1 both.1;
+          party_exists = standing_under t h.parties r.parties is.parties party.0 party.1 both.1;
           entry = e.0;
           entry_stands = e.1;
           is_meant = e.2.0;
@@ -217,7 +217,7 @@ module _ (meant : ℕ → RrrRecord → Bool) (t : ℤ) (db : Trees) (rows : Lis
       )
   parties_told (Err fault) read = tt
 
-  pub none_held : (r : Result (List PartyVersion) ReadFault) → IsRead parties.said rows r → IfErr r (HoldsNone db)
+  pub none_held : (r : Result (List PartyVersion) ReadFault) → IsRead parties.said rows r → IfErr r (HoldsNoHistory db)
   none_held (Ok versions) read = tt
   none_held (Err fault) read = λ is moments h held.
       let it = each_from parties.said rows (readable rows (HasEntry t h meant) (are moments h held) rows (λ r has. has)) in

@@ -7,8 +7,8 @@ use Rattle.std.specs.Option.{option_map, option_map_or}
 use Rattle.std.specs.Ordering.{is_eq, nat_cmp}
 use Rattle.std.proofs.lemmas.Cmp.{nat_eq_equiv}
 use Rattle.land_core.proofs.FiniteSets.{exact_grants, grants_total}
-use Rattle.land_core.proofs.Reflection.{get-only}
-use Rattle.land_core.specs.Entries.{only}
+use Rattle.land_core.proofs.Reflection.{get-entries_where}
+use Rattle.land_core.specs.Entries.{entries_where}
 use Rattle.land_core.specs.Grants.{Grants, grant_of, has_grant}
 use Rattle.land_core.specs.Members.{Members, members_in}
 use Rattle.land_core.specs.Register.{nothing, object_at}
@@ -23,13 +23,13 @@ filter_alike p q same [] = refl
 filter_alike p q same (x ∷ xs) = ap₂ (λ b rest. cond b (x ∷ rest) rest) (same x) (filter_alike p q same xs)
 
 module _ (r : Register) (n : ℕ) where
-  pub by_its_own : (found : PartyRecord) (roles : Grants) (members : FinMap nat_cmp Members) → roles ≡ only (λ grant u. nat_eq grant.party n) r.roles → members ≡ only (λ k ms. nat_eq k n) r.members
+  pub by_its_own : (found : PartyRecord) (roles : Grants) (members : FinMap nat_cmp Members) → roles ≡ entries_where (λ grant u. nat_eq grant.party n) r.roles → members ≡ entries_where (λ k ms. nat_eq k n) r.members
       → object_at (record nothing { parties = map.insert map.empty n found; roles = roles; members = members }) kinds.Party n ≡ object_at (record r { parties = map.insert map.empty n found }) kinds.Party n
   by_its_own found roles members are_roles are_members =
-      let group : map.get members n ≡ map.get r.members n = ap (λ m. map.get m n) are_members ∙ get-only nat_cmp_total nat_cmp-IsAntisymmetric (λ k ms. nat_eq k n) r.members n (λ v. nat_eq_equiv.refl n) in
+      let group : map.get members n ≡ map.get r.members n = ap (λ m. map.get m n) are_members ∙ get-entries_where nat_cmp_total nat_cmp-IsAntisymmetric (λ k ms. nat_eq k n) r.members n (λ v. nat_eq_equiv.refl n) in
       let held : filter (λ role. has_grant roles (grant_of n role)) all_roles ≡ filter (λ role. has_grant r.roles (grant_of n role)) all_roles =
       filter_alike (λ role. has_grant roles (grant_of n role)) (λ role. has_grant r.roles (grant_of n role))
-      (λ role. ap (λ g. has_grant g (grant_of n role)) are_roles ∙ ap is_some (get-only grants_total exact_grants (λ grant u. nat_eq grant.party n) r.roles (grant_of n role) (λ v. nat_eq_equiv.refl n))) all_roles in
+      (λ role. ap (λ g. has_grant g (grant_of n role)) are_roles ∙ ap is_some (get-entries_where grants_total exact_grants (λ grant u. nat_eq grant.party n) r.roles (grant_of n role) (λ v. nat_eq_equiv.refl n))) all_roles in
       ap₂ (λ ms held. option_map object.Party (option_map (λ p. record { number = n; kind = p.kind; name = p.name; members = option_map_or members_in ms []; roles = held }) (map.get (map.insert (map.empty {R = nat_cmp}) n found) n))) group held
 
   -- the object of an existing party

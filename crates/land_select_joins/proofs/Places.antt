@@ -34,7 +34,7 @@ use Rattle.land_tables_rows.specs.Party.Reading.{party_in}
 use Rattle.land_tables_rows.specs.Party.Writing as party
 use Rattle.land_tables_rows.specs.Reading.Cells.{end_in, moment_in, name_in, number_in, flag_in, label_in, text_in, title_in, reference_in, share_in}
 use Rattle.land_tables_rows.specs.Reading.Words.{class_word_in, party_kind_in, role_in, source_kind_in, state_in}
-use Rattle.land_tables_rows.specs.Role.Reading.{grant_in}
+use Rattle.land_tables_rows.specs.Role.Reading.{role_grant_in}
 use Rattle.land_tables_rows.specs.Role.Writing as role
 use Rattle.land_tables_rows.specs.Rrr.Reading.{class_by, rrr_in}
 use Rattle.land_tables_rows.specs.Rrr.Writing as rrr
@@ -44,7 +44,7 @@ use Rattle.land_tables_rows.specs.Unit.Reading.{unit_in}
 use Rattle.land_tables_rows.specs.Unit.Writing as unit
 use Rattle.land_tables_rows.specs.Writing.History.{HoldsHistory}
 use Rattle.land_tables_rows.specs.Writing.Holding.{Keeps, Reading}
-use Rattle.land_tables_schema.specs.Rows.Looks.{columns_from}
+use Rattle.land_tables_schema.specs.Rows.ReadQueries.{columns_from}
 use Rattle.land_tables_schema.specs.Rows.Versions.{whole}
 use Rattle.land_wire_json.specs.Bodies.Mutations.{content_in}
 use Rattle.land_wire_json.specs.Bodies.Outlines.{outline_of}
@@ -208,7 +208,7 @@ a_member r v e =
     )
 
 a_grant : Shows roles
-unfolding grant_in
+unfolding role_grant_in
 a_grant r v e =
     let a = stepped (number_in (column r 1)) _ v e in
     let b = stepped (role_in (column r 2)) _ v a.rest in

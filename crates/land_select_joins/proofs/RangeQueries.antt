@@ -17,7 +17,7 @@ use Rattle.land_tables_history.specs.Standing.{stands}
 use Rattle.land_tables_history.specs.declared.version.Version.{Version}
 use Rattle.land_tables_schema.proofs.Updates.{passes, plainly}
 use Rattle.land_tables_schema.proofs.Versions.{columns_of}
-use Rattle.land_tables_schema.specs.Land.{land_with}
+use Rattle.land_tables_schema.specs.Schemas.{schema_v2_with}
 use Rattle.sqlite.specs.Listing.{understood}
 use Rattle.sqlite.specs.Program.{overlay}
 use Rattle.sqlite.specs.Query.{IsAnswer, Query}
@@ -66,7 +66,7 @@ abbrev pub query_of : Kind → Query
 query_of k = plainly (listing_of k).table.tree (filter_of k) (project_of k)
 
 -- each statement is exactly its query
-pub asks : (k : Kind) (indexes : List Index) → Asks (land_with indexes) (text_within k) (query_of k)
+pub asks : (k : Kind) (indexes : List Index) → Asks (schema_v2_with indexes) (text_within k) (query_of k)
 unfolding understood everything
 asks kind.Party indexes = record { names = codes "number" ∷ codes "name" ∷ codes "kind" ∷ codes "since" ∷ codes "until" ∷ []; command = refl; unlisted = refl; plain = (refl, refl) }
 asks kind.Unit indexes = record { names = codes "number" ∷ codes "name" ∷ codes "checked" ∷ codes "since" ∷ codes "until" ∷ []; command = refl; unlisted = refl; plain = (refl, refl) }

@@ -12,11 +12,11 @@ use Rattle.land_select_joins.proofs.Passing.{passing_said, some_said}
 use Rattle.land_select_joins.proofs.Queries.{filter_of, project_of, query_of, shown, stored, tests}
 use Rattle.land_select_joins.proofs.Standing.{entry_found, entry_there}
 use Rattle.land_select_joins.specs.Joins.Meaning.{given}
-use Rattle.land_select_joins.specs.Joins.Running.{HoldsNone, OfHeld, asked_for}
-use Rattle.land_select_joins.specs.Lookups.RecordRows.{AreRows, AreRowsOf, AreSaid, AreSaidOf, CannotBeSaid, CannotBeRead, Found, IsOneOf, is_meant, listing_of, wanted}
+use Rattle.land_select_joins.specs.Joins.Execution.{HoldsNoHistory, HoldsOfHistory, known_or_zero}
+use Rattle.land_select_joins.specs.Lookups.RecordRows.{AreRows, AreRowsOf, AreReadFrom, AreReadByLookup, LookupCannotBeRead, CannotBeRead, LookupItem, IsOneOf, is_meant, listing_of, wanted}
 use Rattle.land_select_joins.specs.Lookups.Numbered.{IsFoundBy}
-use Rattle.land_select_joins.specs.Lookups.Parts.{IsPart}
-use Rattle.land_select_joins.specs.declared.lookups.record_lookup.LookUp.{LookUp}
+use Rattle.land_select_joins.specs.Lookups.Parts.{ReadsPart}
+use Rattle.land_select_joins.specs.declared.lookups.record_lookup.RecordLookup.{RecordLookup}
 use Rattle.land_tables_history.proofs.Permutations.{filter_permuted}
 use Rattle.land_tables_history.specs.Standing.{IsPartAt, stands, standing}
 use Rattle.land_tables_history.specs.declared.history.History.{History}
@@ -66,13 +66,13 @@ module _ {X : Type 0} (listing : Listing (Version X)) (terms columns : List Term
       (passing_said said_of passing (λ v. stands t v && meant v.what) tested whole versions says)
 
 -- the result of a lookup's statement has the rows of the lookup
-pub are_rows_of : (l : LookUp) (number : ℕ) (t : ℤ) (db : Trees) (rows : List Row) → IsAnswer (query_of l) (overlay db []) (given (asked_for number) t) rows → AreRowsOf l number t db rows
+pub are_rows_of : (l : RecordLookup) (number : ℕ) (t : ℤ) (db : Trees) (rows : List Row) → IsAnswer (query_of l) (overlay db []) (given (known_or_zero number) t) rows → AreRowsOf l number t db rows
 are_rows_of l number t db rows answer =
-    are_rows (listing_of l) (filter_of l) (project_of l) (given (asked_for number) t) (is_meant l number) t db (stored l db) (shown l (given (asked_for number) t)) (λ r v e. tests l r v e number t) rows answer
+    are_rows (listing_of l) (filter_of l) (project_of l) (given (known_or_zero number) t) (is_meant l number) t db (stored l db) (shown l (given (known_or_zero number) t)) (λ r v e. tests l r v e number t) rows answer
 
 -- the decoded values of such rows
 module _ {X : Type 0} (said : Row → Result X WireFault) (Are : List Row → Type 0) (rows : List Row) (are : Are rows) where
-  pub said_of : (r : Result (List X) ReadFault) → IsRead said rows r → IfOk r (AreSaid said Are)
+  pub said_of : (r : Result (List X) ReadFault) → IsRead said rows r → IfOk r (AreReadFrom said Are)
   said_of (Ok xs) read = (rows, are, read)
   said_of (Err fault) read = tt
 
@@ -94,17 +94,17 @@ module _ {X : Type 0} (said : Row → Result X WireFault) (rows : List Row) (wan
       let read = some_said said rows wants are in
       cannot read.0 read.1
 
-module _ (l : LookUp) (number : ℕ) (t : ℤ) (db : Trees) (versions : List (Version (Found l))) (says : Says (listing_of l) db versions) where
-  pub are_wanted : (found : List (Version (Found l))) → AreSaidOf (listing_of l).said l number t db found → IsPermutation found (wanted (is_meant l number) t versions)
+module _ (l : RecordLookup) (number : ℕ) (t : ℤ) (db : Trees) (versions : List (Version (LookupItem l))) (says : Says (listing_of l) db versions) where
+  pub are_wanted : (found : List (Version (LookupItem l))) → AreReadByLookup (listing_of l).said l number t db found → IsPermutation found (wanted (is_meant l number) t versions)
   are_wanted found said = all_wanted (listing_of l).said said.0 (wanted (is_meant l number) t versions) (said.1 versions says) found said.2
 
 -- so they are called unreadable only if the tables hold no history
-pub none_held : {Y : Type 0} (db : Trees) (r : Result Y ReadFault) (fault : ReadFault) → IsErrAnd r (λ f. f ≡ fault) → HoldsNone db fault → IfErr r (HoldsNone db)
+pub none_held : {Y : Type 0} (db : Trees) (r : Result Y ReadFault) (fault : ReadFault) → IsErrAnd r (λ f. f ≡ fault) → HoldsNoHistory db fault → IfErr r (HoldsNoHistory db)
 none_held db (Ok y) fault same none = absurd same
 none_held db (Err f) fault same none = λ is. none (sym same ∙ is)
 
-pub none_said : {Y : Type 0} (l : LookUp) (number : ℕ) (t : ℤ) (db : Trees) (versions : History → List (Version (Found l))) → OfHeld db (λ h. Says (listing_of l) db (versions h))
-    → (r : Result Y ReadFault) (fault : ReadFault) → IsErrAnd r (λ f. f ≡ fault) → CannotBeSaid (listing_of l).said l number t db fault → IfErr r (HoldsNone db)
+pub none_said : {Y : Type 0} (l : RecordLookup) (number : ℕ) (t : ℤ) (db : Trees) (versions : History → List (Version (LookupItem l))) → HoldsOfHistory db (λ h. Says (listing_of l) db (versions h))
+    → (r : Result Y ReadFault) (fault : ReadFault) → IsErrAnd r (λ f. f ≡ fault) → LookupCannotBeRead (listing_of l).said l number t db fault → IfErr r (HoldsNoHistory db)
 none_said l number t db versions says r fault same cannot =
     none_held db r fault same
     (λ is moments h held. let it = cannot is in can_be_read (listing_of l).said it.0 (wanted (is_meant l number) t (versions h)) (it.1 (versions h) (says moments h held)) it.2)
@@ -178,13 +178,13 @@ module _ {V : Type 0} (t : ℤ) (versions : List (Version (ℕ × V))) (m : FinM
       ap (λ x. Some x) (sym one.2) ∙ sym (entry_there m v.what it.0) ∙ ap (finite.get m) ((Decides-eqb v.what.0 number).0 it.1)
 
 -- the record that a lookup returns
-module _ {V : Type 0} (said : Row → Result (Version (ℕ × V)) WireFault) (l : LookUp) (part : Register → FinMap nat_cmp V) (by : IsFoundBy said l part) (number : ℕ) (t : ℤ) (db : Trees) where
-  pub is_record : (found : List (Version (ℕ × V))) → AreSaidOf said l number t db found → (o : Option V) → IsOneOf found o → IsPart (λ r. finite.get (part r) number) t db o
+module _ {V : Type 0} (said : Row → Result (Version (ℕ × V)) WireFault) (l : RecordLookup) (part : Register → FinMap nat_cmp V) (by : IsFoundBy said l part) (number : ℕ) (t : ℤ) (db : Trees) where
+  pub is_record : (found : List (Version (ℕ × V))) → AreReadByLookup said l number t db found → (o : Option V) → IsOneOf found o → ReadsPart (λ r. finite.get (part r) number) t db o
   is_record found read o one moments h held r have stands =
       let it = by db moments h held in
       record_is t it.versions (part r) (it.stand t r stands) number found (all_wanted said read.0 (wanted (λ e. nat_eq e.0 number) t it.versions) (it.found number t read.0 read.1) found read.2) o one
 
-  pub holds_none : (fault : ReadFault) → CannotBeSaid said l number t db fault → HoldsNone db fault
+  pub holds_none : (fault : ReadFault) → LookupCannotBeRead said l number t db fault → HoldsNoHistory db fault
   holds_none fault cannot is moments h held =
       let it = by db moments h held in
       let no = cannot is in

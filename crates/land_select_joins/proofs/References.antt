@@ -6,7 +6,7 @@ use Rattle.std.specs.Option.{option_map_or}
 use Rattle.std.specs.Ordering.{nat_cmp}
 use Rattle.land_core.proofs.FiniteMaps.{none_is_not_some}
 use Rattle.land_core.specs.Entries.{has}
-use Rattle.land_core.specs.Laws.{IsSoundByLookUps, SoundnessByLookUps}
+use Rattle.land_core.specs.Laws.{IsSoundByNumber, SoundnessByNumber}
 use Rattle.land_core.specs.Members.{Members}
 use Rattle.land_core.specs.Register.{has_group, has_single_party, is_member, nothing}
 use Rattle.land_core.specs.declared.party.PartyRecord.{PartyRecord}
@@ -14,7 +14,7 @@ use Rattle.land_core.specs.declared.register.Register.{Register}
 use Rattle.land_fraction.specs.Ratio.{Ratio}
 use Rattle.land_rules.specs.Laws.{IsSoundOrNothing}
 use Rattle.land_select_joins.proofs.Views.{Refers}
-use Rattle.land_select_joins.specs.Sights.Laws.{IsNobody}
+use Rattle.land_select_joins.specs.Sights.Laws.{IsNeverParty}
 
 -- a party with a kind exists
 party_there : (o : Option PartyRecord) (test : PartyRecord → Bool) → option_map_or test o false ≡ true → is_some o ≡ true
@@ -42,7 +42,7 @@ module _ (r : Register) (grouped : (group : ℕ) (members : Members) → map.get
       found None at has_it = absurd (false≢true has_it)
       found (Some members) at has_it = inside members at (map.get members party) refl has_it
 
-sound_refers : (r : Register) → IsSoundByLookUps r → Refers r
+sound_refers : (r : Register) → IsSoundByNumber r → Refers r
 sound_refers r sound =
     let grouped = λ (group : ℕ) (members : Members) (is : map.get r.members group ≡ Some members). (sound.members group members is).grouped in
     let single = λ (group : ℕ) (members : Members) (is : map.get r.members group ≡ Some members). (sound.members group members is).single in
@@ -71,16 +71,16 @@ nothing_refers =
       lodger = λ n m is. no_record n m is;
     }
 
-pub refers : SoundnessByLookUps → (r : Register) → IsSoundOrNothing r → Refers r
+pub refers : SoundnessByNumber → (r : Register) → IsSoundOrNothing r → Refers r
 refers look_ups r (inl sound) = sound_refers r ((look_ups r).0 sound)
 refers look_ups r (inr none) = subst Refers (sym none) nothing_refers
 
 -- no party has a number out of range
-apart : (n next : ℕ) → IsNobody n → 0 < n → n < next → next ≤ 1000000001 → ⊥
+apart : (n next : ℕ) → IsNeverParty n → 0 < n → n < next → next ≤ 1000000001 → ⊥
 apart n next (inl zero) positive below room = omega (arith, zero)
 apart n next (inr past) positive below room = omega (arith, past)
 
-pub nobody_stands : SoundnessByLookUps → (r : Register) → IsSoundOrNothing r → (n : ℕ) (p : PartyRecord) → IsNobody n → map.get r.parties n ≡ Some p → ⊥
+pub nobody_stands : SoundnessByNumber → (r : Register) → IsSoundOrNothing r → (n : ℕ) (p : PartyRecord) → IsNeverParty n → map.get r.parties n ≡ Some p → ⊥
 nobody_stands look_ups r (inl sound) n p nobody is =
     let told = (look_ups r).0 sound in
     let used = told.numbers_of_parties n p is in

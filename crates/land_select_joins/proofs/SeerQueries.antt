@@ -7,16 +7,16 @@ use Rattle.land_select_joins.proofs.Places.{Place, as_stored, mutations, names, 
 use Rattle.land_select_joins.proofs.Selected.{a_mortgage, a_right, by_creditor, by_holder, of, stood, to_creditor, to_holder, undecided, version}
 use Rattle.land_select_joins.proofs.Sets.{cut, uncut}
 use Rattle.land_select_joins.specs.Joins.Meaning.{AreNumberRows, given}
-use Rattle.land_select_joins.specs.Joins.Running.{OfHeld, asked_for}
-use Rattle.land_select_joins.specs.Lookups.Seers.{IsSeer}
-use Rattle.land_select_joins.specs.Lookups.Texts.{seer_text_of}
-use Rattle.land_select_joins.specs.Sights.Selections.{Entry, IsToldToCreditor, Stands}
+use Rattle.land_select_joins.specs.Joins.Execution.{HoldsOfHistory, known_or_zero}
+use Rattle.land_select_joins.specs.Lookups.Viewers.{IsViewer}
+use Rattle.land_select_joins.specs.Lookups.Texts.{viewer_text_of}
+use Rattle.land_select_joins.specs.Sights.Selections.{Entry, IsVisibleToCreditor, IsCurrent}
 use Rattle.land_select_joins.specs.declared.lookups.relation.Relation.{Relation}
 use Rattle.land_select_joins.specs.declared.lookups.relation.Relation.TheVariants as relation
 use Rattle.land_tables_history.specs.declared.history.History.{History}
 use Rattle.land_tables_history.specs.declared.moment.Moment.{Moment}
 use Rattle.land_tables_rows.specs.Writing.History.{HoldsHistory}
-use Rattle.land_tables_schema.specs.Land.{land_with}
+use Rattle.land_tables_schema.specs.Schemas.{schema_v2_with}
 use Rattle.sqlite.specs.Listing.{understood}
 use Rattle.sqlite.specs.Program.{overlay}
 use Rattle.sqlite.specs.Query.{IsAnswer, Query}
@@ -52,7 +52,7 @@ abbrev pub query_of : Relation → Query
 query_of relation = cut 17 (from (places_of relation)) (filter_of relation) (shown_of relation ∷ [])
 
 -- each statement is exactly its query
-pub asks : (relation : Relation) (indexes : List Index) → Asks (land_with indexes) (seer_text_of relation) (query_of relation)
+pub asks : (relation : Relation) (indexes : List Index) → Asks (schema_v2_with indexes) (viewer_text_of relation) (query_of relation)
 unfolding understood everything
 asks relation.Holding indexes = record { names = codes "party" ∷ []; command = refl; unlisted = refl; plain = (refl, refl) }
 asks relation.Crediting indexes = record { names = codes "party" ∷ []; command = refl; unlisted = refl; plain = (refl, refl) }
@@ -66,7 +66,7 @@ known_of relation.Awaiting = record { simple = refl; known = λ caller t r n m. 
 -- ---- the terms of a statement select the viewers of the party
 
 module _ (h : History) (party : ℕ) (t : ℤ) (seer : ℕ) where
-  holders : Says (rrrs ∷ rrrs ∷ []) (filter_of relation.Holding) (col 2 3) h party t seer ↔ IsSeer relation.Holding t h party seer
+  holders : Says (rrrs ∷ rrrs ∷ []) (filter_of relation.Holding) (col 2 3) h party t seer ↔ IsViewer relation.Holding t h party seer
   holders = (
     (λ g. let s = g.0 in let e = g.2.0 in let say = g.2.2.0 in (
       s.what,
@@ -75,7 +75,7 @@ module _ (h : History) (party : ℕ) (t : ℤ) (seer : ℕ) where
         interest = record { stands = stood t h.rrrs e g.2.1 say.1.1.1.1.1.1.0 say.1.1.1.1.1.1.1.0; party = g.2.2.1; class = (a_right e.what.1.class).1 say.1.1.0 };
         stands = stood t h.rrrs s g.1 say.1.1.1.1.0 say.1.1.1.1.1.0;
         unit = sym say.0;
-        tells = to_holder e.what s.what say.1.1.1.0;
+        yields = to_holder e.what s.what say.1.1.1.0;
       },
       say.1.0,
     )),
@@ -86,14 +86,14 @@ module _ (h : History) (party : ℕ) (t : ℤ) (seer : ℕ) where
         of told.held e.since e.until,
         e.has,
         (
-          (sym told.unit, (x.2, ((a_right told.held.1.class).0 told.interest.class, (by_holder told.held x.0 told.tells, (s.begun, (s.going, (e.begun, (e.going, tt)))))))),
+          (sym told.unit, (x.2, ((a_right told.held.1.class).0 told.interest.class, (by_holder told.held x.0 told.yields, (s.begun, (s.going, (e.begun, (e.going, tt)))))))),
           told.interest.party,
         ),
       ),
     )),
   )
 
-  creditors : Says (rrrs ∷ rrrs ∷ []) (filter_of relation.Crediting) (col 2 3) h party t seer ↔ IsSeer relation.Crediting t h party seer
+  creditors : Says (rrrs ∷ rrrs ∷ []) (filter_of relation.Crediting) (col 2 3) h party t seer ↔ IsViewer relation.Crediting t h party seer
   creditors = (
     (λ g. let s = g.0 in let e = g.2.0 in let say = g.2.2.0 in (
       s.what,
@@ -102,7 +102,7 @@ module _ (h : History) (party : ℕ) (t : ℤ) (seer : ℕ) where
         interest = record { stands = stood t h.rrrs e g.2.1 say.1.1.1.1.1.1.0 say.1.1.1.1.1.1.1.0; party = g.2.2.1; class = (a_mortgage e.what.1.class).1 say.1.1.0 };
         stands = stood t h.rrrs s g.1 say.1.1.1.1.0 say.1.1.1.1.1.0;
         unit = sym say.0;
-        tells = subst (λ c. IsToldToCreditor c s.what) g.2.2.1 (to_creditor e.what.1.party s.what say.1.1.1.0);
+        yields = subst (λ c. IsVisibleToCreditor c s.what) g.2.2.1 (to_creditor e.what.1.party s.what say.1.1.1.0);
       },
       say.1.0,
     )),
@@ -120,7 +120,7 @@ module _ (h : History) (party : ℕ) (t : ℤ) (seer : ℕ) where
               (
                 (a_mortgage told.held.1.class).0 told.interest.class,
                 (
-                  by_creditor told.held.1.party x.0 (subst (λ c. IsToldToCreditor c x.0) (sym told.interest.party) told.tells),
+                  by_creditor told.held.1.party x.0 (subst (λ c. IsVisibleToCreditor c x.0) (sym told.interest.party) told.yields),
                   (s.begun, (s.going, (e.begun, (e.going, tt)))),
                 ),
               ),
@@ -132,7 +132,7 @@ module _ (h : History) (party : ℕ) (t : ℤ) (seer : ℕ) where
     )),
   )
 
-  lodgers : Says (rrrs ∷ names ∷ mutations ∷ []) (filter_of relation.Awaiting) (col 3 2) h party t seer ↔ IsSeer relation.Awaiting t h party seer
+  lodgers : Says (rrrs ∷ names ∷ mutations ∷ []) (filter_of relation.Awaiting) (col 3 2) h party t seer ↔ IsViewer relation.Awaiting t h party seer
   lodgers = (
     (λ g. let s = g.0 in let n = g.2.0 in let m = g.2.2.0 in let say = g.2.2.2.0 in (
       s.what,
@@ -169,7 +169,7 @@ module _ (h : History) (party : ℕ) (t : ℤ) (seer : ℕ) where
     )),
   )
 
-pub told_by : (relation : Relation) (h : History) (party : ℕ) (t : ℤ) (seer : ℕ) → Says (places_of relation) (filter_of relation) (shown_of relation) h party t seer ↔ IsSeer relation t h party seer
+pub told_by : (relation : Relation) (h : History) (party : ℕ) (t : ℤ) (seer : ℕ) → Says (places_of relation) (filter_of relation) (shown_of relation) h party t seer ↔ IsViewer relation t h party seer
 told_by relation.Holding = holders
 told_by relation.Crediting = creditors
 told_by relation.Awaiting = lodgers
@@ -177,13 +177,13 @@ told_by relation.Awaiting = lodgers
 -- ---- a number that no object can have
 
 module _ (db : Trees) (moments : List Moment) (h : History) (held : HoldsHistory db moments h) (t : ℤ) where
-  of_entry : (e : Entry) → Stands t h.rrrs e → (party : ℕ) → e.1.party ≡ party → is_number party ≡ true
+  of_entry : (e : Entry) → IsCurrent t h.rrrs e → (party : ℕ) → e.1.party ≡ party → is_number party ≡ true
   of_entry e stands party is =
       let v = version t h.rrrs e stands in
       ap is_number (sym is) ∙ (row_of db moments h held rrrs (of e v.since v.until) v.has).2.1.0
 
   -- only a party with a number in range has viewers
-  party_within : (relation : Relation) (party seer : ℕ) → IsSeer relation t h party seer → is_number party ≡ true
+  party_within : (relation : Relation) (party seer : ℕ) → IsViewer relation t h party seer → is_number party ≡ true
   party_within relation.Holding party seer x = of_entry x.0 x.1.stands party x.2
   party_within relation.Crediting party seer x = of_entry x.0 x.1.stands party x.2
   party_within relation.Awaiting party seer x = of_entry x.0 x.1.stands party x.2
@@ -192,19 +192,19 @@ module _ (db : Trees) (moments : List Moment) (h : History) (held : HoldsHistory
   none party out is = absurd (true≢false (sym is ∙ out))
 
   -- so a party has the viewers of its replacement
-  asked_so : (relation : Relation) (party seer : ℕ) → IsSeer relation t h (asked_for party) seer ↔ IsSeer relation t h party seer
+  asked_so : (relation : Relation) (party seer : ℕ) → IsViewer relation t h (known_or_zero party) seer ↔ IsViewer relation t h party seer
   asked_so relation party seer = go (is_number party) refl
     where
-      go : (b : Bool) → is_number party ≡ b → IsSeer relation t h (if b then party else 0) seer ↔ IsSeer relation t h party seer
+      go : (b : Bool) → is_number party ≡ b → IsViewer relation t h (if b then party else 0) seer ↔ IsViewer relation t h party seer
       go true is = ((λ x. x), (λ x. x))
       go false is = ((λ x. none 0 refl (party_within relation 0 seer x)), (λ x. none party is (party_within relation party seer x)))
 
 -- ---- results
 
 -- the result of a relation's statement has all its viewers, if there are few rows
-pub are_few : (relation : Relation) (party : ℕ) (t : ℤ) (db : Trees) (rows : List Row) → IsAnswer (query_of relation) (overlay db []) (given (asked_for party) t) rows → length rows ≤ 16 → OfHeld db (λ h. AreNumberRows rows (IsSeer relation t h party))
-are_few relation party t db rows cut_off few moments h held =
-    let asked = asked_for party in
+pub are_within_limit : (relation : Relation) (party : ℕ) (t : ℤ) (db : Trees) (rows : List Row) → IsAnswer (query_of relation) (overlay db []) (given (known_or_zero party) t) rows → length rows ≤ 16 → HoldsOfHistory db (λ h. AreNumberRows rows (IsViewer relation t h party))
+are_within_limit relation party t db rows cut_off few moments h held =
+    let asked = known_or_zero party in
     let ps = places_of relation in
     let fs = filter_of relation in
     let shown = shown_of relation in

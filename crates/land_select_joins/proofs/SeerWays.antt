@@ -15,8 +15,8 @@ use Rattle.land_select_joins.proofs.Sets.{no_more}
 use Rattle.land_select_joins.proofs.Shapes.{AreShapes, all_decided, shape_itself}
 use Rattle.land_select_joins.proofs.Ways.{Lives, counted, lives, same_bool, three, two, ways_through}
 use Rattle.land_select_joins.specs.Joins.Meaning.{given}
-use Rattle.land_select_joins.specs.Joins.Running.{OfHeld, asked_for}
-use Rattle.land_select_joins.specs.Lookups.Seers.{is_told_to_creditor, is_told_to_holder, is_told_to_lodger, ways}
+use Rattle.land_select_joins.specs.Joins.Execution.{HoldsOfHistory, known_or_zero}
+use Rattle.land_select_joins.specs.Lookups.Viewers.{is_visible_to_creditor, is_visible_to_holder, is_told_to_lodger, count_ways}
 use Rattle.land_select_joins.specs.Sights.Selections.{Entry}
 use Rattle.land_select_joins.specs.declared.lookups.relation.Relation.{Relation}
 use Rattle.land_select_joins.specs.declared.lookups.relation.Relation.TheVariants as relation
@@ -72,13 +72,13 @@ module _ (party : ℕ) (t : ℤ) where
   itself : (v w : Version Entry) → AreShapes (two_rows v w) (two_rows v w)
   itself v w = (shape_itself (given party t), (shape_itself (shape rrrs v), (shape_itself (shape rrrs w), tt)))
 
-  held_so : (v w : Version Entry) → passes relation.Holding (two_rows v w) ≡ (stands t v && (stands t w && is_told_to_holder party v.what w.what))
+  held_so : (v w : Version Entry) → passes relation.Holding (two_rows v w) ≡ (stands t v && (stands t w && is_visible_to_holder party v.what w.what))
   held_so v w =
       let known = (and_parts _ _ ((known_of relation.Holding).known party t v w)).0 in
       of_two _ _ _ _ _ v w (Decides-eqb w.what.1.unit v.what.1.unit) (Decides-eqb v.what.1.party party) (a_right w.what.1.class)
       (Decides-or _ _ (word_decides v.what.1.class) (an_ownership w.what.1.class)) (all_decided (filter_of relation.Holding) (two_rows v w) (two_rows v w) (itself v w) known)
 
-  credited_so : (v w : Version Entry) → passes relation.Crediting (two_rows v w) ≡ (stands t v && (stands t w && is_told_to_creditor party v.what w.what))
+  credited_so : (v w : Version Entry) → passes relation.Crediting (two_rows v w) ≡ (stands t v && (stands t w && is_visible_to_creditor party v.what w.what))
   credited_so v w =
       let known = (and_parts _ _ ((known_of relation.Crediting).known party t v w)).0 in
       of_two _ _ _ _ _ v w (Decides-eqb w.what.1.unit v.what.1.unit) (Decides-eqb v.what.1.party party) (a_mortgage w.what.1.class)
@@ -96,16 +96,16 @@ module _ (party : ℕ) (t : ℤ) where
       (all_decided (filter_of relation.Awaiting) (three_rows u v w) (three_rows u v w) itself known)
 
   -- the matches of the join are these pairs
-  told_ways : (relation : Relation) (h : History) → ways_through h (places_of relation) (passes relation) (given party t ∷ []) ≡ ways relation t h party
-  told_ways relation.Holding h = two t true h.rrrs h.rrrs (λ v w. passes relation.Holding (two_rows v w)) (is_told_to_holder party) held_so
-  told_ways relation.Crediting h = two t true h.rrrs h.rrrs (λ v w. passes relation.Crediting (two_rows v w)) (is_told_to_creditor party) credited_so
+  told_ways : (relation : Relation) (h : History) → ways_through h (places_of relation) (passes relation) (given party t ∷ []) ≡ count_ways relation t h party
+  told_ways relation.Holding h = two t true h.rrrs h.rrrs (λ v w. passes relation.Holding (two_rows v w)) (is_visible_to_holder party) held_so
+  told_ways relation.Crediting h = two t true h.rrrs h.rrrs (λ v w. passes relation.Crediting (two_rows v w)) (is_visible_to_creditor party) credited_so
   told_ways relation.Awaiting h = three t h.rrrs h.namings h.mutations (λ u v w. passes relation.Awaiting (three_rows u v w)) (is_told_to_lodger party) lodged_so
 
 -- many rows: many pairs
-pub are_many : (relation : Relation) (party : ℕ) (t : ℤ) (db : Trees) (rows : List Row) → IsAnswer (query_of relation) (overlay db []) (given (asked_for party) t) rows
-    → 16 < length rows → OfHeld db (λ h. 16 < ways relation t h (asked_for party))
+pub are_many : (relation : Relation) (party : ℕ) (t : ℤ) (db : Trees) (rows : List Row) → IsAnswer (query_of relation) (overlay db []) (given (known_or_zero party) t) rows
+    → 16 < length rows → HoldsOfHistory db (λ h. 16 < count_ways relation t h (known_or_zero party))
 are_many relation party t db rows a long moments h held =
-    let asked = asked_for party in
+    let asked = known_or_zero party in
     let ps = places_of relation in
     let fs = filter_of relation in
     let shown = shown_of relation in

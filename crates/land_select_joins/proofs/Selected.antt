@@ -21,7 +21,7 @@ use Rattle.land_select_joins.proofs.Places.{Place, parties, members, units, parc
 use Rattle.land_select_joins.proofs.Words.{entry_word}
 use Rattle.land_select_joins.specs.Joins.Meaning.{TextsSelect}
 use Rattle.land_select_joins.specs.Joins.Texts.{text_of}
-use Rattle.land_select_joins.specs.Sights.Selections.{Awaits, Credits, Entry, HoldsItself, HoldsThrough, IsAwaited, IsTold, IsToldToCreditor, IsToldToHolder, Stands, StandsUnder, selects}
+use Rattle.land_select_joins.specs.Sights.Selections.{LodgedPending, Credits, Entry, HoldsItself, HoldsThrough, IsPendingEntry, IsVisibleEntry, IsVisibleToCreditor, IsVisibleToHolder, IsCurrent, IsCurrentUnder, selects}
 use Rattle.land_select_joins.specs.declared.sights.selection.Selection.{Selection}
 use Rattle.land_select_joins.specs.declared.sights.selection.Selection.TheVariants as selection
 use Rattle.land_tables_history.specs.Standing.{stands, standing}
@@ -55,7 +55,7 @@ was_kept p (y ∷ ys) x h = go (p y) refl h (was_kept p ys x)
     go false is rest later = let it = later rest in (inr it.0, it.1)
 
 -- a version whose lifespan includes the time is current
-pub stood : {X : Type 0} (t : ℤ) (vs : List (Version X)) (v : Version X) → Has vs v → int_le v.since t ≡ true → int_lt t v.until ≡ true → Stands t vs v.what
+pub stood : {X : Type 0} (t : ℤ) (vs : List (Version X)) (v : Version X) → Has vs v → int_le v.since t ≡ true → int_lt t v.until ≡ true → IsCurrent t vs v.what
 stood t vs v has begun going =
     contains_had (standing t vs) v.what (mapped_has (λ v. v.what) (filter (stands t) vs) v (kept (stands t) vs v has (and_from (int_le v.since t) (int_lt t v.until) begun going)))
 
@@ -67,7 +67,7 @@ pub record IsVersion {X : Type 0} (t : ℤ) (vs : List (Version X)) (x : X) : Ty
   pub begun : int_le since t ≡ true
   pub going : int_lt t until ≡ true
 
-pub version : {X : Type 0} (t : ℤ) (vs : List (Version X)) (x : X) → Stands t vs x → IsVersion t vs x
+pub version : {X : Type 0} (t : ℤ) (vs : List (Version X)) (x : X) → IsCurrent t vs x → IsVersion t vs x
 version t vs x standing_there =
     let it = has_mapped (λ v. v.what) (filter (stands t) vs) x (has_contained (standing t vs) x standing_there) in
     let v = it.0 in
@@ -148,19 +148,19 @@ other_word c = not_from_Decides (is_mortgage c) (a_mortgage c)
 abbrev pub SaysToHolder : (held seen : Class) → Type 0
 SaysToHolder held seen = (¬ HasWord seen (codes "mortgage")) ⊎ HasWord held (codes "ownership")
 
-pub to_holder : (held seen : Entry) → SaysToHolder held.1.class seen.1.class → IsToldToHolder held seen
+pub to_holder : (held seen : Entry) → SaysToHolder held.1.class seen.1.class → IsVisibleToHolder held seen
 to_holder held seen (inl other) = inl (no_mortgage seen.1.class other)
 to_holder held seen (inr owner) = inr ((an_ownership held.1.class).1 owner)
 
-pub by_holder : (held seen : Entry) → IsToldToHolder held seen → SaysToHolder held.1.class seen.1.class
+pub by_holder : (held seen : Entry) → IsVisibleToHolder held seen → SaysToHolder held.1.class seen.1.class
 by_holder held seen (inl other) = inl (other_word seen.1.class other)
 by_holder held seen (inr owner) = inr ((an_ownership held.1.class).0 owner)
 
-pub to_creditor : (caller : ℕ) (seen : Entry) → (¬ HasWord seen.1.class (codes "mortgage")) ⊎ (seen.1.party ≡ caller) → IsToldToCreditor caller seen
+pub to_creditor : (caller : ℕ) (seen : Entry) → (¬ HasWord seen.1.class (codes "mortgage")) ⊎ (seen.1.party ≡ caller) → IsVisibleToCreditor caller seen
 to_creditor caller seen (inl other) = inl (no_mortgage seen.1.class other)
 to_creditor caller seen (inr own) = inr own
 
-pub by_creditor : (caller : ℕ) (seen : Entry) → IsToldToCreditor caller seen → (¬ HasWord seen.1.class (codes "mortgage")) ⊎ (seen.1.party ≡ caller)
+pub by_creditor : (caller : ℕ) (seen : Entry) → IsVisibleToCreditor caller seen → (¬ HasWord seen.1.class (codes "mortgage")) ⊎ (seen.1.party ≡ caller)
 by_creditor caller seen (inl other) = inl (other_word seen.1.class other)
 by_creditor caller seen (inr own) = inr own
 
@@ -169,37 +169,37 @@ by_creditor caller seen (inr own) = inr own
 module _ (h : History) (caller : ℕ) (t : ℤ) (number : ℕ) where
   -- all objects of a kind
 
-  all_parties : Says (parties ∷ []) known.all_parties (col 1 1) h caller t number ↔ StandsUnder t h.parties number
+  all_parties : Says (parties ∷ []) known.all_parties (col 1 1) h caller t number ↔ IsCurrentUnder t h.parties number
   all_parties = (
     (λ g. (g.0.what, stood t h.parties g.0 g.1 g.2.0.0 g.2.0.1.0, g.2.1)),
     (λ s. let v = version t h.parties s.0 s.1 in (of s.0 v.since v.until, v.has, ((v.begun, (v.going, tt)), s.2))),
   )
 
-  all_units : Says (units ∷ []) known.all_units (col 1 1) h caller t number ↔ StandsUnder t h.units number
+  all_units : Says (units ∷ []) known.all_units (col 1 1) h caller t number ↔ IsCurrentUnder t h.units number
   all_units = (
     (λ g. (g.0.what, stood t h.units g.0 g.1 g.2.0.0 g.2.0.1.0, g.2.1)),
     (λ s. let v = version t h.units s.0 s.1 in (of s.0 v.since v.until, v.has, ((v.begun, (v.going, tt)), s.2))),
   )
 
-  all_parcels : Says (parcels ∷ []) known.all_parcels (col 1 1) h caller t number ↔ StandsUnder t h.parcels number
+  all_parcels : Says (parcels ∷ []) known.all_parcels (col 1 1) h caller t number ↔ IsCurrentUnder t h.parcels number
   all_parcels = (
     (λ g. (g.0.what, stood t h.parcels g.0 g.1 g.2.0.0 g.2.0.1.0, g.2.1)),
     (λ s. let v = version t h.parcels s.0 s.1 in (of s.0 v.since v.until, v.has, ((v.begun, (v.going, tt)), s.2))),
   )
 
-  all_rrrs : Says (rrrs ∷ []) known.all_rrrs (col 1 1) h caller t number ↔ StandsUnder t h.rrrs number
+  all_rrrs : Says (rrrs ∷ []) known.all_rrrs (col 1 1) h caller t number ↔ IsCurrentUnder t h.rrrs number
   all_rrrs = (
     (λ g. (g.0.what, stood t h.rrrs g.0 g.1 g.2.0.0 g.2.0.1.0, g.2.1)),
     (λ s. let v = version t h.rrrs s.0 s.1 in (of s.0 v.since v.until, v.has, ((v.begun, (v.going, tt)), s.2))),
   )
 
-  all_sources : Says (sources ∷ []) known.all_sources (col 1 1) h caller t number ↔ StandsUnder t h.sources number
+  all_sources : Says (sources ∷ []) known.all_sources (col 1 1) h caller t number ↔ IsCurrentUnder t h.sources number
   all_sources = (
     (λ g. (g.0.what, stood t h.sources g.0 g.1 g.2.0.0 g.2.0.1.0, g.2.1)),
     (λ s. let v = version t h.sources s.0 s.1 in (of s.0 v.since v.until, v.has, ((v.begun, (v.going, tt)), s.2))),
   )
 
-  all_mutations : Says (mutations ∷ []) known.all_mutations (col 1 1) h caller t number ↔ StandsUnder t h.mutations number
+  all_mutations : Says (mutations ∷ []) known.all_mutations (col 1 1) h caller t number ↔ IsCurrentUnder t h.mutations number
   all_mutations = (
     (λ g. (g.0.what, stood t h.mutations g.0 g.1 g.2.0.0 g.2.0.1.0, g.2.1)),
     (λ s. let v = version t h.mutations s.0 s.1 in (of s.0 v.since v.until, v.has, ((v.begun, (v.going, tt)), s.2))),
@@ -267,13 +267,13 @@ module _ (h : History) (caller : ℕ) (t : ℤ) (number : ℕ) where
   -- entries of units that the caller holds, and their parties
 
   abbrev IsHeldTold : Entry → Type 0
-  IsHeldTold = IsTold t h (HoldsItself t h caller) IsToldToHolder
+  IsHeldTold = IsVisibleEntry t h (HoldsItself t h caller) IsVisibleToHolder
 
   abbrev IsGroupTold : Entry → Type 0
-  IsGroupTold = IsTold t h (HoldsThrough t h caller) IsToldToHolder
+  IsGroupTold = IsVisibleEntry t h (HoldsThrough t h caller) IsVisibleToHolder
 
   abbrev IsCreditTold : Entry → Type 0
-  IsCreditTold = IsTold t h (Credits t h caller) (λ held. IsToldToCreditor caller)
+  IsCreditTold = IsVisibleEntry t h (Credits t h caller) (λ held. IsVisibleToCreditor caller)
 
   -- two versions of entries with a property
   abbrev Two : (Version Entry → Version Entry → Type 0) → Type 0
@@ -299,7 +299,7 @@ module _ (h : History) (caller : ℕ) (t : ℤ) (number : ℕ) where
     interest = record { stands = stood t h.rrrs e has say.1.1.1.1.0 say.1.1.1.1.1.0; party = say.1.0; class = (a_right e.what.1.class).1 say.1.1.0 };
     stands = stood t h.rrrs s there say.1.1.1.1.1.1.0 say.1.1.1.1.1.1.1.0;
     unit = say.0;
-    tells = to_holder e.what s.what say.1.1.1.0;
+    yields = to_holder e.what s.what say.1.1.1.0;
   }
 
   credit_told : (e s : Version Entry) → Has h.rrrs e → Has h.rrrs s → CreditSays e s → IsCreditTold s.what
@@ -308,7 +308,7 @@ module _ (h : History) (caller : ℕ) (t : ℤ) (number : ℕ) where
     interest = record { stands = stood t h.rrrs e has say.1.1.1.1.0 say.1.1.1.1.1.0; party = say.1.0; class = (a_mortgage e.what.1.class).1 say.1.1.0 };
     stands = stood t h.rrrs s there say.1.1.1.1.1.1.0 say.1.1.1.1.1.1.1.0;
     unit = say.0;
-    tells = to_creditor caller s.what say.1.1.1.0;
+    yields = to_creditor caller s.what say.1.1.1.0;
   }
 
   held_back : (Shown : Entry → Type 0) (seen : Entry) → IsHeldTold seen → Shown seen → Two (λ e s. HeldSays e s × Shown s.what)
@@ -321,7 +321,7 @@ module _ (h : History) (caller : ℕ) (t : ℤ) (number : ℕ) where
           of seen s.since s.until,
           s.has,
           (
-            (told.unit, (told.interest.party, ((a_right told.held.1.class).0 told.interest.class, (by_holder told.held seen told.tells, (e.begun, (e.going, (s.begun, (s.going, tt)))))))),
+            (told.unit, (told.interest.party, ((a_right told.held.1.class).0 told.interest.class, (by_holder told.held seen told.yields, (e.begun, (e.going, (s.begun, (s.going, tt)))))))),
             shown,
           ),
         ),
@@ -337,7 +337,7 @@ module _ (h : History) (caller : ℕ) (t : ℤ) (number : ℕ) where
           of seen s.since s.until,
           s.has,
           (
-            (told.unit, (told.interest.party, ((a_mortgage told.held.1.class).0 told.interest.class, (by_creditor caller seen told.tells, (e.begun, (e.going, (s.begun, (s.going, tt)))))))),
+            (told.unit, (told.interest.party, ((a_mortgage told.held.1.class).0 told.interest.class, (by_creditor caller seen told.yields, (e.begun, (e.going, (s.begun, (s.going, tt)))))))),
             shown,
           ),
         ),
@@ -390,7 +390,7 @@ module _ (h : History) (caller : ℕ) (t : ℤ) (number : ℕ) where
     };
     stands = stood t h.rrrs s there say.1.1.1.1.1.1.1.1.1.0 say.1.1.1.1.1.1.1.1.1.1.0;
     unit = say.1.0;
-    tells = to_holder e.what s.what say.1.1.1.1.0;
+    yields = to_holder e.what s.what say.1.1.1.1.0;
   }
 
   group_back : (Shown : Entry → Type 0) (seen : Entry) → IsGroupTold seen → Shown seen → Three (λ m e s. GroupSays m e s × Shown s.what)
@@ -416,7 +416,7 @@ module _ (h : History) (caller : ℕ) (t : ℤ) (number : ℕ) where
                     (
                       (a_right told.held.1.class).0 told.interest.class,
                       (
-                        by_holder told.held seen told.tells,
+                        by_holder told.held seen told.yields,
                         (m.begun, (m.going, (e.begun, (e.going, (s.begun, (s.going, tt)))))),
                       ),
                     ),
@@ -503,7 +503,7 @@ module _ (h : History) (caller : ℕ) (t : ℤ) (number : ℕ) where
   -- the targets of a pending mutation of the caller
 
   awaits : (unit : ℕ) (m : Version (ℕ × MutationRecord)) (n : Version Naming) → Has h.mutations m → Has h.namings n → n.what.mutation ≡ m.what.0 → m.what.1.lodger ≡ caller
-      → state_word m.what.1.state ≡ codes "lodged" → int_le m.since t ≡ true → int_lt t m.until ≡ true → int_le n.since t ≡ true → int_lt t n.until ≡ true → unit ≡ n.what.unit → Awaits t h caller unit
+      → state_word m.what.1.state ≡ codes "lodged" → int_le m.since t ≡ true → int_lt t m.until ≡ true → int_le n.since t ≡ true → int_lt t n.until ≡ true → unit ≡ n.what.unit → LodgedPending t h caller unit
   awaits unit m n has there by lodger lodged begun going named_begun named_going named = record {
     mutation = m.what;
     mutation_stands = stood t h.mutations m has begun going;
@@ -543,13 +543,13 @@ module _ (h : History) (caller : ℕ) (t : ℤ) (number : ℕ) where
       (n.what.mutation ≡ m.what.0) × ((e.what.1.unit ≡ n.what.unit) × ((m.what.1.lodger ≡ caller) × ((state_word m.what.1.state ≡ codes "lodged")
       × Lasts m (Lasts n (Lasts e (Unit {0}))))))
 
-  awaited : (m : Version (ℕ × MutationRecord)) (n : Version Naming) (e : Version Entry) → Has h.mutations m → Has h.namings n → Has h.rrrs e → LodgedSays m n e → IsAwaited t h caller e.what
+  awaited : (m : Version (ℕ × MutationRecord)) (n : Version Naming) (e : Version Entry) → Has h.mutations m → Has h.namings n → Has h.rrrs e → LodgedSays m n e → IsPendingEntry t h caller e.what
   awaited m n e has there seen say = record {
     awaits = awaits e.what.1.unit m n has there say.0 say.1.1.0 say.1.1.1.0 say.1.1.1.1.0 say.1.1.1.1.1.0 say.1.1.1.1.1.1.0 say.1.1.1.1.1.1.1.0 say.1.0;
     stands = stood t h.rrrs e seen say.1.1.1.1.1.1.1.1.0 say.1.1.1.1.1.1.1.1.1.0;
   }
 
-  awaited_back : (Shown : Entry → Type 0) (seen : Entry) → IsAwaited t h caller seen → Shown seen
+  awaited_back : (Shown : Entry → Type 0) (seen : Entry) → IsPendingEntry t h caller seen → Shown seen
       → (m : Version (ℕ × MutationRecord)) × Has h.mutations m × ((n : Version Naming) × Has h.namings n × ((e : Version Entry) × Has h.rrrs e × (LodgedSays m n e × Shown e.what)))
   awaited_back Shown seen it shown =
       let a = it.awaits in

@@ -57,7 +57,7 @@ matches_all db filter (inner t more) env e plain h passed =
     to_flat_map (λ r. matches db filter more (env ++ r ∷ [])) (db t) h.0 e h.1 (matches_all db filter more (env ++ h.0 ∷ []) e plain h.2 passed)
 matches_all db filter _ env e plain h passed = absurd (true≢false (sym plain))
 
--- no DISTINCT, ORDER BY, LIMIT or GROUP BY
+-- no DISTINCT, ORDER BY, MAX_COORDINATE or GROUP BY
 abbrev pub plainly : Join → List Term → List Term → Query
 plainly from filter project =
     record { from = from; filter = filter; group = None; project = project; distinct = false; collations = []; order = []; limit = lit (Int (negsuc 0)); offset = lit (Int (pos 0)) }

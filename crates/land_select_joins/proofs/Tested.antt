@@ -12,10 +12,10 @@ use Rattle.land_core.specs.declared.role.Role.TheVariants.{Citizen, Conveyancer,
 use Rattle.land_select_joins.proofs.Places.{Place, What, reading, shape, shows}
 use Rattle.land_select_joins.proofs.Shapes.{Fits, SayAll, all_decided, are_known, is_shape, shape_itself}
 use Rattle.land_select_joins.specs.Joins.Meaning.{given}
-use Rattle.land_select_joins.specs.Joins.Running.{asked_for}
+use Rattle.land_select_joins.specs.Joins.Execution.{known_or_zero}
 use Rattle.land_tables_history.specs.declared.version.Version.{Version}
 use Rattle.land_tables_schema.proofs.Updates.{passes}
-use Rattle.land_tables_schema.specs.Rows.Looks.{columns_from}
+use Rattle.land_tables_schema.specs.Rows.ReadQueries.{columns_from}
 use Rattle.sqlite.specs.Term.{Term}
 use Rattle.sqlite_value.specs.Order.{Row}
 
@@ -46,24 +46,24 @@ none_is_zero : (key : ℕ) → is_number key ≡ true → key ≡ 0 → ⊥
 none_is_zero key within is = true≢false (sym within ∙ ap is_number is)
 
 -- a number in range equals the queried one if it equals the given one
-pub asked_is : (key number : ℕ) → is_number key ≡ true → Decides (nat_eq key number) (key ≡ asked_for number)
+pub asked_is : (key number : ℕ) → is_number key ≡ true → Decides (nat_eq key number) (key ≡ known_or_zero number)
 asked_is key number within = Decides-like (nat_eq key number) (λ is. is ∙ kept (subst (λ n. is_number n ≡ true) is within)) (λ is. back (is_number number) refl is) (Decides-eqb key number)
   where
-    kept : is_number number ≡ true → number ≡ asked_for number
+    kept : is_number number ≡ true → number ≡ known_or_zero number
     kept is = ap (λ b. if b then number else 0) (sym is)
 
     back : (b : Bool) → is_number number ≡ b → key ≡ (if b then number else 0) → key ≡ number
     back true is same = same
     back false is same = absurd (none_is_zero key within same)
 
-pub by_number : (b : Bool) (key number : ℕ) (t since until : ℤ) → is_number key ≡ true → Decides b ((key ≡ asked_for number) × Lives t since until) → b ≡ ((int_le since t && int_lt t until) && nat_eq key number)
-by_number b key number t since until within passes = meant_lives b (nat_eq key number) (key ≡ asked_for number) t since until (asked_is key number within) passes
+pub by_number : (b : Bool) (key number : ℕ) (t since until : ℤ) → is_number key ≡ true → Decides b ((key ≡ known_or_zero number) × Lives t since until) → b ≡ ((int_le since t && int_lt t until) && nat_eq key number)
+by_number b key number t since until within passes = meant_lives b (nat_eq key number) (key ≡ known_or_zero number) t since until (asked_is key number within) passes
 
 -- and a reference equals the given one
 pub by_reference : (b : Bool) (key number : ℕ) (word reference : List ℕ) (t since until : ℤ) → is_number key ≡ true
-    → Decides b ((key ≡ asked_for number) × ((word ≡ reference) × Lives t since until)) → b ≡ ((int_le since t && int_lt t until) && (nat_eq key number && bytes_eq word reference))
+    → Decides b ((key ≡ known_or_zero number) × ((word ≡ reference) × Lives t since until)) → b ≡ ((int_le since t && int_lt t until) && (nat_eq key number && bytes_eq word reference))
 by_reference b key number word reference t since until within passes =
-    meant_lives b (nat_eq key number && bytes_eq word reference) ((key ≡ asked_for number) × (word ≡ reference)) t since until
+    meant_lives b (nat_eq key number && bytes_eq word reference) ((key ≡ known_or_zero number) × (word ≡ reference)) t since until
     (Decides-and (nat_eq key number) (bytes_eq word reference) (asked_is key number within) (bytes_eq-Decides word reference))
     (Decides-like b (λ h. ((h.0, h.1.0), h.1.1)) (λ h. (h.0.0, (h.0.1, h.1))) passes)
 

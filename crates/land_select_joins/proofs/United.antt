@@ -2,11 +2,11 @@
 use Rattle.std.proofs.Common.{◌⊎◌, ◌↔◌, inl, inr, ℕ, ℤ, List, [], ◌∷◌, ◌++◌, Ok, Err, Result, IfOk, subst, sym}
 use Rattle.std.specs.List.{Contains}
 use Rattle.land_select_joins.proofs.Containing.{first, first_or_later, in_nothing, later}
-use Rattle.land_select_joins.specs.Joins.Running.{AnyGiven, AreAll, AreNumbersForAny, AreNumbersOf, AreNumbersOfAny}
+use Rattle.land_select_joins.specs.Joins.Execution.{AnySelectsFor, AreAll, AreNumbersForAny, AreNumbersOf, AreNumbersOfAny}
 use Rattle.land_select_joins.specs.Sights.{AnySelects}
 use Rattle.land_select_joins.specs.declared.sights.selection.Selection.{Selection}
 use Rattle.land_tables_history.specs.declared.history.History.{History}
-use Rattle.land_tables_schema.specs.Rows.Looks.{IsLook}
+use Rattle.land_tables_schema.specs.Rows.ReadQueries.{IsStoreRead}
 use Rattle.sqlite.specs.State.{HasCleanDisk, State}
 use Rattle.sqlite_rules.proofs.ListLemmas.{has_left, has_right, has_either, has_contained, contains_had}
 use Rattle.sqlite_trees.specs.Tree.{Trees}
@@ -58,27 +58,27 @@ all_through ss t caller db it found same all moments h held n = ((λ x. (all mom
 -- ---- a sequence of callers
 
 module _ (ss : List Selection) (t : ℤ) (h : History) (n : ℕ) where
-  given_left : (cs ds : List ℕ) → AnyGiven ss t h cs n → AnyGiven ss t h (cs ++ ds) n
+  given_left : (cs ds : List ℕ) → AnySelectsFor ss t h cs n → AnySelectsFor ss t h (cs ++ ds) n
   given_left [] ds x = absurd x
   given_left (c ∷ cs) ds (inl x) = inl x
   given_left (c ∷ cs) ds (inr x) = inr (given_left cs ds x)
 
-  given_right : (cs ds : List ℕ) → AnyGiven ss t h ds n → AnyGiven ss t h (cs ++ ds) n
+  given_right : (cs ds : List ℕ) → AnySelectsFor ss t h ds n → AnySelectsFor ss t h (cs ++ ds) n
   given_right [] ds x = x
   given_right (c ∷ cs) ds x = inr (given_right cs ds x)
 
-  given_either : (cs ds : List ℕ) → AnyGiven ss t h (cs ++ ds) n → AnyGiven ss t h cs n ⊎ AnyGiven ss t h ds n
+  given_either : (cs ds : List ℕ) → AnySelectsFor ss t h (cs ++ ds) n → AnySelectsFor ss t h cs n ⊎ AnySelectsFor ss t h ds n
   given_either [] ds x = inr x
   given_either (c ∷ cs) ds (inl x) = inl (inl x)
   given_either (c ∷ cs) ds (inr x) = elim (given_either cs ds x) [ inl a ↦ inl (inr a) | inr b ↦ inr b ]
 
   -- a number of the result is one of theirs
-  pub given_to : (cs : List ℕ) → AnyGiven ss t h cs n → (c : ℕ) × Contains cs c × AnySelects ss t h c n
+  pub given_to : (cs : List ℕ) → AnySelectsFor ss t h cs n → (c : ℕ) × Contains cs c × AnySelects ss t h c n
   given_to [] x = absurd x
   given_to (c ∷ cs) (inl x) = (c, first c cs, x)
   given_to (c ∷ cs) (inr x) = let it = given_to cs x in (it.0, later c cs it.0 it.1, it.2)
 
-  pub given_by : (cs : List ℕ) (c : ℕ) → Contains cs c → AnySelects ss t h c n → AnyGiven ss t h cs n
+  pub given_by : (cs : List ℕ) (c : ℕ) → Contains cs c → AnySelects ss t h c n → AnySelectsFor ss t h cs n
   given_by [] c among x = absurd (in_nothing c among)
   given_by (d ∷ ds) c among x = elim (first_or_later d ds c among) [
     | inl same ↦ inl (subst (λ m. AnySelects ss t h m n) (sym same) x)
@@ -106,11 +106,11 @@ pub given_through : (ss : List Selection) (t : ℤ) (cs : List ℕ) (db : Trees)
 given_through ss t cs db it found same all moments h held n = ((λ x. (all moments h held n).0 ((same n).0 x)), (λ w. (same n).1 ((all moments h held n).1 w)))
 
 -- a query with a result, and a known fact, together with their consequence
-pub look_known : {X E : Type 0} {P K Q : X → Type 0} (a b : State) (r : Result X E) → IsLook r P a b → IfOk r K → ((x : X) → HasCleanDisk b → P x → K x → Q x) → IsLook r Q a b
-look_known a b (Ok x) look known so = record { given = λ clean. so x clean (look.given clean) known; same = look.same; left = look.left; survives = look.survives }
-look_known a b (Err e) look known so = record { given = λ _. tt; same = look.same; left = look.left; survives = look.survives }
+pub look_known : {X E : Type 0} {P K Q : X → Type 0} (a b : State) (r : Result X E) → IsStoreRead r P a b → IfOk r K → ((x : X) → HasCleanDisk b → P x → K x → Q x) → IsStoreRead r Q a b
+look_known a b (Ok x) reads_only known so = record { given = λ clean. so x clean (reads_only.given clean) known; same = reads_only.same; left = reads_only.left; survives = reads_only.survives }
+look_known a b (Err e) reads_only known so = record { given = λ _. tt; same = reads_only.same; left = reads_only.left; survives = reads_only.survives }
 
 -- a read-only query, by its meaning
-pub look_means : {X E : Type 0} {P Q : X → Type 0} (a b : State) (r : Result X E) → IsLook r P a b → ((x : X) → P x → Q x) → IsLook r Q a b
-look_means a b (Ok x) look means = record { given = λ clean. means x (look.given clean); same = look.same; left = look.left; survives = look.survives }
-look_means a b (Err e) look means = record { given = λ _. tt; same = look.same; left = look.left; survives = look.survives }
+pub look_means : {X E : Type 0} {P Q : X → Type 0} (a b : State) (r : Result X E) → IsStoreRead r P a b → ((x : X) → P x → Q x) → IsStoreRead r Q a b
+look_means a b (Ok x) reads_only means = record { given = λ clean. means x (reads_only.given clean); same = reads_only.same; left = reads_only.left; survives = reads_only.survives }
+look_means a b (Err e) reads_only means = record { given = λ _. tt; same = reads_only.same; left = reads_only.left; survives = reads_only.survives }

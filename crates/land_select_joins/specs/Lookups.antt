@@ -5,5 +5,5 @@ pub mod Numbers
 pub mod Parties
 pub mod Parts
 pub mod Ranges
-pub mod Seers
+pub mod Viewers
 pub mod Texts

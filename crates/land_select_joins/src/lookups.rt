@@ -2,7 +2,7 @@
 
 pub mod by_number;
 pub mod lodgers;
-pub mod number_look_up;
+pub mod column_lookup;
 pub mod numbered;
 pub mod numbers;
 pub mod objects;
@@ -13,11 +13,11 @@ pub mod of_lodger;
 pub mod of_party;
 pub mod of_unit;
 pub mod office;
-pub mod presence;
+pub mod existence;
 pub mod record_lookup;
 pub mod record_rows;
 pub mod relation;
-pub mod seers;
+pub mod viewers_of_party;
 pub mod shown;
 pub mod texts;
 pub mod within;

@@ -2,7 +2,7 @@
 -- walks of the other are the same
 use Rattle.std.proofs.Common.{◌≡◌, ◌↔◌, ℕ, ◌+◌, false, cond, List, [], ◌∷◌, ◌++◌, map, ◌⊎◌, inl, inr, refl, sym, ap, ◌∙◌, subst, arith, append_assoc}
 use Rattle.std.proofs.lemmas.Int.{ints}
-use Rattle.land_shape.specs.Matching.{pieces, reversed, is_same_edge, count_along, LeadAlike}
+use Rattle.land_shape.specs.Matching.{pieces, reversed, is_same_edge, count_along, HaveSameBalance}
 use Rattle.land_shape.specs.Place.{Place, Edge}
 use Rattle.land_shape.specs.Walks.{walk, walks, is_before, IsOneOf, HaveSameEdges}
 use Rattle.land_shape.specs.Matching.{lies_inside}
@@ -144,7 +144,7 @@ Weighed ours theirs z = times z ours + times (reversed z) theirs ≡ times z the
 
 pub same_ways : (places corners : List Place) → Rise corners
     → ((q : Place) → IsOneOf q places → IsOneOf q corners) → ((q : Place) → IsOneOf q corners → IsOneOf q places)
-    → (ours theirs : List Edge) → HaveSameEdges (one_way corners ours theirs) (one_way corners theirs ours) ↔ LeadAlike (pieces places ours) (pieces places theirs)
+    → (ours theirs : List Edge) → HaveSameEdges (one_way corners ours theirs) (one_way corners theirs ours) ↔ HaveSameBalance (pieces places ours) (pieces places theirs)
 same_ways places corners rise to from ours theirs = (
   λ same z. counted z (omega (
     arith,

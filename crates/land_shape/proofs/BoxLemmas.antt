@@ -9,7 +9,7 @@ use mir.Val.{SFits}
 use Rattle.land_shape.specs.Coordinate.{IsCoordinate}
 use Rattle.land_shape.specs.Place.{Place}
 use Rattle.land_shape.specs.Segment.{HaveCommonPoint, MeetOnlyAt}
-use Rattle.land_shape.specs.Simple.{joint, place_at, next_at, MeetRightly}
+use Rattle.land_shape.specs.Simple.{joint, place_at, next_at, MeetOnlyAtJoint}
 use Rattle.land_shape.specs.Turns.{Overlap, BoxesOverlap, IsInBox, HoldsEdges}
 use Rattle.land_shape.proofs.Meeting.{common-boxes}
 
@@ -25,8 +25,8 @@ common-reaches least greatest a b c d first second common =
     (wider _ _ _ _ _ _ first.left first.right second.left second.right boxes.0, wider _ _ _ _ _ _ first.low first.high second.low second.high boxes.1)
 
 -- edges with no point in common meet rightly, neighbours or not
-pub apart-rightly : (ps : List Place) (i j : ℕ) → ¬ HaveCommonPoint (place_at ps i) (next_at ps i) (place_at ps j) (next_at ps j) → MeetRightly ps i j
-unfolding MeetRightly
+pub apart-rightly : (ps : List Place) (i j : ℕ) → ¬ HaveCommonPoint (place_at ps i) (next_at ps i) (place_at ps j) (next_at ps j) → MeetOnlyAtJoint ps i j
+unfolding MeetOnlyAtJoint
 apart-rightly ps i j apart = go (joint (length ps) i j)
   where
     go : (o : Option ℕ) → MatchOption o
@@ -40,7 +40,7 @@ apart-rightly ps i j apart = go (joint (length ps) i j)
 
 -- an edge inside a box and one that does not reach the box meet rightly
 pub beside-rightly : (ps : List Place) (i j : ℕ) (least greatest c d : Place) → IsInBox least greatest (place_at ps i) × IsInBox least greatest (next_at ps i)
-    → c ≡ place_at ps j → d ≡ next_at ps j → ¬ BoxesOverlap least greatest c d → MeetRightly ps i j
+    → c ≡ place_at ps j → d ≡ next_at ps j → ¬ BoxesOverlap least greatest c d → MeetOnlyAtJoint ps i j
 beside-rightly ps i j least greatest c d inside from to beside =
     apart-rightly ps i j
     (λ common. beside (rw (from, to) (common-reaches least greatest _ _ _ _ inside.0 inside.1 common)))
@@ -98,11 +98,11 @@ holds_more ps start i least greatest low high holds still from to k above below 
 
 -- ---- pairs of edges, by the later one
 
-pub pairs_more : (ps : List Place) (start end j : ℕ) → ((i k : ℕ) → start ≤ i → i < end → i < k → k < j → MeetRightly ps i k)
-    → ((i : ℕ) → start ≤ i → i < end → i < j → MeetRightly ps i j)
-    → (i k : ℕ) → start ≤ i → i < end → i < k → k < j + 1 → MeetRightly ps i k
+pub pairs_more : (ps : List Place) (start end j : ℕ) → ((i k : ℕ) → start ≤ i → i < end → i < k → k < j → MeetOnlyAtJoint ps i k)
+    → ((i : ℕ) → start ≤ i → i < end → i < j → MeetOnlyAtJoint ps i j)
+    → (i k : ℕ) → start ≤ i → i < end → i < k → k < j + 1 → MeetOnlyAtJoint ps i k
 pairs_more ps start end j before here i k above below order within =
     elim (cases_lt k j) [
       | inl lt ↦ before i k above below order lt
-      | inr ge ↦ (let e : j ≡ k = omega arith in subst (λ (n : ℕ). MeetRightly ps i n) e (here i above below (omega arith)))
+      | inr ge ↦ (let e : j ≡ k = omega arith in subst (λ (n : ℕ). MeetOnlyAtJoint ps i n) e (here i above below (omega arith)))
     ]

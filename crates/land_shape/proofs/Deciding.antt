@@ -9,10 +9,10 @@ use lib.Signed.{◌≤ℤ◌}
 use Rattle.land_shape.specs.Coordinate.{cross_of, dot_of}
 use Rattle.land_shape.specs.Place.{Place, area_of, ring_edges}
 use Rattle.land_shape.specs.Segment.{HaveCommonPoint, MeetOnlyAt}
-use Rattle.land_shape.specs.Simple.{place_at, next_at, HaveLength, AllMeetRightly, MeetRightly, IsSimple}
+use Rattle.land_shape.specs.Simple.{place_at, next_at, HaveLength, AllMeetOnlyAtJoints, MeetOnlyAtJoint, IsSimple}
 use Rattle.land_shape.specs.Turns.{Overlap, BoxesOverlap, AreInside, AreTurns}
 use Rattle.land_shape.proofs.CornerLemmas.{meet-following, meet-around, meet-apart}
-use Rattle.land_shape.proofs.Folding.{IsAhead, ahead, IsLong-ends}
+use Rattle.land_shape.proofs.Folding.{IsAhead, ahead, HasManyWords-ends}
 use Rattle.land_shape.proofs.Meeting.{left-common, right-common, line-common, common-boxes}
 
 -- it holds or it does not
@@ -85,7 +85,7 @@ is_ahead a b c = go (same (cross_of (b.x -ℤ a.x) (b.y -ℤ a.y) (c.x -ℤ b.x)
     go (inl p) (inr n) = inr (λ h. n (h p))
 
 at_joint : (a b c : Place) → ¬ (a ≡ b) → Decided (MeetOnlyAt b a b b c)
-at_joint a b c long = by (ahead a b c (IsLong-ends a b long)) (is_ahead a b c)
+at_joint a b c long = by (ahead a b c (HasManyWords-ends a b long)) (is_ahead a b c)
 
 -- below a bound
 all_below : (n : ℕ) (P : ℕ → Type 0) → ((i : ℕ) → i < n → Decided (P i)) → Decided ((i : ℕ) → i < n → P i)
@@ -112,29 +112,29 @@ next_is ps i h = let e : (i + 1 == length ps) ≡ false = grind (arith, nat_test
 next_of_last : (ps : List Place) (j : ℕ) → j + 1 ≡ length ps → next_at ps j ≡ place_at ps 0
 next_of_last ps j h = let e : (j + 1 == length ps) ≡ true = grind (arith, nat_tests) in rw e refl
 
-following : (ps : List Place) → HaveLength ps → (i j : ℕ) → j ≡ i + 1 → j < length ps → Decided (MeetRightly ps i j)
+following : (ps : List Place) → HaveLength ps → (i j : ℕ) → j ≡ i + 1 → j < length ps → Decided (MeetOnlyAtJoint ps i j)
 following ps long i j e within =
     let next : next_at ps i ≡ place_at ps j = next_is ps i (omega arith) ∙ ap (place_at ps) (sym e) in
     back (meet-following ps i j e within) (at_joint (place_at ps i) (place_at ps j) (next_at ps j) (λ h. long i (omega arith) (h ∙ sym next)))
 
-around : (ps : List Place) → HaveLength ps → (i j : ℕ) → i ≡ 0 → 1 < j → j + 1 ≡ length ps → Decided (MeetRightly ps i j)
+around : (ps : List Place) → HaveLength ps → (i j : ℕ) → i ≡ 0 → 1 < j → j + 1 ≡ length ps → Decided (MeetOnlyAtJoint ps i j)
 around ps long i j first above last =
-    let P : ℕ → Type 0 = λ k. Decided (MeetRightly ps k j) in
+    let P : ℕ → Type 0 = λ k. Decided (MeetOnlyAtJoint ps k j) in
     subst P (sym first)
     (back (meet-around ps j above last) (at_joint (place_at ps j) (place_at ps 0) (next_at ps 0) (λ h. long j (omega arith) (h ∙ sym (next_of_last ps j last)))))
 
-pair : (ps : List Place) → HaveLength ps → (j : ℕ) → j < length ps → (i : ℕ) → i < j → Decided (MeetRightly ps i j)
+pair : (ps : List Place) → HaveLength ps → (j : ℕ) → j < length ps → (i : ℕ) → i < j → Decided (MeetOnlyAtJoint ps i j)
 pair ps long j within i order = go (same_number j (i + 1)) (both (same_number i 0) (same_number (j + 1) (length ps)))
   where
-    go : Decided (j ≡ i + 1) → Decided ((i ≡ 0) × (j + 1 ≡ length ps)) → Decided (MeetRightly ps i j)
+    go : Decided (j ≡ i + 1) → Decided ((i ≡ 0) × (j + 1 ≡ length ps)) → Decided (MeetOnlyAtJoint ps i j)
     go (inl e) d = following ps long i j e within
     go (inr n) (inl h) = around ps long i j h.0 (elim (cases_lt 1 j) [ inl lt ↦ lt | inr ge ↦ absurd (n (omega (arith, h.0))) ]) h.1
     go (inr n) (inr m) = back (meet-apart ps i j n m) (neither (common (place_at ps i) (next_at ps i) (place_at ps j) (next_at ps j)))
 
-apart : (ps : List Place) → HaveLength ps → Decided (AllMeetRightly ps)
+apart : (ps : List Place) → HaveLength ps → Decided (AllMeetOnlyAtJoints ps)
 apart ps long =
     by (λ a j w i o. a i j o w, λ f i j o w. f j w i o)
-    (all_below (length ps) (λ j. (i : ℕ) → i < j → MeetRightly ps i j) (λ j within. all_below j (λ i. MeetRightly ps i j) (pair ps long j within)))
+    (all_below (length ps) (λ j. (i : ℕ) → i < j → MeetOnlyAtJoint ps i j) (λ j within. all_below j (λ i. MeetOnlyAtJoint ps i j) (pair ps long j within)))
 
 pub simple : (ring : List Place) → Decided (IsSimple ring)
 simple ring = go (have_length ring)

@@ -74,10 +74,10 @@ abbrev pub IsAhead : Place → Place → Place → Type 0
 IsAhead a b c = cross_of (b.x -ℤ a.x) (b.y -ℤ a.y) (c.x -ℤ b.x) (c.y -ℤ b.y) ≡ pos 0
     → pos 0 ≤ℤ dot_of (b.x -ℤ a.x) (b.y -ℤ a.y) (c.x -ℤ b.x) (c.y -ℤ b.y)
 
-abbrev pub IsLong : Place → Place → Type 0
-IsLong a b = pos 0 <ℤ dot_of (b.x -ℤ a.x) (b.y -ℤ a.y) (b.x -ℤ a.x) (b.y -ℤ a.y)
+abbrev pub HasManyWords : Place → Place → Type 0
+HasManyWords a b = pos 0 <ℤ dot_of (b.x -ℤ a.x) (b.y -ℤ a.y) (b.x -ℤ a.x) (b.y -ℤ a.y)
 
-pub ahead-meets : (a b c : Place) → IsLong a b → IsAhead a b c → MeetOnlyAt b a b b c
+pub ahead-meets : (a b c : Place) → HasManyWords a b → IsAhead a b c → MeetOnlyAt b a b b c
 ahead-meets a b c long ahead =
     let end : (q s r : ℕ) → AreOnePlace q s r a b b c → s ≡ q
     = λ q s r o. stays q s r (b.x -ℤ a.x) (b.y -ℤ a.y) (c.x -ℤ b.x) (c.y -ℤ b.y) o.on_first
@@ -111,7 +111,7 @@ no_length m ux uy hx hy =
     by_parts_le (num m ⊗ (a ⊗ a ⊕ b ⊗ b)) (num 0)
     (omega (arith, parts_eq (num m ⊗ a ⊗ a) (num 0 ⊗ a) ex, parts_eq (num m ⊗ b ⊗ b) (num 0 ⊗ b) ey))
 
-pub meets-ahead : (a b c : Place) → IsLong a b → MeetOnlyAt b a b b c → IsAhead a b c
+pub meets-ahead : (a b c : Place) → HasManyWords a b → MeetOnlyAt b a b b c → IsAhead a b c
 meets-ahead a b c long only flat =
     let ux = b.x -ℤ a.x in let uy = b.y -ℤ a.y in let vx = c.x -ℤ b.x in let vy = c.y -ℤ b.y in
     let square : ℕ = nat_abs (dot_of ux uy ux uy) in
@@ -134,7 +134,7 @@ meets-ahead a b c long only flat =
     absurd (omega (arith, ints)))
     (λ h. h)
 
-pub ahead : (a b c : Place) → IsLong a b → MeetOnlyAt b a b b c ↔ IsAhead a b c
+pub ahead : (a b c : Place) → HasManyWords a b → MeetOnlyAt b a b b c ↔ IsAhead a b c
 ahead a b c long = (meets-ahead a b c long, ahead-meets a b c long)
 
 swap_place : (q s r : ℕ) (a b c d : Place) → AreOnePlace q s r c d a b → AreOnePlace q r s a b c d
@@ -183,8 +183,8 @@ same_ends a b ex ey =
     made : {a b c d : ℤ} → a ≡ b → c ≡ d → (let p : Place = record { x = a; y = c } in p) ≡ (let q : Place = record { x = b; y = d } in q)
     made e f = cc
 
-pub IsLong-ends : (a b : Place) → ¬ (a ≡ b) → IsLong a b
-IsLong-ends a b apart =
+pub HasManyWords-ends : (a b : Place) → ¬ (a ≡ b) → HasManyWords a b
+HasManyWords-ends a b apart =
     let ux = b.x -ℤ a.x in let uy = b.y -ℤ a.y in
     let up_x = square_not_below ux in let up_y = square_not_below uy in
     elim (square_of ux) [

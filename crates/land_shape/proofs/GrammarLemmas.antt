@@ -8,7 +8,7 @@ use Rattle.land_shape.specs.declared.tokens.Token.TheVariants.{Open, Close, Comm
 use Rattle.land_shape.specs.declared.body.At.{At}
 use Rattle.land_shape.specs.declared.body.At.TheVariants.{BeforeBody, BeforeRing, InPoint, AfterRing, AfterBody}
 use Rattle.land_shape.specs.Grammar.{Words, Points, Rings, with_commas, point_tokens, ring_tokens, body_tokens, IsPoint, IsRing, IsBody}
-use Rattle.land_shape.specs.Reader.{Reading, nothing_read, is_point, after, after_all, rings_at_end, body_of}
+use Rattle.land_shape.specs.Reader.{Reading, start_of_body, is_point, after, after_all, rings_at_end, body_of}
 
 pub either_way : {P : Type 0} (b : Bool) → (b ≡ true → P) → (b ≡ false → P) → P
 either_way {P} b t f = elim b as (λ v. (v ≡ true → P) → (v ≡ false → P) → P) [ true ↦ λ k l. k refl | false ↦ λ k l. l refl ] t f
@@ -229,7 +229,7 @@ all_came (t ∷ ts) r before h =
     go more (Some s) k = rw append_assoc at more s k
 
 pub body_means : (tokens : List Token) (rings : Rings) → body_of tokens ≡ Some rings → IsBody rings × (tokens ≡ body_tokens rings)
-body_means tokens rings h = go (after_all nothing_read tokens) (all_came tokens nothing_read [] ((refl, refl, refl), refl)) h
+body_means tokens rings h = go (after_all start_of_body tokens) (all_came tokens start_of_body [] ((refl, refl, refl), refl)) h
   where
     at_end : (at : At) (rs : Rings) (ps : Points) (ws : Words) → Came tokens (state at rs ps ws) → rings_at_end at rs ≡ Some rings
         → IsBody rings × (tokens ≡ body_tokens rings)

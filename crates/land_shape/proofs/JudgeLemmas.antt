@@ -7,13 +7,13 @@ use Rattle.land_shape.specs.declared.faults.ShapeFault.{ShapeFault}
 use Rattle.land_shape.specs.declared.faults.ShapeFault.TheVariants.{NotPolygon, Empty, Inner, ZOrM, Number, Range, FewPoints, ManyPoints, NotClosed, NotSimple, AreaTooLarge, NoMemory}
 use Rattle.land_shape.specs.Coordinate.{IsCoordinate}
 use Rattle.land_shape.specs.FaultTexts.{number_of}
-use Rattle.land_shape.specs.Faults.{SomeOf, HasPoint, HasWord, IsLong, IsNoNumber, IsFar, Locate, Lists, InBody, InList, ListsPlaces, HasFault, IsFirst, StandsFor}
+use Rattle.land_shape.specs.Faults.{SomeOf, HasPoint, HasWord, HasManyWords, IsNotNumber, IsOutOfRange, Locate, Lists, HasBodyWhere, ListsPlacesWhere, ListsPlaces, HasFault, IsFirstFault, Denotes}
 use Rattle.land_shape.specs.Grammar.{Words, Points, Rings, Polygon, empty, body, IsPolygon}
 use Rattle.land_shape.specs.Outline.{IsNear, IsOutline, ring_of, doubled_area}
 use Rattle.land_shape.specs.Place.{Place}
 use Rattle.land_shape.specs.Reader.{polygon_of}
 use Rattle.land_shape.specs.Simple.{IsSimple}
-use Rattle.land_shape.specs.Steps.{HasTwoWords, IsPlainList, IsClosed, PlainRing, ReadsPoints, Closes, Encloses}
+use Rattle.land_shape.specs.Steps.{HasTwoWords, IsPlainList, IsClosed, PlainRing, ReadsPoints, IsClosedOrFault, IsRingOrFault}
 use Rattle.land_shape.specs.Tokens.{tokens_of}
 use Rattle.land_shape.proofs.PolygonLemmas.{polygon_written}
 
@@ -48,30 +48,30 @@ same_list (words ∷ points) (p ∷ ps) [] h k = absurd k
 
 -- ---- from listed places to their words
 
-no_long : (points : Points) → AllByRecursion HasTwoWords points → ¬ SomeOf IsLong points
+no_long : (points : Points) → AllByRecursion HasTwoWords points → ¬ SomeOf HasManyWords points
 no_long [] all h = h
 no_long (words ∷ points) all (inl h) = let two = all.0 in omega arith
 no_long (words ∷ points) all (inr h) = no_long points all.1 h
 
-numbers_in : (words : Words) (p : Place) → Locate words p → ¬ SomeOf IsNoNumber words
+numbers_in : (words : Words) (p : Place) → Locate words p → ¬ SomeOf IsNotNumber words
 numbers_in (x ∷ y ∷ []) p l (inl h) = let e = l.0 in cc
 numbers_in (x ∷ y ∷ []) p l (inr (inl h)) = let e = l.1 in cc
 numbers_in (x ∷ y ∷ []) p l (inr (inr h)) = h
 numbers_in _ p l h = absurd l
 
-pub all_numbers : (points : Points) (ps : List Place) → Lists points ps → ¬ SomeOf (SomeOf IsNoNumber) points
+pub all_numbers : (points : Points) (ps : List Place) → Lists points ps → ¬ SomeOf (SomeOf IsNotNumber) points
 all_numbers [] ps l h = h
 all_numbers (words ∷ points) (p ∷ ps) l (inl h) = numbers_in words p l.0 h
 all_numbers (words ∷ points) (p ∷ ps) l (inr h) = all_numbers points ps l.1 h
 all_numbers (words ∷ points) [] l h = absurd l
 
-near_in : (words : Words) (p : Place) → Locate words p → IsNear p → ¬ SomeOf IsFar words
+near_in : (words : Words) (p : Place) → Locate words p → IsNear p → ¬ SomeOf IsOutOfRange words
 near_in (x ∷ y ∷ []) p l n (inl (z, h)) = let e : z ≡ p.x = (let a = l.0 in let b = h.0 in cc) in h.1 (subst IsCoordinate (sym e) n.0)
 near_in (x ∷ y ∷ []) p l n (inr (inl (z, h))) = let e : z ≡ p.y = (let a = l.1 in let b = h.0 in cc) in h.1 (subst IsCoordinate (sym e) n.1)
 near_in (x ∷ y ∷ []) p l n (inr (inr h)) = h
 near_in _ p l n h = absurd l
 
-pub all_near : (points : Points) (ps : List Place) → Lists points ps → AllByRecursion IsNear ps → ¬ SomeOf (SomeOf IsFar) points
+pub all_near : (points : Points) (ps : List Place) → Lists points ps → AllByRecursion IsNear ps → ¬ SomeOf (SomeOf IsOutOfRange) points
 all_near [] ps l n h = h
 all_near (words ∷ points) (p ∷ ps) l n (inl h) = near_in words p l.0 n.0 h
 all_near (words ∷ points) (p ∷ ps) l n (inr h) = all_near points ps l.1 n.1 h
@@ -125,7 +125,7 @@ next text fault n is none not_this other below =
 
 -- ---- the faults in order
 
-pub no_polygon : (text : List ℕ) → polygon_of (tokens_of text) ≡ None → IsFirst text NotPolygon
+pub no_polygon : (text : List ℕ) → polygon_of (tokens_of text) ≡ None → IsFirstFault text NotPolygon
 no_polygon text e = record {
   holds = λ polygon p. let a = polygon_written (tokens_of text) polygon p in let f : None ≡ Some polygon = sym e ∙ a in cc f;
   none_before = none_below_110 text;
@@ -134,19 +134,19 @@ no_polygon text e = record {
 a_polygon : (text : List ℕ) (polygon : Polygon) → IsPolygon text polygon → NoneBelow text 111
 a_polygon text polygon p = next text NotPolygon 110 refl (none_below_110 text) (λ none. none polygon p)
 
-pub empty_first : (text : List ℕ) → IsPolygon text empty → IsFirst text Empty
+pub empty_first : (text : List ℕ) → IsPolygon text empty → IsFirstFault text Empty
 empty_first text p = record { holds = p; none_before = a_polygon text empty p }
 
 a_body : (text : List ℕ) (tagged : Bool) (rings : Rings) → IsPolygon text (body tagged rings) → NoneBelow text 112
 a_body text tagged rings p =
     next text Empty 111 refl (a_polygon text (body tagged rings) p) (λ e. let f = same_polygon text empty (body tagged rings) e p in cc f)
 
-pub inner_first : (text : List ℕ) (tagged : Bool) (rings : Rings) → IsPolygon text (body tagged rings) → 2 ≤ length rings → IsFirst text Inner
+pub inner_first : (text : List ℕ) (tagged : Bool) (rings : Rings) → IsPolygon text (body tagged rings) → 2 ≤ length rings → IsFirstFault text Inner
 inner_first text tagged rings p h =
     record { holds = record { tagged = tagged; rings = rings; is_polygon = p; holds = h }; none_before = a_body text tagged rings p }
 
 -- a property of a body holds of the only body
-in_body : (text : List ℕ) (P : Bool → Rings → Type 0) (tagged : Bool) (rings : Rings) → IsPolygon text (body tagged rings) → InBody text P → P tagged rings
+in_body : (text : List ℕ) (P : Bool → Rings → Type 0) (tagged : Bool) (rings : Rings) → IsPolygon text (body tagged rings) → HasBodyWhere text P → P tagged rings
 in_body text P tagged rings p i =
     let e = same_polygon text (body i.tagged i.rings) (body tagged rings) i.is_polygon p in
     let t : i.tagged ≡ tagged = cc in let r : i.rings ≡ rings = cc in
@@ -158,7 +158,7 @@ one_ring text tagged ring p =
     (λ i. let many = in_body text (λ _ rings. 2 ≤ length rings) tagged (ring ∷ []) p i in omega arith)
 
 pub z_or_m_first : (text : List ℕ) (tagged : Bool) (ring : Points) → IsPolygon text (body tagged (ring ∷ []))
-    → (tagged ≡ true) ⊎ SomeOf IsLong ring → IsFirst text ZOrM
+    → (tagged ≡ true) ⊎ SomeOf HasManyWords ring → IsFirstFault text ZOrM
 z_or_m_first text tagged ring p h = record {
   holds = record { tagged = tagged; rings = ring ∷ []; is_polygon = p; holds = elim h [ inl t ↦ inl t | inr l ↦ inr (inl l) ] };
   none_before = one_ring text tagged ring p;
@@ -172,26 +172,26 @@ in_ring P ring none (inr h) = h
 plain_ring : (text : List ℕ) (ring : Points) → IsPolygon text (body false (ring ∷ [])) → AllByRecursion HasTwoWords ring → NoneBelow text 114
 plain_ring text ring p two =
     next text ZOrM 113 refl (one_ring text false ring p)
-    (λ i. elim (in_body text (λ tagged rings. (tagged ≡ true) ⊎ HasPoint IsLong rings) false (ring ∷ []) p i) [
+    (λ i. elim (in_body text (λ tagged rings. (tagged ≡ true) ⊎ HasPoint HasManyWords rings) false (ring ∷ []) p i) [
       | inl t ↦ cc t
-      | inr l ↦ in_ring IsLong ring (no_long ring two) l
+      | inr l ↦ in_ring HasManyWords ring (no_long ring two) l
     ])
 
 pub number_first : (text : List ℕ) (ring : Points) → IsPolygon text (body false (ring ∷ [])) → AllByRecursion HasTwoWords ring
-    → SomeOf (SomeOf IsNoNumber) ring → IsFirst text Number
+    → SomeOf (SomeOf IsNotNumber) ring → IsFirstFault text Number
 number_first text ring p two h = record {
   holds = record { tagged = false; rings = ring ∷ []; is_polygon = p; holds = inl h };
   none_before = plain_ring text ring p two;
 }
 
 all_are_numbers : (text : List ℕ) (ring : Points) → IsPolygon text (body false (ring ∷ [])) → AllByRecursion HasTwoWords ring
-    → ¬ SomeOf (SomeOf IsNoNumber) ring → NoneBelow text 115
+    → ¬ SomeOf (SomeOf IsNotNumber) ring → NoneBelow text 115
 all_are_numbers text ring p two none =
     next text Number 114 refl (plain_ring text ring p two)
-    (λ i. in_ring (SomeOf IsNoNumber) ring none (in_body text (λ tagged rings. HasWord IsNoNumber rings) false (ring ∷ []) p i))
+    (λ i. in_ring (SomeOf IsNotNumber) ring none (in_body text (λ tagged rings. HasWord IsNotNumber rings) false (ring ∷ []) p i))
 
 pub range_first : (text : List ℕ) (ring : Points) → IsPolygon text (body false (ring ∷ [])) → AllByRecursion HasTwoWords ring
-    → ¬ SomeOf (SomeOf IsNoNumber) ring → SomeOf (SomeOf IsFar) ring → IsFirst text Range
+    → ¬ SomeOf (SomeOf IsNotNumber) ring → SomeOf (SomeOf IsOutOfRange) ring → IsFirstFault text Range
 range_first text ring p two none h = record {
   holds = record { tagged = false; rings = ring ∷ []; is_polygon = p; holds = inl h };
   none_before = all_are_numbers text ring p two none;
@@ -209,15 +209,15 @@ listed_once text ps qs k l =
     same_list l.points ps qs (subst (λ (points : Points). Lists points ps) same k.lists) l.lists
 
 -- a property of a list of places holds of the only list
-in_list : (text : List ℕ) (P : List Place → Type 0) (ps : List Place) → ListsPlaces text ps → InList text P → P ps
+in_list : (text : List ℕ) (P : List Place → Type 0) (ps : List Place) → ListsPlaces text ps → ListsPlacesWhere text P → P ps
 in_list text P ps l i = subst P (listed_once text i.0 ps i.1.0 l) i.1.1
 
 near_list : (text : List ℕ) (ps : List Place) → IsPlainList text ps → NoneBelow text 116
 near_list text ps l =
     next text Range 115 refl (all_are_numbers text l.points l.is_polygon l.two_words (all_numbers l.points ps l.lists))
-    (λ i. in_ring (SomeOf IsFar) l.points (all_near l.points ps l.lists l.near) (in_body text (λ tagged rings. HasWord IsFar rings) false (l.points ∷ []) l.is_polygon i))
+    (λ i. in_ring (SomeOf IsOutOfRange) l.points (all_near l.points ps l.lists l.near) (in_body text (λ tagged rings. HasWord IsOutOfRange rings) false (l.points ∷ []) l.is_polygon i))
 
-pub few_first : (text : List ℕ) (ps : List Place) → IsPlainList text ps → length ps < 4 → IsFirst text FewPoints
+pub few_first : (text : List ℕ) (ps : List Place) → IsPlainList text ps → length ps < 4 → IsFirstFault text FewPoints
 few_first text ps l h = record { holds = (ps, (is_listed text ps l, h)); none_before = near_list text ps l }
 
 some_list : (text : List ℕ) (ps : List Place) → IsPlainList text ps → 4 ≤ length ps → NoneBelow text 117
@@ -225,7 +225,7 @@ some_list text ps l h =
     next text FewPoints 116 refl (near_list text ps l)
     (λ i. let few = in_list text (λ (qs : List Place). length qs < 4) ps (is_listed text ps l) i in omega arith)
 
-pub many_first : (text : List ℕ) (ps : List Place) → IsPlainList text ps → 201 < length ps → IsFirst text ManyPoints
+pub many_first : (text : List ℕ) (ps : List Place) → IsPlainList text ps → 201 < length ps → IsFirstFault text ManyPoints
 many_first text ps l h = record { holds = (ps, (is_listed text ps l, h)); none_before = some_list text ps l (omega arith) }
 
 short_list : (text : List ℕ) (ps : List Place) → IsPlainList text ps → 4 ≤ length ps → length ps ≤ 201 → NoneBelow text 118
@@ -233,7 +233,7 @@ short_list text ps l some few =
     next text ManyPoints 117 refl (some_list text ps l some)
     (λ i. let many = in_list text (λ (qs : List Place). 201 < length qs) ps (is_listed text ps l) i in omega arith)
 
-pub open_first : (text : List ℕ) (ps : List Place) → IsPlainList text ps → 4 ≤ length ps → length ps ≤ 201 → ¬ IsClosed ps → IsFirst text NotClosed
+pub open_first : (text : List ℕ) (ps : List Place) → IsPlainList text ps → 4 ≤ length ps → length ps ≤ 201 → ¬ IsClosed ps → IsFirstFault text NotClosed
 open_first text ps l some few h = record { holds = (ps, (is_listed text ps l, h)); none_before = short_list text ps l some few }
 
 -- a list whose last place is its first
@@ -248,7 +248,7 @@ closed_list text ps c =
     next text NotClosed 118 refl (short_list text ps c.list c.some c.few)
     (λ i. in_list text (λ (qs : List Place). ¬ IsClosed qs) ps (is_listed text ps c.list) i c.closed)
 
-pub not_simple_first : (text : List ℕ) (ps : List Place) → IsClosedList text ps → ¬ IsSimple (ring_of ps) → IsFirst text NotSimple
+pub not_simple_first : (text : List ℕ) (ps : List Place) → IsClosedList text ps → ¬ IsSimple (ring_of ps) → IsFirstFault text NotSimple
 not_simple_first text ps c h = record { holds = (ps, (is_listed text ps c.list, h)); none_before = closed_list text ps c }
 
 simple_list : (text : List ℕ) (ps : List Place) → IsClosedList text ps → IsSimple (ring_of ps) → NoneBelow text 120
@@ -257,7 +257,7 @@ simple_list text ps c simple =
     (λ i. in_list text (λ (qs : List Place). ¬ IsSimple (ring_of qs)) ps (is_listed text ps c.list) i simple)
 
 pub too_large_first : (text : List ℕ) (ps : List Place) → IsClosedList text ps → IsSimple (ring_of ps)
-    → 1000000000000000000 < doubled_area (ring_of ps) → IsFirst text AreaTooLarge
+    → 1000000000000000000 < doubled_area (ring_of ps) → IsFirstFault text AreaTooLarge
 too_large_first text ps c simple h = record { holds = (ps, (is_listed text ps c.list, h)); none_before = simple_list text ps c simple }
 
 none_at_all : (text : List ℕ) (ps : List Place) → IsClosedList text ps → IsSimple (ring_of ps) → doubled_area (ring_of ps) ≤ 1000000000000000000
@@ -281,7 +281,7 @@ no_fault_left text none NotSimple h = none NotSimple (omega arith) h
 no_fault_left text none AreaTooLarge h = none AreaTooLarge (omega arith) h
 
 pub simple_stands : (text : List ℕ) (ps : List Place) → IsClosedList text ps → IsSimple (ring_of ps) → doubled_area (ring_of ps) ≤ 1000000000000000000
-    → StandsFor text (ring_of ps)
+    → Denotes text (ring_of ps)
 simple_stands text ps c simple small = record {
   no_fault = no_fault_left text (none_at_all text ps c simple small);
   places = ps;
@@ -289,7 +289,7 @@ simple_stands text ps c simple small = record {
   is_ring = refl;
 }
 
-pub stands : (text : List ℕ) (ps ring : List Place) → IsClosedList text ps → ring ≡ ring_of ps → IsOutline ring → StandsFor text ring
+pub stands : (text : List ℕ) (ps ring : List Place) → IsClosedList text ps → ring ≡ ring_of ps → IsOutline ring → Denotes text ring
 stands text ps ring c is o =
     let outline : IsOutline (ring_of ps) = subst IsOutline is o in
     record {
@@ -301,40 +301,40 @@ stands text ps ring c is o =
 
 -- ---- results of the reader's steps
 
-pub plain_fault : (text : List ℕ) (polygon : Polygon) (fault : ShapeFault) → IsPolygon text polygon → PlainRing polygon (Err fault) → IsFirst text fault
+pub plain_fault : (text : List ℕ) (polygon : Polygon) (fault : ShapeFault) → IsPolygon text polygon → PlainRing polygon (Err fault) → IsFirstFault text fault
 plain_fault text polygon Empty p h = empty_first text (subst (IsPolygon text) h p)
 plain_fault text polygon Inner p (tagged, rings, h) = inner_first text tagged rings (subst (IsPolygon text) h.0 p) h.1
 plain_fault text polygon ZOrM p (tagged, ring, h) = z_or_m_first text tagged ring (subst (IsPolygon text) h.0 p) h.1
 plain_fault text polygon _ p h = absurd h
 
 pub listed_fault : (text : List ℕ) (ring : Points) (fault : ShapeFault) → IsPolygon text (body false (ring ∷ [])) → AllByRecursion HasTwoWords ring
-    → fault ≢ NoMemory → ReadsPoints ring (Err fault) → IsFirst text fault
+    → fault ≢ NoMemory → ReadsPoints ring (Err fault) → IsFirstFault text fault
 listed_fault text ring Number p two memory h = number_first text ring p two h
 listed_fault text ring Range p two memory h = range_first text ring p two h.0 h.1
 listed_fault text ring NoMemory p two memory h = absurd (memory refl)
 listed_fault text ring _ p two memory h = absurd h
 
-pub closing_fault : (text : List ℕ) (ps : List Place) (fault : ShapeFault) → IsPlainList text ps → Closes ps (Err fault) → IsFirst text fault
+pub closing_fault : (text : List ℕ) (ps : List Place) (fault : ShapeFault) → IsPlainList text ps → IsClosedOrFault ps (Err fault) → IsFirstFault text fault
 closing_fault text ps FewPoints l h = few_first text ps l h
 closing_fault text ps ManyPoints l h = many_first text ps l h
 closing_fault text ps NotClosed l h = open_first text ps l h.0 h.1 h.2
 closing_fault text ps _ l h = absurd h
 
-pub read_closed : (text : List ℕ) (ps : List Place) → IsPlainList text ps → Closes ps (Ok tt) → IsClosedList text ps
+pub read_closed : (text : List ℕ) (ps : List Place) → IsPlainList text ps → IsClosedOrFault ps (Ok tt) → IsClosedList text ps
 read_closed text ps l h = record { list = l; some = h.0; few = h.1; closed = h.2 }
 
-pub enclosed_ring : (text : List ℕ) (ps : List Place) (r : Result (List Place) ShapeFault) → IsClosedList text ps → Encloses ps r → IfOk r (StandsFor text)
+pub enclosed_ring : (text : List ℕ) (ps : List Place) (r : Result (List Place) ShapeFault) → IsClosedList text ps → IsRingOrFault ps r → IfOk r (Denotes text)
 enclosed_ring text ps (Ok ring) c h = stands text ps ring c h.0 h.1
 enclosed_ring text ps (Err f) c h = tt
 
-pub enclosed_fault : (text : List ℕ) (ps : List Place) (r : Result (List Place) ShapeFault) → IsClosedList text ps → Encloses ps r
-    → IfErr r (λ fault. fault ≢ NoMemory → IsFirst text fault)
+pub enclosed_fault : (text : List ℕ) (ps : List Place) (r : Result (List Place) ShapeFault) → IsClosedList text ps → IsRingOrFault ps r
+    → IfErr r (λ fault. fault ≢ NoMemory → IsFirstFault text fault)
 enclosed_fault text ps (Ok ring) c h = tt
 enclosed_fault text ps (Err NotSimple) c h = λ _. not_simple_first text ps c h
 enclosed_fault text ps (Err AreaTooLarge) c h = λ _. too_large_first text ps c h.0 h.1
 enclosed_fault text ps (Err _) c h = absurd h
 
 pub listed_faults : {T : Type 0} (text : List ℕ) (ring : Points) (P : T → Type 0) (r : Result T ShapeFault) → IsPolygon text (body false (ring ∷ []))
-    → AllByRecursion HasTwoWords ring → MatchResult r P (λ fault. ReadsPoints ring (Err fault)) → IfErr r (λ fault. fault ≢ NoMemory → IsFirst text fault)
+    → AllByRecursion HasTwoWords ring → MatchResult r P (λ fault. ReadsPoints ring (Err fault)) → IfErr r (λ fault. fault ≢ NoMemory → IsFirstFault text fault)
 listed_faults text ring P (Ok x) p two h = tt
 listed_faults text ring P (Err f) p two h = λ memory. listed_fault text ring f p two memory h

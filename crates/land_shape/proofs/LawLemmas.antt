@@ -10,10 +10,10 @@ use Rattle.land_shape.specs.declared.faults.ShapeFault.{ShapeFault}
 use Rattle.land_shape.specs.declared.tokens.Token.TheVariants.{Word}
 use Rattle.land_shape.specs.Coordinate.{IsCoordinate}
 use Rattle.land_shape.specs.FaultTexts.{number_of}
-use Rattle.land_shape.specs.Faults.{IsFirst, StandsFor, Lists}
+use Rattle.land_shape.specs.Faults.{IsFirstFault, Denotes, Lists}
 use Rattle.land_shape.specs.Grammar.{body, IsPoint, IsPolygon}
 use Rattle.land_shape.specs.Laws.{PrintedLaw, OneAnswerLaw}
-use Rattle.land_shape.specs.Outline.{IsNear, IsOutline, counterclockwise, ring_of}
+use Rattle.land_shape.specs.Outline.{IsNear, IsOutline, counterclockwise_ring, ring_of}
 use Rattle.land_shape.specs.Place.{Place, area_of, ring_edges}
 use Rattle.land_shape.specs.Printed.{printed}
 use Rattle.land_shape.specs.Steps.{HasTwoWords, IsClosed}
@@ -90,29 +90,29 @@ without_last : (ps : List Place) (p : Place) (n : ℕ) → n ≡ length ps → t
 without_last [] p n e = rw e refl
 without_last (q ∷ ps) p n e = rw e (ap (λ (s : List Place). q ∷ s) (without_last ps p (length ps) refl))
 
-stays : (ring : List Place) → pos 0 <ℤ area_of (ring_edges ring) → counterclockwise ring ≡ ring
+stays : (ring : List Place) → pos 0 <ℤ area_of (ring_edges ring) → counterclockwise_ring ring ≡ ring
 stays ring h =
     let f : int_lt (area_of (ring_edges ring)) (pos 0) ≡ false = sym (omega (arith, ints)) in rw f refl
 
 own_ring : (p : Place) (ps : List Place) → IsOutline (p ∷ ps) → p ∷ ps ≡ ring_of ((p ∷ ps) ++ p ∷ [])
 own_ring p ps o =
     let n : length ((p ∷ ps) ++ p ∷ []) - 1 ≡ length (p ∷ ps) = omega (arith, length-append (p ∷ ps) (p ∷ [])) in
-    sym (ap counterclockwise (without_last (p ∷ ps) p _ n) ∙ stays (p ∷ ps) o.left)
+    sym (ap counterclockwise_ring (without_last (p ∷ ps) p _ n) ∙ stays (p ∷ ps) o.left)
 
-printed_stands : (ring : List Place) → IsOutline ring → StandsFor (printed ring) ring
+printed_stands : (ring : List Place) → IsOutline ring → Denotes (printed ring) ring
 printed_stands [] o = let some = o.some in absurd (omega arith)
 printed_stands (p ∷ ps) o = stands (printed (p ∷ ps)) ((p ∷ ps) ++ p ∷ []) (p ∷ ps) (printed_list p ps o) (own_ring p ps o) o
 
 -- ---- the result is unique
 
-one_ring : (text : List ℕ) (ring other : List Place) → StandsFor text ring → StandsFor text other → ring ≡ other
+one_ring : (text : List ℕ) (ring other : List Place) → Denotes text ring → Denotes text other → ring ≡ other
 one_ring text ring other s t =
     s.is_ring ∙ ap ring_of (listed_once text s.places t.places s.listed t.listed) ∙ sym t.is_ring
 
 less_or_more : (m n : ℕ) → ¬ (m < n) → ¬ (n < m) → m ≡ n
 less_or_more m n h k = omega arith
 
-one_fault : (text : List ℕ) (fault other : ShapeFault) → IsFirst text fault → IsFirst text other → fault ≡ other
+one_fault : (text : List ℕ) (fault other : ShapeFault) → IsFirstFault text fault → IsFirstFault text other → fault ≡ other
 one_fault text fault other f g =
     same_fault fault other
     (less_or_more (number_of fault) (number_of other) (λ l. g.none_before fault l f.holds) (λ l. f.none_before other l g.holds))

@@ -7,7 +7,7 @@ use Rattle.land_shape.specs.declared.faults.ShapeFault.{ShapeFault}
 use Rattle.land_shape.specs.declared.faults.ShapeFault.TheVariants.{Number, Range}
 use Rattle.land_shape.specs.declared.plane.Point.{Point}
 use Rattle.land_shape.specs.Grammar.{Words, Points, Rings, IsPoint}
-use Rattle.land_shape.specs.Faults.{SomeOf, IsLong, IsNoNumber, IsFar, Locate, Lists}
+use Rattle.land_shape.specs.Faults.{SomeOf, HasManyWords, IsNotNumber, IsOutOfRange, Locate, Lists}
 use Rattle.land_shape.specs.Outline.{IsNear}
 use Rattle.land_shape.specs.Place.{Place}
 use Rattle.land_shape.specs.Simple.{place_of, places}
@@ -31,7 +31,7 @@ only_ring rings (first ∷ before) ring e h =
     too_many [] ring h = omega arith
     too_many (first ∷ before) ring h = omega arith
 
-pub two_words_each : (ring : Points) → AllByRecursion IsPoint ring → ¬ SomeOf IsLong ring → AllByRecursion HasTwoWords ring
+pub two_words_each : (ring : Points) → AllByRecursion IsPoint ring → ¬ SomeOf HasManyWords ring → AllByRecursion HasTwoWords ring
 two_words_each [] all none = tt
 two_words_each (words ∷ ring) all none =
     let l = all.0.0 in (short words l (λ h. none (inl h)), two_words_each ring all.1 (λ h. none (inr h)))
@@ -76,7 +76,7 @@ near_points [] = tt
 near_points (p ∷ ps) = ((p.x_in_range, p.y_in_range), near_points ps)
 
 pub wrong_point : (ring : Points) (i : ℕ) (words : Words) (f : ShapeFault) → i < length ring → words ≡ get_or ring i words
-    → ¬ SomeOf (SomeOf IsNoNumber) ring → ReadsPoint words (Err f) → ReadsPoints ring (Err f)
-wrong_point ring i words Number h is none k = some_at (SomeOf IsNoNumber) ring words i h is k
-wrong_point ring i words Range h is none k = (none, some_at (SomeOf IsFar) ring words i h is k)
+    → ¬ SomeOf (SomeOf IsNotNumber) ring → ReadsPoint words (Err f) → ReadsPoints ring (Err f)
+wrong_point ring i words Number h is none k = some_at (SomeOf IsNotNumber) ring words i h is k
+wrong_point ring i words Range h is none k = (none, some_at (SomeOf IsOutOfRange) ring words i h is k)
 wrong_point ring i words _ h is none k = absurd k

@@ -6,7 +6,7 @@ use Rattle.std.specs.List.Sorted.{IsPartitionedBy}
 use Rattle.land_shape.specs.declared.plane.Point.{Point}
 use Rattle.land_shape.specs.Place.{Place}
 use Rattle.land_shape.specs.Simple.{place_of, places}
-use Rattle.land_shape.specs.Walks.{is_before, walk, Rises}
+use Rattle.land_shape.specs.Walks.{is_before, walk, IsAscendingBy}
 use Rattle.land_shape.proofs.Order.{Before, before_all, before_of, of_before, one_before}
 use Rattle.land_shape.proofs.WalkLemmas.{skip_before, skip_after, clash}
 
@@ -26,7 +26,7 @@ no_later p q t n h =
       ]
     ]
 
-pub parted : (xs : List Point) (t : Place) → Rises is_before (places xs) → IsPartitionedBy (λ p. is_before (place_of p) t) xs
+pub parted : (xs : List Point) (t : Place) → IsAscendingBy is_before (places xs) → IsPartitionedBy (λ p. is_before (place_of p) t) xs
 parted [] t up i j d le lt h = absurd (omega arith)
 parted (x ∷ xs) t up zero zero d le lt h = h
 parted (x ∷ xs) t up zero (suc j) d le lt h =
@@ -61,7 +61,7 @@ taken_places (p ∷ ps) (suc n) = ap (λ (qs : List Place). place_of p ∷ qs) (
 pub rest_places : (ps : List Point) (n : ℕ) → places (take (length ps - n) (drop n ps)) ≡ drop n (places ps)
 rest_places ps n = ap places (take_rest ps n) ∙ dropped_places ps n
 
-pub rises_rest : {X : Type 0} (lt : X → X → Bool) (n : ℕ) (xs : List X) → Rises lt xs → Rises lt (drop n xs)
+pub rises_rest : {X : Type 0} (lt : X → X → Bool) (n : ℕ) (xs : List X) → IsAscendingBy lt xs → IsAscendingBy lt (drop n xs)
 rises_rest lt zero [] h = h
 rises_rest lt (suc n) [] h = h
 rises_rest lt zero (x ∷ xs) h = h

@@ -12,7 +12,7 @@ use lib.IntN.{ℤ}
 use Rattle.std.specs.Char.{is_ascii_digit, digit_value}
 use Rattle.std.specs.Int.{IsInRange}
 use Rattle.std.specs.Str.Parse.{digits_value}
-use Rattle.land_shape.specs.Numbers.{are_digits, unsigned_of, after_sign, with_sign, coordinate_of}
+use Rattle.land_shape.specs.Numbers.{are_digits, unsigned_of, split_sign, with_sign, coordinate_of}
 use Rattle.land_shape.specs.Coordinate.{IsCoordinate}
 use Rattle.land_shape.proofs.GrammarLemmas.{either_way}
 
@@ -39,16 +39,16 @@ too_far : (negative : Bool) (n : ℕ) → 10000000000 < n → ¬ IsCoordinate (w
 too_far true n h c = let l = c.0 in let g = c.1 in omega (arith, ints)
 too_far false n h c = let l = c.0 in let g = c.1 in omega (arith, ints)
 
-pub far_number : (w : List ℕ) (size : ℕ) → Some size ≡ option_map (λ n. min n 10000000001) (unsigned_of (after_sign w).1) → 10000000000 < size
+pub far_number : (w : List ℕ) (size : ℕ) → Some size ≡ option_map (λ n. min n 10000000001) (unsigned_of (split_sign w).1) → 10000000000 < size
     → (z : ℤ) × ((coordinate_of w ≡ Some z) × (¬ IsCoordinate z))
-far_number w size e h = go (unsigned_of (after_sign w).1) refl e
+far_number w size e h = go (unsigned_of (split_sign w).1) refl e
   where
-    go : (o : Option ℕ) → unsigned_of (after_sign w).1 ≡ o → Some size ≡ option_map (λ n. min n 10000000001) o
+    go : (o : Option ℕ) → unsigned_of (split_sign w).1 ≡ o → Some size ≡ option_map (λ n. min n 10000000001) o
         → (z : ℤ) × ((coordinate_of w ≡ Some z) × (¬ IsCoordinate z))
     go None is k = cc k
     go (Some n) is k =
         let s : size ≡ min n 10000000001 = cc in
-        (with_sign (after_sign w).0 n, (ap (λ (o : Option ℕ). option_map (with_sign (after_sign w).0) o) is, too_far (after_sign w).0 n (omega arith)))
+        (with_sign (split_sign w).0 n, (ap (λ (o : Option ℕ). option_map (with_sign (split_sign w).0) o) is, too_far (split_sign w).0 n (omega arith)))
 
 -- the first point, found or not
 pub first_found : (p : ℕ → Bool) (w : List ℕ) → unwrap_or (position p w) (length w) ≡ position_or_len p w

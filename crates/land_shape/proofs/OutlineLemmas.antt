@@ -10,9 +10,9 @@ use Rattle.std.specs.Prelude.{int_lt}
 use Rattle.land_shape.specs.declared.plane.Point.{Point}
 use Rattle.std.proofs.lemmas.Int.{by_lt_z}
 use lib.Signed.{◌≤ℤ◌}
-use Rattle.land_shape.specs.Outline.{turned, counterclockwise, ring_of, IsOutline}
+use Rattle.land_shape.specs.Outline.{turned, counterclockwise_ring, ring_of, IsOutline}
 use Rattle.land_shape.specs.Place.{Place, area_of, ring_edges}
-use Rattle.land_shape.specs.Simple.{place_of, places, HaveLength, AllMeetRightly}
+use Rattle.land_shape.specs.Simple.{place_of, places, HaveLength, AllMeetOnlyAtJoints}
 use Rattle.land_shape.proofs.GrammarLemmas.{either_way}
 use Rattle.land_shape.proofs.ListingLemmas.{near_points}
 use Rattle.land_shape.proofs.Turned.{ring-turned}
@@ -40,7 +40,7 @@ pub area-turned : (ring : List Place) → area_of (ring_edges (turned ring)) ≡
 area-turned [] = refl
 area-turned (p ∷ ps) = ring-turned p ps
 
-pub put_left : (ring : List Place) → area_of (ring_edges ring) <ℤ pos 0 → counterclockwise ring ≡ turned ring
+pub put_left : (ring : List Place) → area_of (ring_edges ring) <ℤ pos 0 → counterclockwise_ring ring ≡ turned ring
 put_left ring h = let t : int_lt (area_of (ring_edges ring)) (pos 0) ≡ true = sym (omega (arith, ints)) in rw t refl
 
 -- the elements of a `Vec` after a write to all of them
@@ -55,7 +55,7 @@ length_turned : (ring : List Place) → length (turned ring) ≡ length ring
 length_turned [] = refl
 length_turned (p ∷ ps) = ap suc (length-reverse ps)
 
-length_left : (ring : List Place) → length (counterclockwise ring) ≡ length ring
+length_left : (ring : List Place) → length (counterclockwise_ring ring) ≡ length ring
 length_left ring =
     either_way (int_lt (area_of (ring_edges ring)) (pos 0))
     (λ t. rw t (length_turned ring))
@@ -68,7 +68,7 @@ length-ring_of listed =
 -- the results of the checks imply that the ring is an outline
 pub outlined : (ps : List Point) (listed : List Place) (area : ℤ) → places ps ≡ ring_of listed → 4 ≤ length listed → length listed ≤ 201
     → area ≡ area_of (ring_edges (places ps)) → pos 0 ≤ℤ area → ¬ (area ≡ pos 0) → area ≤ℤ pos 1000000000000000000
-    → HaveLength (places ps) × AllMeetRightly (places ps) → IsOutline (places ps)
+    → HaveLength (places ps) × AllMeetOnlyAtJoints (places ps) → IsOutline (places ps)
 outlined ps listed area is some few e left wide small apart =
     let n : length (places ps) ≡ length listed - 1 = ap length is ∙ length-ring_of listed in
     record {
@@ -80,9 +80,9 @@ outlined ps listed area is some few e left wide small apart =
       small = omega (arith, ints, e);
     }
 
-pub ring_of-points : (ring kept listed : List Point) (n : ℕ) → places ring ≡ counterclockwise (places kept) → kept ≡ take (n - 1) listed
+pub ring_of-points : (ring kept listed : List Point) (n : ℕ) → places ring ≡ counterclockwise_ring (places kept) → kept ≡ take (n - 1) listed
     → n ≡ length listed → places ring ≡ ring_of (places listed)
 ring_of-points ring kept listed n e k m =
     let l : n ≡ length (places listed) = m ∙ sym (length-map listed place_of) in
-    e ∙ ap (λ (s : List Point). counterclockwise (places s)) k ∙ ap counterclockwise (sym (take-map place_of (n - 1) listed))
-    ∙ ap (λ (j : ℕ). counterclockwise (take (j - 1) (places listed))) l
+    e ∙ ap (λ (s : List Point). counterclockwise_ring (places s)) k ∙ ap counterclockwise_ring (sym (take-map place_of (n - 1) listed))
+    ∙ ap (λ (j : ℕ). counterclockwise_ring (take (j - 1) (places listed))) l

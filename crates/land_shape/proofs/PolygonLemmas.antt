@@ -7,7 +7,7 @@ use Rattle.std.specs.Str.{str_eq_ignore_ascii_case, str_to_ascii_lowercase}
 use Rattle.land_shape.specs.declared.tokens.Token.{Token}
 use Rattle.land_shape.specs.declared.tokens.Token.TheVariants.{Open, Close, Comma, Word}
 use Rattle.land_shape.specs.Grammar.{Rings, Polygon, empty, body, body_tokens, is_keyword, is_tag, is_tagged_keyword, is_empty_word, IsHead, IsBody, IsWritten}
-use Rattle.land_shape.specs.Reader.{after_tag, is_empty_alone, polygon_after, polygon_of, body_of}
+use Rattle.land_shape.specs.Reader.{split_tag, is_only_empty_word, polygon_after, polygon_of, body_of}
 use Rattle.land_shape.proofs.GrammarLemmas.{either_way, body_written, body_means}
 
 -- ---- a word spells one of the words at most
@@ -49,14 +49,14 @@ polygon_written tokens (body tagged rings) w = ap polygon_of w.whole ∙ bodied_
 
 -- ---- the reader accepts only written forms
 
-alone : (tagged : Bool) (head ts : List Token) → IsHead tagged head → is_empty_alone ts ≡ true → IsWritten (head ++ ts) empty
+alone : (tagged : Bool) (head ts : List Token) → IsHead tagged head → is_only_empty_word ts ≡ true → IsWritten (head ++ ts) empty
 alone tagged head (Word w ∷ []) h e = record { tagged = tagged; head = head; word = w; is_head = h; is_empty = e; whole = refl }
 alone tagged head _ h e = cc e
 
 after_means : (tagged : Bool) (head ts : List Token) (polygon : Polygon) → IsHead tagged head → polygon_after (tagged, ts) ≡ Some polygon
     → IsWritten (head ++ ts) polygon
 after_means tagged head ts polygon h e =
-    either_way (is_empty_alone ts)
+    either_way (is_only_empty_word ts)
     (λ t. let k : Some empty ≡ Some polygon = rw t at e in let same : empty ≡ polygon = cc in rw (sym same) (alone tagged head ts h t))
     (λ f. let k : option_map (body tagged) (body_of ts) ≡ Some polygon = rw f at e in go (body_of ts) refl k)
   where
@@ -67,7 +67,7 @@ after_means tagged head ts polygon h e =
         let b = body_means ts rings is in
         rw (sym same) (record { head = head; is_head = h; is_body = b.0; whole = ap (λ (t : List Token). head ++ t) b.1 })
 
-tag_means : (k : List ℕ) (ts : List Token) (polygon : Polygon) → is_keyword k ≡ true → polygon_after (after_tag ts) ≡ Some polygon
+tag_means : (k : List ℕ) (ts : List Token) (polygon : Polygon) → is_keyword k ≡ true → polygon_after (split_tag ts) ≡ Some polygon
     → IsWritten (Word k ∷ ts) polygon
 tag_means k (Word t ∷ ts) polygon h e =
     either_way (is_tag t)
@@ -83,6 +83,6 @@ polygon_means (Word k ∷ ts) polygon e =
     either_way (is_tagged_keyword k)
     (λ y. let m : polygon_after (true, ts) ≡ Some polygon = rw y at e in after_means true (Word k ∷ []) ts polygon y m)
     (λ n. either_way (is_keyword k)
-    (λ y. let m : polygon_after (after_tag ts) ≡ Some polygon = rw (n, y) at e in tag_means k ts polygon y m)
+    (λ y. let m : polygon_after (split_tag ts) ≡ Some polygon = rw (n, y) at e in tag_means k ts polygon y m)
     (λ m. let none : None ≡ Some polygon = rw (n, m) at e in cc none))
 polygon_means _ polygon e = cc e

@@ -14,7 +14,7 @@ use Rattle.std.specs.Str.Parse.{AllDigits, digits_value}
 use Rattle.std.specs.Fmt.{signed_decimal, decimal}
 use lib.IntN.{ℤ, pos, negsuc, ◌-ℤ◌}
 use lib.Signed.{mag}
-use Rattle.land_shape.specs.Numbers.{is_point_byte, are_digits, unsigned_of, after_sign, with_sign, coordinate_of}
+use Rattle.land_shape.specs.Numbers.{is_point_byte, are_digits, unsigned_of, split_sign, with_sign, coordinate_of}
 
 no_point : (c : ℕ) → IsInRange 48 57 c → not (is_point_byte c) ≡ true
 no_point c h = grind (arith, nat_tests)
@@ -48,7 +48,7 @@ no_minus c h = grind (arith, nat_tests)
 no_plus : (c : ℕ) → IsInRange 48 57 c → (c == 43) ≡ false
 no_plus c h = grind (arith, nat_tests)
 
-no_sign : (ds : List ℕ) → AllDigits 10 ds → after_sign ds ≡ (false, ds)
+no_sign : (ds : List ℕ) → AllDigits 10 ds → split_sign ds ≡ (false, ds)
 no_sign [] h = refl
 no_sign (d ∷ ds) h = rw (no_minus d (digit_from_value d h.0), no_plus d (digit_from_value d h.0)) refl
 

@@ -3,7 +3,7 @@ use Rattle.std.proofs.Common.{◌≡◌, ◌↔◌, true, false, List, refl, sym
 use Rattle.std.specs.Cmp.Lexicographic.{pointwise, pointwise_decides}
 use Rattle.land_shape.specs.Matching.{is_same_edge, count_of}
 use Rattle.land_shape.specs.Place.{Edge}
-use Rattle.land_shape.specs.Walks.{HaveSameEdges, Rises, edge_before}
+use Rattle.land_shape.specs.Walks.{HaveSameEdges, IsAscendingBy, edge_before}
 use Rattle.land_shape.proofs.Balance.{as_times}
 use Rattle.land_shape.proofs.MatchingLaw.{same_edge_is, same_edge_itself}
 use Rattle.land_shape.proofs.Order.{one_edge_before, of_edge_before}
@@ -19,7 +19,7 @@ level e f h k = elim (one_edge_before e f) as (λ o. e ≡ f) [
 decided : (e f : Edge) → (is_same_edge e f ≡ true → e ≡ f) × (e ≡ f → is_same_edge e f ≡ true)
 decided e f = (same_edge_is e f, λ s. subst (λ (g : Edge). is_same_edge e g ≡ true) s (same_edge_itself e))
 
-pub same_lists : (es fs sorted others : List Edge) → Rises edge_before sorted → Rises edge_before others
+pub same_lists : (es fs sorted others : List Edge) → IsAscendingBy edge_before sorted → IsAscendingBy edge_before others
     → HaveSameEdges sorted es → HaveSameEdges others fs → IsTrue (pointwise is_same_edge sorted others) ↔ HaveSameEdges es fs
 same_lists es fs sorted others up vp he hf =
     let decides : (pointwise is_same_edge sorted others ≡ true → sorted ≡ others) × (sorted ≡ others → pointwise is_same_edge sorted others ≡ true)

@@ -6,7 +6,7 @@ use Rattle.std.specs.Cmp.{IsStrictWeakOrder}
 use Rattle.std.specs.List.{AllByRecursion, Contains, sum_by}
 use Rattle.std.specs.List.Sorted.{IsSortedBy, IsPermutation}
 use Rattle.land_shape.specs.Faults.{SomeOf}
-use Rattle.land_shape.specs.Walks.{Rises}
+use Rattle.land_shape.specs.Walks.{IsAscendingBy}
 use Rattle.land_shape.proofs.Tallies.{tally, either_way}
 
 -- from a fact at each index
@@ -14,7 +14,7 @@ each_of : {X : Type 0} (P : X → Type 0) (xs : List X) → ((k : ℕ) (d : X) �
 each_of P [] h = tt
 each_of P (x ∷ xs) h = (h 0 x (omega arith), each_of P xs (λ k d l. h (suc k) d (omega arith)))
 
-pub rises_from_sorted : {X : Type 0} (lt : X → X → Bool) (o : IsStrictWeakOrder lt) (xs : List X) → IsSortedBy lt xs → Rises lt xs
+pub rises_from_sorted : {X : Type 0} (lt : X → X → Bool) (o : IsStrictWeakOrder lt) (xs : List X) → IsSortedBy lt xs → IsAscendingBy lt xs
 rises_from_sorted lt o [] up = tt
 rises_from_sorted {X} lt o (x ∷ xs) up = (
   each_of (λ y. lt y x ≡ false) xs (λ k d l. sorted_far lt o (x ∷ xs) up 0 (suc k) d (omega arith) (omega arith)),
@@ -26,7 +26,7 @@ pub all_map : {X Y : Type 0} (f : X → Y) (P : Y → Type 0) (xs : List X) → 
 all_map f P [] h = tt
 all_map f P (x ∷ xs) h = (h.0, all_map f P xs h.1)
 
-pub rises_map : {X Y : Type 0} (f : X → Y) (lt : Y → Y → Bool) (xs : List X) → Rises (λ a b. lt (f a) (f b)) xs → Rises lt (map f xs)
+pub rises_map : {X Y : Type 0} (f : X → Y) (lt : Y → Y → Bool) (xs : List X) → IsAscendingBy (λ a b. lt (f a) (f b)) xs → IsAscendingBy lt (map f xs)
 rises_map f lt [] h = tt
 rises_map f lt (x ∷ xs) h = (all_map f (λ y. lt y (f x) ≡ false) xs h.0, rises_map f lt xs h.1)
 
@@ -54,7 +54,7 @@ tally-permutation eq z xs ys p =
 
 module _ {X : Type 0} (eq : X → X → Bool) (same : (a b : X) → eq a b ≡ true → a ≡ b) (itself : (a : X) → eq a a ≡ true)
     (lt : X → X → Bool) (level : (a b : X) → lt a b ≡ false → lt b a ≡ false → a ≡ b) where
-  first_least : (x y : X) (ys : List X) → Rises lt (y ∷ ys) → 1 ≤ tally eq x (y ∷ ys) → (lt x y ≡ false) ⊎ (x ≡ y)
+  first_least : (x y : X) (ys : List X) → IsAscendingBy lt (y ∷ ys) → 1 ≤ tally eq x (y ∷ ys) → (lt x y ≡ false) ⊎ (x ≡ y)
   first_least x y ys up h =
       either_way (eq y x)
       (λ yes. inr (sym (same y x yes)))
@@ -67,14 +67,14 @@ module _ {X : Type 0} (eq : X → X → Bool) (same : (a b : X) → eq a b ≡ t
           (λ yes. subst (λ (w : X). lt w y ≡ false) (same z x yes) all.0)
           (λ no. let g : 1 ≤ 0 + tally eq x zs = rw no at k in later zs all.1 (omega arith))
 
-  same_first : (x y : X) (xs ys : List X) → Rises lt (x ∷ xs) → Rises lt (y ∷ ys) → 1 ≤ tally eq x (y ∷ ys) → 1 ≤ tally eq y (x ∷ xs) → x ≡ y
+  same_first : (x y : X) (xs ys : List X) → IsAscendingBy lt (x ∷ xs) → IsAscendingBy lt (y ∷ ys) → 1 ≤ tally eq x (y ∷ ys) → 1 ≤ tally eq y (x ∷ xs) → x ≡ y
   same_first x y xs ys up vp hx hy = elim (first_least x y ys vp hx) as (λ o. x ≡ y) [
     | inr e ↦ e
     | inl a ↦ elim (first_least y x xs up hy) as (λ o. x ≡ y) [ inr e ↦ sym e | inl b ↦ level x y a b ]
   ]
 
   -- sorted lists that have each element as often are one
-  pub one_sorted : (xs ys : List X) → Rises lt xs → Rises lt ys → ((z : X) → tally eq z xs ≡ tally eq z ys) → xs ≡ ys
+  pub one_sorted : (xs ys : List X) → IsAscendingBy lt xs → IsAscendingBy lt ys → ((z : X) → tally eq z xs ≡ tally eq z ys) → xs ≡ ys
   one_sorted [] [] up vp h = refl
   one_sorted [] (y ∷ ys) up vp h = let g : 0 ≡ 1 + tally eq y ys = rw itself at (h y) in absurd (omega arith)
   one_sorted (x ∷ xs) [] up vp h = let g : 1 + tally eq x xs ≡ 0 = rw itself at (h x) in absurd (omega arith)

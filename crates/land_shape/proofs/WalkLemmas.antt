@@ -3,7 +3,7 @@ use Rattle.std.proofs.Common.{◌≡◌, Bool, true, false, List, [], ◌∷◌,
 use Rattle.std.specs.List.{AllByRecursion}
 use Rattle.land_shape.specs.Matching.{lies_inside, pieces}
 use Rattle.land_shape.specs.Place.{Place, Edge}
-use Rattle.land_shape.specs.Walks.{walk, is_before, Rises}
+use Rattle.land_shape.specs.Walks.{walk, is_before, IsAscendingBy}
 use Rattle.land_shape.proofs.Betweenness.{edge, inside_after, inside_before}
 use Rattle.land_shape.proofs.Order.{Before, never_itself, before_all, before_of, of_before}
 use Rattle.land_shape.proofs.Tallies.{either_way}
@@ -11,7 +11,7 @@ use Rattle.land_shape.proofs.Turning.{pieces-append}
 
 -- the places are ordered from left to right
 abbrev pub Rise : List Place → Type 0
-Rise ps = Rises is_before ps
+Rise ps = IsAscendingBy is_before ps
 
 pub clash : (P : Type 0) (b : Bool) → b ≡ true → b ≡ false → P
 clash P b t f = let e : true ≡ false = sym t ∙ f in cc e

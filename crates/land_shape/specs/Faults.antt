@@ -26,14 +26,14 @@ HasPoint P rings = SomeOf (SomeOf P) rings
 abbrev pub HasWord : (List ℕ → Type 0) → Rings → Type 0
 HasWord P rings = HasPoint (SomeOf P) rings
 
-abbrev pub IsLong : Words → Type 0
-IsLong words = 3 ≤ length words
+abbrev pub HasManyWords : Words → Type 0
+HasManyWords words = 3 ≤ length words
 
-abbrev pub IsNoNumber : List ℕ → Type 0
-IsNoNumber word = coordinate_of word ≡ None
+abbrev pub IsNotNumber : List ℕ → Type 0
+IsNotNumber word = coordinate_of word ≡ None
 
-abbrev pub IsFar : List ℕ → Type 0
-IsFar word = (z : ℤ) × ((coordinate_of word ≡ Some z) × (¬ IsCoordinate z))
+abbrev pub IsOutOfRange : List ℕ → Type 0
+IsOutOfRange word = (z : ℤ) × ((coordinate_of word ≡ Some z) × (¬ IsCoordinate z))
 
 -- the words are the two coordinates of the place
 abbrev pub Locate : Words → Place → Type 0
@@ -49,7 +49,7 @@ Lists _ _ = ⊥
 -- ---- texts
 
 -- the text is a polygon with a body that has this property
-pub record InBody (text : List ℕ) (P : Bool → Rings → Type 0) : Type 0 where
+pub record HasBodyWhere (text : List ℕ) (P : Bool → Rings → Type 0) : Type 0 where
   pub tagged : Bool
   pub rings : Rings
   pub is_polygon : IsPolygon text (body tagged rings)
@@ -62,32 +62,32 @@ pub record ListsPlaces (text : List ℕ) (places : List Place) : Type 0 where
   pub is_polygon : IsPolygon text (body tagged (points ∷ []))
   pub lists : Lists points places
 
-abbrev pub InList : List ℕ → (List Place → Type 0) → Type 0
-InList text P = (places : List Place) × (ListsPlaces text places × P places)
+abbrev pub ListsPlacesWhere : List ℕ → (List Place → Type 0) → Type 0
+ListsPlacesWhere text P = (places : List Place) × (ListsPlaces text places × P places)
 
 abbrev pub HasFault : ShapeFault → List ℕ → Type 0
 HasFault NotPolygon text = (polygon : Polygon) → ¬ IsPolygon text polygon
 HasFault Empty text = IsPolygon text empty
-HasFault Inner text = InBody text (λ tagged rings. 2 ≤ length rings)
-HasFault ZOrM text = InBody text (λ tagged rings. (tagged ≡ true) ⊎ HasPoint IsLong rings)
-HasFault Number text = InBody text (λ tagged rings. HasWord IsNoNumber rings)
-HasFault Range text = InBody text (λ tagged rings. HasWord IsFar rings)
-HasFault FewPoints text = InList text (λ places. length places < 4)
-HasFault ManyPoints text = InList text (λ places. 201 < length places)
-HasFault NotClosed text = InList text (λ places. ¬ (place_at places (length places - 1) ≡ place_at places 0))
-HasFault NotSimple text = InList text (λ places. ¬ IsSimple (ring_of places))
-HasFault AreaTooLarge text = InList text (λ places. 1000000000000000000 < doubled_area (ring_of places))
+HasFault Inner text = HasBodyWhere text (λ tagged rings. 2 ≤ length rings)
+HasFault ZOrM text = HasBodyWhere text (λ tagged rings. (tagged ≡ true) ⊎ HasPoint HasManyWords rings)
+HasFault Number text = HasBodyWhere text (λ tagged rings. HasWord IsNotNumber rings)
+HasFault Range text = HasBodyWhere text (λ tagged rings. HasWord IsOutOfRange rings)
+HasFault FewPoints text = ListsPlacesWhere text (λ places. length places < 4)
+HasFault ManyPoints text = ListsPlacesWhere text (λ places. 201 < length places)
+HasFault NotClosed text = ListsPlacesWhere text (λ places. ¬ (place_at places (length places - 1) ≡ place_at places 0))
+HasFault NotSimple text = ListsPlacesWhere text (λ places. ¬ IsSimple (ring_of places))
+HasFault AreaTooLarge text = ListsPlacesWhere text (λ places. 1000000000000000000 < doubled_area (ring_of places))
 HasFault NoMemory text = ⊥
 
 -- ---- results
 
 -- the fault holds, and none with a lower number does
-pub record IsFirst (text : List ℕ) (fault : ShapeFault) : Type 0 where
+pub record IsFirstFault (text : List ℕ) (fault : ShapeFault) : Type 0 where
   pub holds : HasFault fault text
   pub none_before : (other : ShapeFault) → number_of other < number_of fault → ¬ HasFault other text
 
 -- no fault holds, and the ring is that of the places that the text lists
-pub record StandsFor (text : List ℕ) (ring : List Place) : Type 0 where
+pub record Denotes (text : List ℕ) (ring : List Place) : Type 0 where
   pub no_fault : (fault : ShapeFault) → ¬ HasFault fault text
   pub places : List Place
   pub listed : ListsPlaces text places
@@ -95,5 +95,5 @@ pub record StandsFor (text : List ℕ) (ring : List Place) : Type 0 where
 
 -- the result for a text: the ring that it denotes, or its first fault
 abbrev pub IsOutlineAnswer : List ℕ → Result (List Place) ShapeFault → Type 0
-IsOutlineAnswer text (Ok ring) = StandsFor text ring
-IsOutlineAnswer text (Err fault) = IsFirst text fault
+IsOutlineAnswer text (Ok ring) = Denotes text ring
+IsOutlineAnswer text (Err fault) = IsFirstFault text fault

@@ -75,31 +75,31 @@ abbrev pub count_along : Edge → List Edge → ℤ
 count_along e es = pos (count_of e es) -ℤ pos (count_of (reversed e) es)
 
 -- two lists of edges have the same balance along every edge
-abbrev pub LeadAlike : List Edge → List Edge → Type 0
-LeadAlike ours theirs = (e : Edge) → count_along e ours ≡ count_along e theirs
+abbrev pub HaveSameBalance : List Edge → List Edge → Type 0
+HaveSameBalance ours theirs = (e : Edge) → count_along e ours ≡ count_along e theirs
 
 -- two lists of rings have the same ground: their edges, each cut at every corner of any of the rings, have
 -- the same balance
 unfoldable pub Match : List (List Place) → List (List Place) → Type 0
 Match rings others =
     let corners = places_of (rings ++ others) in
-    LeadAlike (pieces corners (edges_of rings)) (pieces corners (edges_of others))
+    HaveSameBalance (pieces corners (edges_of rings)) (pieces corners (edges_of others))
 
 -- whether two lists of edges have the same balance along an edge
-abbrev pub do_agree : List Edge → List Edge → Edge → Bool
-do_agree ours theirs e = int_eq (count_along e ours) (count_along e theirs)
+abbrev pub have_same_balance_along : List Edge → List Edge → Edge → Bool
+have_same_balance_along ours theirs e = int_eq (count_along e ours) (count_along e theirs)
 
 -- the test for the same ground: the pieces of both have the same balance along each piece that occurs
-unfoldable pub do_match : List (List Place) → List (List Place) → Bool
-do_match rings others =
+unfoldable pub passes_matching_test : List (List Place) → List (List Place) → Bool
+passes_matching_test rings others =
     let corners = places_of (rings ++ others) in
     let ours = pieces corners (edges_of rings) in
     let theirs = pieces corners (edges_of others) in
-    list_all (do_agree ours theirs) (ours ++ theirs)
+    list_all (have_same_balance_along ours theirs) (ours ++ theirs)
 
 -- the test decides whether lists of rings match
 abbrev pub TestLaw : Type 0
-TestLaw = (rings others : List (List Place)) → IsTrue (do_match rings others) ↔ Match rings others
+TestLaw = (rings others : List (List Place)) → IsTrue (passes_matching_test rings others) ↔ Match rings others
 
 -- whether a ring runs counterclockwise, as each outline does
 abbrev pub runs_counterclockwise : List Place → Bool

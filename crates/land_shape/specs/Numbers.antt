@@ -33,13 +33,13 @@ unsigned_of w =
     else None
 
 -- whether the first byte is a minus, and the remainder without a sign
-abbrev pub after_sign : List ℕ → Bool × List ℕ
-after_sign [] = (false, [])
-after_sign (b ∷ w) = if b == 45 then (true, w) else (if b == 43 then (false, w) else (false, b ∷ w))
+abbrev pub split_sign : List ℕ → Bool × List ℕ
+split_sign [] = (false, [])
+split_sign (b ∷ w) = if b == 45 then (true, w) else (if b == 43 then (false, w) else (false, b ∷ w))
 
 abbrev pub with_sign : Bool → ℕ → ℤ
 with_sign negative n = if negative then pos 0 -ℤ pos n else pos n
 
 -- the value of a word, or None if it is not a coordinate
 abbrev pub coordinate_of : List ℕ → Option ℤ
-coordinate_of w = option_map (with_sign (after_sign w).0) (unsigned_of (after_sign w).1)
+coordinate_of w = option_map (with_sign (split_sign w).0) (unsigned_of (split_sign w).1)

@@ -16,14 +16,14 @@ abbrev pub turned : List Place → List Place
 turned [] = []
 turned (p ∷ ps) = p ∷ reverse ps
 
-abbrev pub counterclockwise : List Place → List Place
-counterclockwise ring = if int_lt (area_of (ring_edges ring)) (pos 0) then turned ring else ring
+abbrev pub counterclockwise_ring : List Place → List Place
+counterclockwise_ring ring = if int_lt (area_of (ring_edges ring)) (pos 0) then turned ring else ring
 
 -- the ring of the points that a text lists, counterclockwise. The last point closes the ring and is dropped.
 -- Reversing a ring leaves its edges in place, so conditions on them can be checked on the counterclockwise
 -- ring.
 abbrev pub ring_of : List Place → List Place
-ring_of listed = counterclockwise (take (length listed - 1) listed)
+ring_of listed = counterclockwise_ring (take (length listed - 1) listed)
 
 abbrev pub IsNear : Place → Type 0
 IsNear p = IsCoordinate p.x × IsCoordinate p.y

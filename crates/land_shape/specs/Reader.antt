@@ -24,8 +24,8 @@ pub record Reading : Type 0 where
 abbrev pub progress_of : Progress → Reading
 progress_of p = record { at = p.at; rings = p.rings.items; points = p.points.items; words = p.words.items }
 
-abbrev pub nothing_read : Reading
-nothing_read = record { at = BeforeBody; rings = []; points = []; words = [] }
+abbrev pub start_of_body : Reading
+start_of_body = record { at = BeforeBody; rings = []; points = []; words = [] }
 
 abbrev pub is_point : Words → Bool
 is_point words = nat_le 2 (length words) && nat_le (length words) 4
@@ -41,19 +41,19 @@ with_point r = record r { points = r.points ++ r.words ∷ []; words = [] }
 abbrev pub with_ring : Reading → Reading
 with_ring r = record r { at = AfterRing; rings = r.rings ++ r.points ∷ []; points = [] }
 
-abbrev pub after_at : At → Token → Reading → Option Reading
-after_at BeforeBody Open r = Some (record r { at = BeforeRing })
-after_at BeforeRing Open r = Some (record r { at = InPoint })
-after_at InPoint (Word w) r = Some (with_word r w)
-after_at InPoint Comma r = if is_point r.words then Some (with_point r) else None
-after_at InPoint Close r = if is_point r.words then Some (with_ring (with_point r)) else None
-after_at AfterRing Comma r = Some (record r { at = BeforeRing })
-after_at AfterRing Close r = Some (record r { at = AfterBody })
-after_at _ _ r = None
+abbrev pub after_token_at : At → Token → Reading → Option Reading
+after_token_at BeforeBody Open r = Some (record r { at = BeforeRing })
+after_token_at BeforeRing Open r = Some (record r { at = InPoint })
+after_token_at InPoint (Word w) r = Some (with_word r w)
+after_token_at InPoint Comma r = if is_point r.words then Some (with_point r) else None
+after_token_at InPoint Close r = if is_point r.words then Some (with_ring (with_point r)) else None
+after_token_at AfterRing Comma r = Some (record r { at = BeforeRing })
+after_token_at AfterRing Close r = Some (record r { at = AfterBody })
+after_token_at _ _ r = None
 
 -- the state after one more token; None if a body cannot continue with it
 abbrev pub after : Reading → Token → Option Reading
-after r token = after_at r.at token r
+after r token = after_token_at r.at token r
 
 abbrev pub after_all : Reading → List Token → Option Reading
 after_all r [] = Some r
@@ -64,29 +64,29 @@ rings_at_end AfterBody rings = Some rings
 rings_at_end _ rings = None
 
 abbrev pub body_of : List Token → Option Rings
-body_of tokens = option_and_then (λ r. rings_at_end r.at r.rings) (after_all nothing_read tokens)
+body_of tokens = option_and_then (λ r. rings_at_end r.at r.rings) (after_all start_of_body tokens)
 
 -- ---- whole texts
 
 -- whether the first token is a tag, and the remainder without it
-abbrev pub after_tag : List Token → Bool × List Token
-after_tag (Word t ∷ ts) = if is_tag t then (true, ts) else (false, Word t ∷ ts)
-after_tag ts = (false, ts)
+abbrev pub split_tag : List Token → Bool × List Token
+split_tag (Word t ∷ ts) = if is_tag t then (true, ts) else (false, Word t ∷ ts)
+split_tag ts = (false, ts)
 
-abbrev pub after_head : List Token → Option (Bool × List Token)
-after_head (Word k ∷ ts) =
-    if is_tagged_keyword k then Some (true, ts) else (if is_keyword k then Some (after_tag ts) else None)
-after_head ts = None
+abbrev pub split_head : List Token → Option (Bool × List Token)
+split_head (Word k ∷ ts) =
+    if is_tagged_keyword k then Some (true, ts) else (if is_keyword k then Some (split_tag ts) else None)
+split_head ts = None
 
-abbrev pub is_empty_alone : List Token → Bool
-is_empty_alone (Word w ∷ []) = is_empty_word w
-is_empty_alone ts = false
+abbrev pub is_only_empty_word : List Token → Bool
+is_only_empty_word (Word w ∷ []) = is_empty_word w
+is_only_empty_word ts = false
 
 abbrev pub polygon_after : Bool × List Token → Option Polygon
-polygon_after rest = if is_empty_alone rest.1 then Some empty else option_map (body rest.0) (body_of rest.1)
+polygon_after rest = if is_only_empty_word rest.1 then Some empty else option_map (body rest.0) (body_of rest.1)
 
 abbrev pub polygon_of : List Token → Option Polygon
-polygon_of tokens = option_and_then polygon_after (after_head tokens)
+polygon_of tokens = option_and_then polygon_after (split_head tokens)
 
 -- the polygon that the reader returns
 abbrev pub written : WrittenPolygon → Polygon

@@ -26,14 +26,14 @@ abbrev pub joint : ℕ → ℕ → ℕ → Option ℕ
 joint n i j = if j == i + 1 then Some j else if i == 0 && j + 1 == n then Some 0 else None
 
 -- the edges from i and from a later j have no common point except their joint
-unfoldable pub MeetRightly : List Place → ℕ → ℕ → Type 0
-MeetRightly ps i j = MatchOption (joint (length ps) i j)
+unfoldable pub MeetOnlyAtJoint : List Place → ℕ → ℕ → Type 0
+MeetOnlyAtJoint ps i j = MatchOption (joint (length ps) i j)
     (¬ HaveCommonPoint (place_at ps i) (next_at ps i) (place_at ps j) (next_at ps j))
     (λ k. MeetOnlyAt (place_at ps k) (place_at ps i) (next_at ps i) (place_at ps j) (next_at ps j))
 
 -- no two different edges have a common point except the joint of neighbours
-abbrev pub AllMeetRightly : List Place → Type 0
-AllMeetRightly ps = (i j : ℕ) → i < j → j < length ps → MeetRightly ps i j
+abbrev pub AllMeetOnlyAtJoints : List Place → Type 0
+AllMeetOnlyAtJoints ps = (i j : ℕ) → i < j → j < length ps → MeetOnlyAtJoint ps i j
 
 -- each edge has two different ends
 abbrev pub HaveLength : List Place → Type 0
@@ -41,5 +41,5 @@ HaveLength ps = (i : ℕ) → i < length ps → ¬ (place_at ps i ≡ next_at ps
 
 pub record IsSimple (ring : List Place) : Type 0 where
   pub long : HaveLength ring
-  pub apart : AllMeetRightly ring
+  pub apart : AllMeetOnlyAtJoints ring
   pub wide : ¬ (area_of (ring_edges ring) ≡ pos 0)

@@ -24,9 +24,9 @@ abbrev pub edge_before : Edge → Edge → Bool
 edge_before e f = is_lt (edge_cmp e f)
 
 -- the list is sorted: no element is before an earlier one
-abbrev pub Rises : {X : Type 0} → (X → X → Bool) → List X → Type 0
-Rises before [] = Unit {0}
-Rises before (x ∷ xs) = AllByRecursion (λ y. before y x ≡ false) xs × Rises before xs
+abbrev pub IsAscendingBy : {X : Type 0} → (X → X → Bool) → List X → Type 0
+IsAscendingBy before [] = Unit {0}
+IsAscendingBy before (x ∷ xs) = AllByRecursion (λ y. before y x ≡ false) xs × IsAscendingBy before xs
 
 -- the place is one of the list
 abbrev pub IsOneOf : Place → List Place → Type 0

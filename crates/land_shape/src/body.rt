@@ -2,7 +2,7 @@
 
 ghost use Rattle.std.specs.Prelude.{◌≡◌, IfOk, OnOk, if◌then◌else◌};
 ghost use Rattle.std.specs.Option.{option_map};
-ghost use Rattle.land_shape.specs.Reader.{progress_of, after, nothing_read, with_point, with_ring, is_point};
+ghost use Rattle.land_shape.specs.Reader.{progress_of, after, start_of_body, with_point, with_ring, is_point};
 ghost use Rattle.land_shape.specs.Reader.{body_of};
 
 use crate::tokens::{Token, Word};
@@ -76,7 +76,7 @@ pub(crate) struct Progress<'a> {
 
 impl<'a> Progress<'a> {
     fn new(alloc: Global) -> Progress<'a>
-        ensures { progress_of result ≡ nothing_read }
+        ensures { progress_of result ≡ start_of_body }
     {
         Progress {
             at: At::BeforeBody,

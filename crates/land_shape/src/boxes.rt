@@ -53,7 +53,7 @@ impl EdgeBox {
     }
 
     /// Whether the box overlaps that of the edge from `a` to `b`.
-    pub(crate) fn is_reached(self, a: Point, b: Point) -> bool
+    pub(crate) fn overlaps_edge(self, a: Point, b: Point) -> bool
         ensures { IsTrue result
             ↔ BoxesOverlap (place_of self.least) (place_of self.greatest) (place_of a) (place_of b) }
     {

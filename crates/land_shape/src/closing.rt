@@ -2,15 +2,15 @@
 
 ghost use Rattle.std.specs.Prelude.{◌≡◌, ◌↔◌, ◌<◌, IsTrue, length};
 ghost use Rattle.land_shape.specs.Simple.{place_of, places};
-ghost use Rattle.land_shape.specs.Steps.{Closes, IsClosed};
+ghost use Rattle.land_shape.specs.Steps.{IsClosedOrFault, IsClosed};
 
 use crate::faults::ShapeFault;
 use crate::plane::Point;
 
 /// The minimum number of points that a text lists.
-const FEWEST: usize = 4;
+const MIN_POINTS: usize = 4;
 
-const MOST: usize = 201;
+const MAX_POINTS: usize = 201;
 
 /// Whether two points are at one place.
 pub(crate) fn is_same_place(a: Point, b: Point) -> bool
@@ -30,12 +30,12 @@ fn is_closed(listed: &[Point]) -> bool
 /// Checks that a list has 4 to 201 points and that its last point is its first. Errors: 116 `FewPoints`, 117
 /// `ManyPoints`, 118 `NotClosed`.
 pub(crate) fn check_closed(listed: &[Point]) -> Result<(), ShapeFault>
-    ensures { Closes (places listed.now) result }
+    ensures { IsClosedOrFault (places listed.now) result }
 {
-    if listed.len() < FEWEST {
+    if listed.len() < MIN_POINTS {
         return Err(ShapeFault::FewPoints);
     }
-    if listed.len() > MOST {
+    if listed.len() > MAX_POINTS {
         return Err(ShapeFault::ManyPoints);
     }
     if !is_closed(listed) {

@@ -14,7 +14,7 @@ pub fn one_answer()
 {}
 
 /// Proves that each text has a result: the ring that it denotes, or a first fault.
-pub fn every_text_is_judged()
+pub fn every_text_has_an_answer()
     ensures { AnswerLaw }
 {}
 
@@ -29,6 +29,6 @@ pub fn matching_chains_have_equal_areas()
 {}
 
 /// Proves that lists of rings match if and only if the test on their pieces passes.
-pub fn matching_is_told_by_pieces()
+pub fn matching_by_pieces()
     ensures { TestLaw }
 {}

@@ -2,7 +2,7 @@
 
 ghost use Rattle.std.specs.Prelude.{◌≡◌, ◌↔◌, IsTrue, length, MatchResult, Ok, Err};
 ghost use Rattle.std.specs.List.{AllByRecursion};
-ghost use Rattle.land_shape.specs.Faults.{SomeOf, IsNoNumber};
+ghost use Rattle.land_shape.specs.Faults.{SomeOf, IsNotNumber};
 ghost use Rattle.land_shape.specs.Simple.{places};
 ghost use Rattle.land_shape.specs.Steps.{HasTwoWords, ReadsPoint, ReadsPoints};
 
@@ -15,14 +15,14 @@ use std::alloc::Global;
 
 /// Whether a word is not a number.
 fn is_no_number(word: &[u8]) -> bool
-    ensures { IsTrue result ↔ IsNoNumber word.now }
+    ensures { IsTrue result ↔ IsNotNumber word.now }
 {
     coordinate(word) == Err(ShapeFault::Number)
 }
 
 /// Whether any word of a point is not a number.
 fn has_wrong_word(words: &[Word<'_>]) -> bool
-    ensures { IsTrue result ↔ SomeOf IsNoNumber words.now }
+    ensures { IsTrue result ↔ SomeOf IsNotNumber words.now }
 {
     for word in words {
         if is_no_number(word.bytes()) {
@@ -34,7 +34,7 @@ fn has_wrong_word(words: &[Word<'_>]) -> bool
 
 /// Whether any point has a word that is not a number.
 fn has_wrong_point(points: &[WrittenPoint<'_>]) -> bool
-    ensures { IsTrue result ↔ SomeOf (SomeOf IsNoNumber) points.now }
+    ensures { IsTrue result ↔ SomeOf (SomeOf IsNotNumber) points.now }
 {
     for point in points {
         if has_wrong_word(point.words()) {

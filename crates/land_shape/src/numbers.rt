@@ -5,16 +5,16 @@ ghost use Rattle.std.specs.List.{position, position_or_len};
 ghost use Rattle.std.specs.Option.{option_map};
 ghost use Rattle.std.specs.Str.Parse.{digits_value};
 ghost use Rattle.land_shape.specs.Numbers.{is_point_byte, are_digits, are_zeros, are_few_zeros, digits_of};
-ghost use Rattle.land_shape.specs.Numbers.{unsigned_of, after_sign};
+ghost use Rattle.land_shape.specs.Numbers.{unsigned_of, split_sign};
 ghost use Rattle.land_shape.specs.Steps.{ReadsNumber};
 
 use crate::faults::ShapeFault;
 
 /// The greatest coordinate, in millimetres.
-const LIMIT: u64 = 10_000_000_000;
+const MAX_COORDINATE: u64 = 10_000_000_000;
 
 /// One more than the maximum; represents every number above it.
-const BEYOND: u64 = LIMIT + 1;
+const OVER_MAX: u64 = MAX_COORDINATE + 1;
 
 /// Returns the value of digits, or the one above the maximum if it is greater.
 fn capped_value(digits: &[u8]) -> u64
@@ -23,7 +23,7 @@ fn capped_value(digits: &[u8]) -> u64
 {
     let mut value = 0;
     for digit in digits {
-        value = (value * 10 + u64::from(*digit - b'0')).min(BEYOND);
+        value = (value * 10 + u64::from(*digit - b'0')).min(OVER_MAX);
     }
     value
 }
@@ -100,9 +100,9 @@ fn unsigned_of(word: &[u8]) -> Option<u64>
 }
 
 /// Returns whether the first byte is a minus, and the remainder without a sign.
-fn after_sign(word: &[u8]) -> (bool, &[u8])
-    ensures negative { result.0 ≡ (after_sign word.now).0 }
-    ensures rest { result.1.now ≡ (after_sign word.now).1 }
+fn split_sign(word: &[u8]) -> (bool, &[u8])
+    ensures negative { result.0 ≡ (split_sign word.now).0 }
+    ensures rest { result.1.now ≡ (split_sign word.now).1 }
 {
     match word.split_first() {
         Some((b'-', rest)) => (true, rest),
@@ -115,11 +115,11 @@ fn after_sign(word: &[u8]) -> (bool, &[u8])
 pub(crate) fn coordinate(word: &[u8]) -> Result<i64, ShapeFault>
     ensures { ReadsNumber word.now result }
 {
-    let (negative, rest) = after_sign(word);
+    let (negative, rest) = split_sign(word);
     let Some(size) = unsigned_of(rest) else {
         return Err(ShapeFault::Number);
     };
-    if size > LIMIT {
+    if size > MAX_COORDINATE {
         return Err(ShapeFault::Range);
     }
     let value = size as i64;

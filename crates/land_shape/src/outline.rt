@@ -2,22 +2,22 @@
 
 ghost use Rattle.std.specs.Prelude.{◌≡◌, ◌<◌, ◌≤◌, ◌≤ℤ◌, IfOk, length, pos, string_bytes, true};
 ghost use Rattle.land_shape.specs.Matching.{runs_counterclockwise};
-ghost use Rattle.land_shape.specs.Outline.{IsOutline, counterclockwise, doubled_area};
+ghost use Rattle.land_shape.specs.Outline.{IsOutline, counterclockwise_ring, doubled_area};
 ghost use Rattle.land_shape.specs.Place.{area_of, is_same_ring, ring_edges};
 ghost use Rattle.land_shape.specs.Printed.{printed};
 ghost use Rattle.land_shape.specs.Simple.{places};
-ghost use Rattle.land_shape.specs.Steps.{Encloses};
+ghost use Rattle.land_shape.specs.Steps.{IsRingOrFault};
 
 use crate::area::signed_area;
 use crate::faults::ShapeFault;
 use crate::plane::Point;
 use crate::printing::write_points;
-use crate::simple::is_apart;
+use crate::simple::meets_only_at_joints;
 use std::alloc::AllocError;
 use std::marker::Model;
 
 /// The greatest doubled area, in square millimetres.
-const GREATEST: i128 = 1_000_000_000_000_000_000;
+const MAX_DOUBLED_AREA: i128 = 1_000_000_000_000_000_000;
 
 /// The outline of a parcel: a simple ring of 3 to 200 points, counterclockwise, from the first point of its
 /// text.
@@ -98,7 +98,7 @@ impl Ring {
 fn put_counterclockwise(points: &mut [Point]) -> i128
     requires some { 0 < length points.old }
     requires few { length points.old ≤ 200 }
-    ensures ring { places points.new ≡ counterclockwise (places points.old) }
+    ensures ring { places points.new ≡ counterclockwise_ring (places points.old) }
     ensures area { result ≡ area_of (ring_edges (places points.new)) }
     ensures left { pos 0 ≤ℤ result }
 {
@@ -113,18 +113,18 @@ fn put_counterclockwise(points: &mut [Point]) -> i128
 
 /// Returns the ring of listed points; the last one closes it and is dropped. Errors: 119 `NotSimple`, 120
 /// `AreaTooLarge`.
-pub(crate) fn enclosed(listed: Vec<Point>) -> Result<Ring, ShapeFault>
+pub(crate) fn ring_from_listed(listed: Vec<Point>) -> Result<Ring, ShapeFault>
     requires some { 4 ≤ length listed.items }
     requires few { length listed.items ≤ 201 }
-    ensures { Encloses (places listed.items) result }
+    ensures { IsRingOrFault (places listed.items) result }
 {
     let mut points = listed;
     points.pop();
     let area = put_counterclockwise(&mut points);
-    if area == 0 || !is_apart(&points) {
+    if area == 0 || !meets_only_at_joints(&points) {
         return Err(ShapeFault::NotSimple);
     }
-    if area > GREATEST {
+    if area > MAX_DOUBLED_AREA {
         return Err(ShapeFault::AreaTooLarge);
     }
     Ok(Ring {

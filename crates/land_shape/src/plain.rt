@@ -1,7 +1,7 @@
 //! The only ring of a polygon in the plane.
 
 ghost use Rattle.std.specs.Prelude.{◌≡◌, ◌↔◌, IsTrue};
-ghost use Rattle.land_shape.specs.Faults.{SomeOf, IsLong};
+ghost use Rattle.land_shape.specs.Faults.{SomeOf, HasManyWords};
 ghost use Rattle.land_shape.specs.Reader.{written};
 ghost use Rattle.land_shape.specs.Steps.{IsFull, PlainRing};
 
@@ -11,7 +11,7 @@ use crate::polygon::WrittenPolygon;
 
 /// Whether a point has three words or more.
 fn has_long_point(points: &[WrittenPoint<'_>]) -> bool
-    ensures { IsTrue result ↔ SomeOf IsLong points.now }
+    ensures { IsTrue result ↔ SomeOf HasManyWords points.now }
 {
     for point in points {
         if point.words().len() > 2 {

@@ -2,7 +2,7 @@
 
 ghost use Rattle.std.specs.Prelude.{◌≡◌, IfOk, MatchOption, Some, None};
 ghost use Rattle.std.specs.Option.{option_map};
-ghost use Rattle.land_shape.specs.Reader.{after_head, after_tag, is_empty_alone, polygon_of, written};
+ghost use Rattle.land_shape.specs.Reader.{split_head, split_tag, is_only_empty_word, polygon_of, written};
 
 use crate::body::{WrittenRing, body_of};
 use crate::tokens::Token;
@@ -20,9 +20,9 @@ pub(crate) enum WrittenPolygon<'a> {
 }
 
 /// Returns whether the first token is a tag, and the remainder without it.
-fn after_tag<'b, 'a>(tokens: &'b [Token<'a>]) -> (bool, &'b [Token<'a>])
-    ensures tagged { result.0 ≡ (after_tag tokens.now).0 }
-    ensures rest { result.1.now ≡ (after_tag tokens.now).1 }
+fn split_tag<'b, 'a>(tokens: &'b [Token<'a>]) -> (bool, &'b [Token<'a>])
+    ensures tagged { result.0 ≡ (split_tag tokens.now).0 }
+    ensures rest { result.1.now ≡ (split_tag tokens.now).1 }
 {
     if let Some((Token::Word(word), rest)) = tokens.split_first() {
         if is_tag(word.bytes()) {
@@ -34,9 +34,9 @@ fn after_tag<'b, 'a>(tokens: &'b [Token<'a>]) -> (bool, &'b [Token<'a>])
 
 /// Returns whether the head has a tag, and the tokens after the head. `None` if the first token is not the
 /// keyword.
-fn after_head<'b, 'a>(tokens: &'b [Token<'a>]) -> Option<(bool, &'b [Token<'a>])>
-    ensures { MatchOption result (after_head tokens.now ≡ None)
-        (λ r. after_head tokens.now ≡ Some (r.0, r.1.now)) }
+fn split_head<'b, 'a>(tokens: &'b [Token<'a>]) -> Option<(bool, &'b [Token<'a>])>
+    ensures { MatchOption result (split_head tokens.now ≡ None)
+        (λ r. split_head tokens.now ≡ Some (r.0, r.1.now)) }
 {
     let Some((Token::Word(word), rest)) = tokens.split_first() else {
         return None;
@@ -47,12 +47,12 @@ fn after_head<'b, 'a>(tokens: &'b [Token<'a>]) -> Option<(bool, &'b [Token<'a>])
     if !is_keyword(word.bytes()) {
         return None;
     }
-    Some(after_tag(rest))
+    Some(split_tag(rest))
 }
 
 /// Whether the tokens are only the word EMPTY.
-fn is_empty_alone(tokens: &[Token<'_>]) -> bool
-    ensures { result ≡ is_empty_alone tokens.now }
+fn is_only_empty_word(tokens: &[Token<'_>]) -> bool
+    ensures { result ≡ is_only_empty_word tokens.now }
 {
     if let Some((Token::Word(word), rest)) = tokens.split_first() {
         return rest.is_empty() && is_empty_word(word.bytes());
@@ -67,10 +67,10 @@ pub(crate) fn polygon_of<'a>(
 ) -> Result<Option<WrittenPolygon<'a>>, AllocError>
     ensures { IfOk result (λ polygon. option_map written polygon ≡ polygon_of tokens.now) }
 {
-    let Some((tagged, rest)) = after_head(tokens) else {
+    let Some((tagged, rest)) = split_head(tokens) else {
         return Ok(None);
     };
-    if is_empty_alone(rest) {
+    if is_only_empty_word(rest) {
         return Ok(Some(WrittenPolygon::Empty));
     }
     match body_of(alloc, rest)? {

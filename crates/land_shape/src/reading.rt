@@ -1,7 +1,7 @@
 //! Reading outlines.
 
 ghost use Rattle.std.specs.Prelude.{◌≢◌, IfOk, IfErr};
-ghost use Rattle.land_shape.specs.Faults.{IsFirst, StandsFor};
+ghost use Rattle.land_shape.specs.Faults.{IsFirstFault, Denotes};
 ghost use Rattle.land_shape.specs.Grammar.{IsPolygon};
 ghost use Rattle.land_shape.specs.Reader.{written};
 ghost use Rattle.land_shape.specs.Simple.{places};
@@ -10,7 +10,7 @@ ghost use Rattle.land_shape.specs.Steps.{IsPlainList};
 use crate::closing::check_closed;
 use crate::faults::ShapeFault;
 use crate::listing::listed_points;
-use crate::outline::{Ring, enclosed};
+use crate::outline::{Ring, ring_from_listed};
 use crate::plain::plain_ring;
 use crate::plane::Point;
 use crate::polygon::{WrittenPolygon, polygon_of};
@@ -20,7 +20,7 @@ use std::alloc::Global;
 /// Returns the polygon of the whole text. Error: 110 `NotPolygon`, or 501.
 fn find_polygon<'a>(alloc: Global, text: &'a str) -> Result<WrittenPolygon<'a>, ShapeFault>
     ensures polygon { IfOk result (λ polygon. IsPolygon text.entry.now (written polygon)) }
-    ensures fault { IfErr result (λ fault. fault ≢ ShapeFault.NoMemory → IsFirst text.entry.now fault) }
+    ensures fault { IfErr result (λ fault. fault ≢ ShapeFault.NoMemory → IsFirstFault text.entry.now fault) }
 {
     let tokens = tokens_of(alloc, text)?;
     match polygon_of(alloc, &tokens)? {
@@ -32,7 +32,7 @@ fn find_polygon<'a>(alloc: Global, text: &'a str) -> Result<WrittenPolygon<'a>, 
 /// Returns the points that the whole text lists, including the last. Errors: 110 to 115, or 501.
 fn find_points(alloc: Global, text: &str) -> Result<Vec<Point>, ShapeFault>
     ensures points { IfOk result (λ points. IsPlainList text.now (places points.items)) }
-    ensures fault { IfErr result (λ fault. fault ≢ ShapeFault.NoMemory → IsFirst text.now fault) }
+    ensures fault { IfErr result (λ fault. fault ≢ ShapeFault.NoMemory → IsFirstFault text.now fault) }
 {
     let polygon = find_polygon(alloc, text)?;
     let ring = plain_ring(polygon)?;
@@ -45,10 +45,10 @@ fn find_points(alloc: Global, text: &str) -> Result<Vec<Point>, ShapeFault>
 /// Returns a ring if and only if the text has no fault. Errors: the first fault of the text, 110 to 120 in
 /// the order of their numbers; or 501 if out of memory, which says nothing about the text.
 pub fn read_wkt(alloc: Global, text: &str) -> Result<Ring, ShapeFault>
-    ensures ring { IfOk result (StandsFor text.now) }
-    ensures fault { IfErr result (λ fault. fault ≢ ShapeFault.NoMemory → IsFirst text.now fault) }
+    ensures ring { IfOk result (Denotes text.now) }
+    ensures fault { IfErr result (λ fault. fault ≢ ShapeFault.NoMemory → IsFirstFault text.now fault) }
 {
     let listed = find_points(alloc, text)?;
     check_closed(&listed)?;
-    enclosed(listed)
+    ring_from_listed(listed)
 }

@@ -1,7 +1,7 @@
 //! Simple rings.
 
 ghost use Rattle.std.specs.Prelude.{◌≡◌, ◌↔◌, ◌<◌, ◌≤◌, ◌+◌, length, IsTrue, ℕ};
-ghost use Rattle.land_shape.specs.Simple.{place_of, places, place_at, next_at, MeetRightly, AllMeetRightly};
+ghost use Rattle.land_shape.specs.Simple.{place_of, places, place_at, next_at, MeetOnlyAtJoint, AllMeetOnlyAtJoints};
 ghost use Rattle.land_shape.specs.Simple.{HaveLength};
 ghost use Rattle.land_shape.specs.Segment.{MeetOnlyAt, HaveCommonPoint};
 
@@ -12,7 +12,7 @@ use crate::plane::Point;
 use crate::segment::have_common_point;
 
 /// The number of consecutive edges that are compared with each later edge by their common box.
-const GROUP: usize = 8;
+const GROUP_SIZE: usize = 8;
 
 /// Whether the edges from `i` and from a later `j`, which are not neighbours, have a common point.
 fn edges_meet(points: &[Point], i: usize, j: usize) -> bool
@@ -40,11 +40,11 @@ fn meet_at_joint(a: Point, b: Point, c: Point) -> bool
 }
 
 /// Whether the edges from `i` and from a later `j` have no common point except their joint.
-fn meet_rightly(points: &[Point], i: usize, j: usize) -> bool
+fn meet_only_at_joint(points: &[Point], i: usize, j: usize) -> bool
     requires order { i < j }
     requires within { j < length points.now }
     requires long { HaveLength (places points.now) }
-    ensures { IsTrue result ↔ MeetRightly (places points.now) i j }
+    ensures { IsTrue result ↔ MeetOnlyAtJoint (places points.now) i j }
 {
     if j == i + 1 {
         meet_at_joint(
@@ -65,13 +65,13 @@ fn meet_rightly(points: &[Point], i: usize, j: usize) -> bool
 
 /// Whether the edges with index at least `start`, below `end` and below `j` meet the edge from `j` only at
 /// joints.
-fn earlier_meet_rightly(points: &[Point], start: usize, end: usize, j: usize) -> bool
+fn earlier_meet_only_at_joint(points: &[Point], start: usize, end: usize, j: usize) -> bool
     requires within { j < length points.now }
     requires long { HaveLength (places points.now) }
-    ensures { IsTrue result ↔ ((i : ℕ) → start ≤ i → i < end → i < j → MeetRightly (places points.now) i j) }
+    ensures { IsTrue result ↔ ((i : ℕ) → start ≤ i → i < end → i < j → MeetOnlyAtJoint (places points.now) i j) }
 {
     for i in start..end {
-        if i < j && !meet_rightly(points, i, j) {
+        if i < j && !meet_only_at_joint(points, i, j) {
             return false;
         }
     }
@@ -80,17 +80,17 @@ fn earlier_meet_rightly(points: &[Point], start: usize, end: usize, j: usize) ->
 
 /// Whether the edges with index at least `start` and below `end` meet each later one only at joints. An edge
 /// outside their box meets none of them, so it is skipped.
-fn group_meets_rightly(points: &[Point], start: usize, end: usize) -> bool
+fn group_meets_only_at_joints(points: &[Point], start: usize, end: usize) -> bool
     requires order { start < end }
     requires within { end ≤ length points.now }
     requires long { HaveLength (places points.now) }
     ensures { IsTrue result ↔ ((i j : ℕ) → start ≤ i → i < end → i < j → j < length points.now
-        → MeetRightly (places points.now) i j) }
+        → MeetOnlyAtJoint (places points.now) i j) }
 {
     let around = box_of(points, start, end);
     for j in start + 1..points.len() {
-        if around.is_reached(corner(points, j), corner_after(points, j))
-            && !earlier_meet_rightly(points, start, end, j)
+        if around.overlaps_edge(corner(points, j), corner_after(points, j))
+            && !earlier_meet_only_at_joint(points, start, end, j)
         {
             return false;
         }
@@ -104,22 +104,22 @@ fn group_end(count: usize, start: usize) -> usize
     ensures some { start < result }
     ensures within { result ≤ count }
 {
-    if count - start > GROUP {
-        start + GROUP
+    if count - start > GROUP_SIZE {
+        start + GROUP_SIZE
     } else {
         count
     }
 }
 
 /// Whether no two different edges have a common point except the joint of neighbours.
-fn all_meet_rightly(points: &[Point]) -> bool
+fn all_meet_only_at_joints(points: &[Point]) -> bool
     requires long { HaveLength (places points.now) }
-    ensures { IsTrue result ↔ AllMeetRightly (places points.now) }
+    ensures { IsTrue result ↔ AllMeetOnlyAtJoints (places points.now) }
 {
     let mut start = 0;
     while start < points.len() {
         let end = group_end(points.len(), start);
-        if !group_meets_rightly(points, start, end) {
+        if !group_meets_only_at_joints(points, start, end) {
             return false;
         }
         start = end;
@@ -141,8 +141,8 @@ fn have_length(points: &[Point]) -> bool
 
 /// Whether each edge has two different ends, and no two edges have a common point except the joint of
 /// neighbours.
-pub(crate) fn is_apart(points: &[Point]) -> bool
-    ensures { IsTrue result ↔ (HaveLength (places points.now) × AllMeetRightly (places points.now)) }
+pub(crate) fn meets_only_at_joints(points: &[Point]) -> bool
+    ensures { IsTrue result ↔ (HaveLength (places points.now) × AllMeetOnlyAtJoints (places points.now)) }
 {
-    have_length(points) && all_meet_rightly(points)
+    have_length(points) && all_meet_only_at_joints(points)
 }

@@ -4,14 +4,14 @@ ghost use Rattle.std.specs.Prelude.{◌≡◌, ◌↔◌, IsTrue};
 ghost use Rattle.land_shape.specs.Edges.{edges};
 ghost use Rattle.land_shape.specs.Place.{Place};
 ghost use Rattle.land_shape.specs.Simple.{places};
-ghost use Rattle.land_shape.specs.Walks.{HaveSameEdges, IsOneOf, Rises, edge_before, is_before};
+ghost use Rattle.land_shape.specs.Walks.{HaveSameEdges, IsOneOf, IsAscendingBy, edge_before, is_before};
 
 use crate::edges::Edge;
 use crate::plane::Point;
 
 /// Returns the points sorted from left to right, then from bottom to top.
 pub(crate) fn sorted_points(points: Vec<Point>) -> Vec<Point>
-    ensures rise { Rises is_before (places result.items) }
+    ensures rise { IsAscendingBy is_before (places result.items) }
     ensures all { (p : Place) → IsOneOf p (places points.items) → IsOneOf p (places result.items) }
     ensures alone { (p : Place) → IsOneOf p (places result.items) → IsOneOf p (places points.items) }
 {
@@ -22,7 +22,7 @@ pub(crate) fn sorted_points(points: Vec<Point>) -> Vec<Point>
 
 /// Returns the edges, sorted.
 fn sorted_edges(list: Vec<Edge>) -> Vec<Edge>
-    ensures rise { Rises edge_before (edges result.items) }
+    ensures rise { IsAscendingBy edge_before (edges result.items) }
     ensures same { HaveSameEdges (edges result.items) (edges list.items) }
 {
     let mut sorted = list;

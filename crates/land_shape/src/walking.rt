@@ -5,7 +5,7 @@ ghost use Rattle.std.specs.List.{AllByRecursion};
 ghost use Rattle.land_shape.specs.Edges.{edges};
 ghost use Rattle.land_shape.specs.Matching.{reversed};
 ghost use Rattle.land_shape.specs.Simple.{place_of, places};
-ghost use Rattle.land_shape.specs.Walks.{Rises, is_before, walk, walks};
+ghost use Rattle.land_shape.specs.Walks.{IsAscendingBy, is_before, walk, walks};
 
 use crate::edges::{Edge, lies_inside};
 use crate::plane::Point;
@@ -20,7 +20,7 @@ fn is_before(a: Point, b: Point) -> bool
 
 /// Returns the number of corners before a point.
 fn count_before(corners: &[Point], point: Point) -> usize
-    requires { Rises is_before (places corners.now) }
+    requires { IsAscendingBy is_before (places corners.now) }
     ensures within { result ≤ length corners.now }
     ensures before { AllByRecursion (λ p. is_before p (place_of point) ≡ true)
         (take result (places corners.now)) }
@@ -32,7 +32,7 @@ fn count_before(corners: &[Point], point: Point) -> usize
 
 /// Returns the corners that may lie inside an edge.
 fn corners_near(corners: &[Point], edge: Edge) -> &[Point]
-    requires rise { Rises is_before (places corners.now) }
+    requires rise { IsAscendingBy is_before (places corners.now) }
     requires up { IsTrue (is_before (place_of edge.from) (place_of edge.to)) }
     ensures { walk (place_of edge.from) (place_of edge.to) (places result.now)
         ≡ walk (place_of edge.from) (place_of edge.to) (places corners.now) }
@@ -73,7 +73,7 @@ fn with_walk(so_far: Vec<Edge>, corners: &[Point], edge: Edge) -> Result<Vec<Edg
 
 /// Appends the pieces of those edges of a list that lead to a later point.
 fn with_walks(so_far: Vec<Edge>, corners: &[Point], list: &[Edge]) -> Result<Vec<Edge>, AllocError>
-    requires { Rises is_before (places corners.now) }
+    requires { IsAscendingBy is_before (places corners.now) }
     ensures { IfOk result (λ v. edges v.items ≡ edges so_far.items
         ++ walks (places corners.now) (edges list.now)) }
 {
@@ -104,7 +104,7 @@ pub(crate) fn pieces_one_way(
     ours: &[Edge],
     theirs: &[Edge],
 ) -> Result<Vec<Edge>, AllocError>
-    requires { Rises is_before (places corners.now) }
+    requires { IsAscendingBy is_before (places corners.now) }
     ensures { IfOk result (λ v. edges v.items ≡ walks (places corners.now)
         (edges ours.now ++ map reversed (edges theirs.now))) }
 {

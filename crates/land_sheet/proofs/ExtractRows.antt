@@ -13,17 +13,17 @@ use Rattle.land_core.specs.declared.kind.Kind.{Kind}
 use Rattle.land_core.specs.declared.object.Object.{Object}
 use Rattle.land_core.specs.declared.object.Object.TheVariants as object
 use Rattle.land_core.specs.declared.register.Register.{Register}
-use Rattle.land_keep.specs.Named.{listed, name_beside, named, named_at, objects_at}
+use Rattle.land_keep.specs.Named.{listed, party_name_beside, named, named_at, objects_at}
 use Rattle.land_keep.specs.declared.named.NamedObject.{NamedObject}
 use Rattle.land_keep.specs.declared.store_fault.StoreFault.{StoreFault}
 use Rattle.land_sheet.specs.Extracts.{row_at, rows_at}
-use Rattle.land_sheet.specs.Extracts.Seeing.{AllStand, Gives, told_at}
-use Rattle.land_sheet.specs.Extracts.Writing.{IsPut, rows_of}
+use Rattle.land_sheet.specs.Extracts.Seeing.{AllExist, IsNextRow, named_object_at}
+use Rattle.land_sheet.specs.Extracts.Writing.{WritesText, rows_of}
 use Rattle.land_sheet.specs.Rows.{object_row}
 use Rattle.land_sheet.specs.declared.extracts.fault.ExtractFault.{ExtractFault}
 use Rattle.land_sheet.specs.declared.extracts.fault.ExtractFault.TheVariants.{Denied, Fault, Write, Store}
 use Rattle.land_streams.proofs.Fronts.{front_of, front_then, whole_front, whole_then}
-use Rattle.land_streams.specs.Writing.{IsFront, IsWhole}
+use Rattle.land_streams.specs.Writing.{WritesPrefix, WritesAll}
 
 -- ---- one at a time
 
@@ -51,7 +51,7 @@ one_popped items rest (Some it) (Some that) is parts kept =
     same e = cc
 
 -- the list of one number is the object with that number
-one_named : (r : Register) (k : Kind) (n : ℕ) → objects_at r k (n ∷ []) ≡ option_to_list (told_at r k n) ++ []
+one_named : (r : Register) (k : Kind) (n : ℕ) → objects_at r k (n ∷ []) ≡ option_to_list (named_object_at r k n) ++ []
 one_named r k n = ap (λ l. l ++ []) (by_object (object_at r k n))
   where
     by_object : (o : Option Object) → option_map_or (λ it. named r it ∷ []) o [] ≡ option_to_list (option_map (named r) o)
@@ -60,26 +60,26 @@ one_named r k n = ap (λ l. l ++ []) (by_object (object_at r k n))
 
 -- likewise for the returned object
 pub one_told : (r : Register) (k : Kind) (n : ℕ) (items rest : List NamedObject) (popped : Option NamedObject) → items ≡ objects_at r k (n ∷ []) → items ≡ rest ++ option_to_list popped
-    → rest ≡ take (length items - 1) items → popped ≡ told_at r k n
-one_told r k n items rest popped is parts kept = one_popped items rest (told_at r k n) popped (is ∙ one_named r k n) parts kept
+    → rest ≡ take (length items - 1) items → popped ≡ named_object_at r k n
+one_told r k n items rest popped is parts kept = one_popped items rest (named_object_at r k n) popped (is ∙ one_named r k n) parts kept
 
 -- the object with the first number is returned
-pub first_given : (r : Register) (k : Kind) (numbers : List ℕ) (given number : ℕ) → given < length numbers → number ≡ get_or numbers given 0 → AllStand r k (drop given numbers)
-    → Gives r k (drop given numbers) (told_at r k number)
+pub first_given : (r : Register) (k : Kind) (numbers : List ℕ) (given number : ℕ) → given < length numbers → number ≡ get_or numbers given 0 → AllExist r k (drop given numbers)
+    → IsNextRow r k (drop given numbers) (named_object_at r k number)
 first_given r k numbers given number inside is stand =
     let parts : drop given numbers ≡ number ∷ drop (given + 1) numbers = drop_more numbers given 0 inside ∙ ap (λ (n : ℕ). n ∷ drop (given + 1) numbers) (sym is) in
-    let first : IsSome (object_at r k number) = (subst (λ (left : List ℕ). AllStand r k left) parts stand).0 in
-    subst (λ (left : List ℕ). Gives r k left (told_at r k number)) (sym parts) (by_object (object_at r k number) refl first)
+    let first : IsSome (object_at r k number) = (subst (λ (left : List ℕ). AllExist r k left) parts stand).0 in
+    subst (λ (left : List ℕ). IsNextRow r k left (named_object_at r k number)) (sym parts) (by_object (object_at r k number) refl first)
   where
-    by_object : (o : Option Object) → object_at r k number ≡ o → IsSome o → Gives r k (number ∷ drop (given + 1) numbers) (option_map (named r) o)
+    by_object : (o : Option Object) → object_at r k number ≡ o → IsSome o → IsNextRow r k (number ∷ drop (given + 1) numbers) (option_map (named r) o)
     by_object None e stands = absurd (false≢true stands)
     by_object (Some it) e stands = ap (λ (o : Option Object). option_map (named r) o) e
 
 -- likewise if the store is honest
 pub result_given : (r : Register) (k : Kind) (numbers : List ℕ) (given number : ℕ) (result : Result (Option NamedObject) StoreFault) → given < length numbers
-    → number ≡ get_or numbers given 0 → AllStand r k (drop given numbers) → IfOk result (λ row. row ≡ told_at r k number) → IfOk result (Gives r k (drop given numbers))
+    → number ≡ get_or numbers given 0 → AllExist r k (drop given numbers) → IfOk result (λ row. row ≡ named_object_at r k number) → IfOk result (IsNextRow r k (drop given numbers))
 result_given r k numbers given number (Ok row) inside is stand made =
-    subst (λ (o : Option NamedObject). Gives r k (drop given numbers) o) (sym made) (first_given r k numbers given number inside is stand)
+    subst (λ (o : Option NamedObject). IsNextRow r k (drop given numbers) o) (sym made) (first_given r k numbers given number inside is stand)
 result_given r k numbers given number (Err fault) inside is stand made = tt
 
 -- ---- the rows of a list
@@ -94,9 +94,9 @@ row_listed (object.Rrr it) name = refl
 row_listed (object.Source it) name = refl
 row_listed (object.Mutation it) name = refl
 
-one_row : (r : Register) (o : Option Object) → rows_of (option_map_or (λ it. named r it ∷ []) o []) ≡ option_map_or (λ it. object_row it (name_beside r it)) o []
+one_row : (r : Register) (o : Option Object) → rows_of (option_map_or (λ it. named r it ∷ []) o []) ≡ option_map_or (λ it. object_row it (party_name_beside r it)) o []
 one_row r None = refl
-one_row r (Some it) = append-nil (object_row (listed it) (name_beside r it)) ∙ row_listed it (name_beside r it)
+one_row r (Some it) = append-nil (object_row (listed it) (party_name_beside r it)) ∙ row_listed it (party_name_beside r it)
 
 abbrev row_text_of : NamedObject → List ℕ
 row_text_of it = object_row it.object it.name
@@ -118,14 +118,14 @@ rows_parted r k numbers given end below =
 pub record IsSoFar (all left : List ℕ) (before written : ℕ) (a b : Option (List ℕ)) : Type 0 where
   pub text : List ℕ
   pub parts : all ≡ text ++ left
-  pub whole : IsWhole text before written a b
+  pub whole : WritesAll text before written a b
 
 -- before the first row
 pub none_so_far : (all : List ℕ) (before : ℕ) (a : Option (List ℕ)) → IsSoFar all all before before a a
 none_so_far all before a = record { text = []; parts = refl; whole = (omega arith, Appends-nil a) }
 
 -- one more part is written
-pub more_so_far : (all more left : List ℕ) (before written after : ℕ) (a b c : Option (List ℕ)) → IsSoFar all (more ++ left) before written a b → IsWhole more written after b c
+pub more_so_far : (all more left : List ℕ) (before written after : ℕ) (a b c : Option (List ℕ)) → IsSoFar all (more ++ left) before written a b → WritesAll more written after b c
     → IsSoFar all left before after a c
 more_so_far all more left before written after a b c it put = record {
   text = it.text ++ more;
@@ -134,16 +134,16 @@ more_so_far all more left before written after a b c it put = record {
 }
 
 -- the next part is truncated
-pub cut : (all more left : List ℕ) (before written : ℕ) (a b c : Option (List ℕ)) (why : ExtractFault) → IsSoFar all (more ++ left) before written a b → IsPut more written b c (Err why)
-    → IsPut all before a c (Err why)
+pub cut : (all more left : List ℕ) (before written : ℕ) (a b c : Option (List ℕ)) (why : ExtractFault) → IsSoFar all (more ++ left) before written a b → WritesText more written b c (Err why)
+    → WritesText all before a c (Err why)
 cut all more left before written a b c why it put = by_fault why put
   where
-    cut_at : (after : ℕ) → IsFront more written after b c → IsFront all before after a c
+    cut_at : (after : ℕ) → WritesPrefix more written after b c → WritesPrefix all before after a c
     cut_at after front =
-        subst (λ (l : List ℕ). IsFront l before after a c) (append_assoc it.text more left ∙ sym it.parts)
+        subst (λ (l : List ℕ). WritesPrefix l before after a c) (append_assoc it.text more left ∙ sym it.parts)
         (front_of (it.text ++ more) left before after a c (front_then it.text more before written after a b c it.whole front))
 
-    by_fault : (why : ExtractFault) → IsPut more written b c (Err why) → IsPut all before a c (Err why)
+    by_fault : (why : ExtractFault) → WritesText more written b c (Err why) → WritesText all before a c (Err why)
     by_fault (Write after) put = cut_at after put
     by_fault (Store fault after) put = cut_at after put
     by_fault (Denied rule) put = absurd put
@@ -151,18 +151,18 @@ cut all more left before written a b c why it put = by_fault why put
 
 -- likewise for the returned error
 pub cut_told : (all more left : List ℕ) (before written : ℕ) (a b c : Option (List ℕ)) (told : Result ℕ ExtractFault) (why : ExtractFault) → IsErrAnd told (λ f. f ≡ why)
-    → IsSoFar all (more ++ left) before written a b → IsPut more written b c (Err why) → IsPut all before a c told
+    → IsSoFar all (more ++ left) before written a b → WritesText more written b c (Err why) → WritesText all before a c told
 cut_told all more left before written a b c (Ok n) why is it put = absurd is
-cut_told all more left before written a b c (Err f) why is it put = subst (λ (g : ExtractFault). IsPut all before a c (Err g)) (sym is) (cut all more left before written a b c why it put)
+cut_told all more left before written a b c (Err f) why is it put = subst (λ (g : ExtractFault). WritesText all before a c (Err g)) (sym is) (cut all more left before written a b c why it put)
 
 -- the store failed, so the rest is not read
-pub stopped : (all left : List ℕ) (before written : ℕ) (a b : Option (List ℕ)) → IsSoFar all left before written a b → IsFront all before written a b
+pub stopped : (all left : List ℕ) (before written : ℕ) (a b : Option (List ℕ)) → IsSoFar all left before written a b → WritesPrefix all before written a b
 stopped all left before written a b it =
-    subst (λ (l : List ℕ). IsFront l before written a b) (sym it.parts) (whole_front it.text left before written a b it.whole)
+    subst (λ (l : List ℕ). WritesPrefix l before written a b) (sym it.parts) (whole_front it.text left before written a b it.whole)
 
 -- after the last row
-pub ended : (all : List ℕ) (before written : ℕ) (a b : Option (List ℕ)) → IsSoFar all [] before written a b → IsWhole all before written a b
-ended all before written a b it = subst (λ (l : List ℕ). IsWhole l before written a b) (sym (it.parts ∙ append-nil it.text)) it.whole
+pub ended : (all : List ℕ) (before written : ℕ) (a b : Option (List ℕ)) → IsSoFar all [] before written a b → WritesAll all before written a b
+ended all before written a b it = subst (λ (l : List ℕ). WritesAll l before written a b) (sym (it.parts ∙ append-nil it.text)) it.whole
 
 -- the remaining numbers begin with the part that is read
 pub part_left : (r : Register) (k : Kind) (numbers : List ℕ) (given end before written : ℕ) (a b : Option (List ℕ)) (objects : List NamedObject) → given ≤ end

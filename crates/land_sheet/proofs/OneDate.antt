@@ -7,7 +7,7 @@ use Rattle.jiff_core.proofs.SignedLemmas.{signed_arith}
 use Rattle.jiff_core.specs.Calendar.{IsCivilDate, days_from_civil, day_count}
 use Rattle.land_sheet.specs.Dates.{CivilDate}
 use Rattle.land_sheet.specs.Dates.{day_number}
-use Rattle.land_sheet.specs.Laws.{OneDateLaw, OneSheetLaw}
+use Rattle.land_sheet.specs.Laws.{DatesAreUnique, SheetsAreUnique}
 use Rattle.land_sheet.specs.Sheets.{moment_of, sheet_text}
 
 same_count : (y y₂ : ℤ) (m d m₂ d₂ n : ℕ) → days_from_civil y m d ≡ pos n → days_from_civil y₂ m₂ d₂ ≡ pos n → day_count y m d ≡ day_count y₂ m₂ d₂
@@ -34,7 +34,7 @@ same_date : (y y₂ : ℤ) (m m₂ d d₂ : ℕ) → y ≡ y₂ → m ≡ m₂ �
     → (let a : CivilDate = record { year = y; month = m; day = d } in let b : CivilDate = record { year = y₂; month = m₂; day = d₂ } in a ≡ b)
 same_date y y₂ m m₂ d d₂ e f g = cc
 
-pub one_date : OneDateLaw
+pub one_date : DatesAreUnique
 one_date n a b h k =
     let count = same_count a.year b.year a.month a.day b.month b.day n h.number_is k.number_is in
     let year = same_year a.year b.year a.month a.day b.month b.day h.in_calendar k.in_calendar count in
@@ -49,7 +49,7 @@ same_value : (f : CivilDate → List ℕ) (a b : List ℕ) (d e : CivilDate) →
 same_value f a b d e same g h = cc
 
 -- the date of a view's moment determines its sheet
-pub one_sheet : OneSheetLaw
+pub one_sheet : SheetsAreUnique
 one_sheet view a b h k =
     let same = one_date (day_number (moment_of view)) h.date k.date h.date_is k.date_is in
     same_value (λ date. sheet_text view date (moment_of view)) a b h.date k.date same h.text_is k.text_is

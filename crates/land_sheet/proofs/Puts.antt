@@ -3,14 +3,14 @@ use Rattle.std.proofs.Common.{◌≡◌, ℕ, List, ◌++◌, Option, Result, Ok
 use Rattle.std.specs.Prelude.{IsErrAnd}
 use Rattle.std.proofs.KnownBytes.{Appends-nil}
 use Rattle.land_keep.specs.declared.reply.Reply.{Reply}
-use Rattle.land_sheet.specs.Extracts.Writing.{IsExtracted, IsListed, IsPut, Lists}
+use Rattle.land_sheet.specs.Extracts.Writing.{IsExtracted, IsListed, WritesText, IsListReply}
 use Rattle.land_sheet.specs.declared.extracts.fault.ExtractFault.{ExtractFault}
 use Rattle.land_sheet.specs.declared.extracts.fault.ExtractFault.TheVariants.{Denied, Fault, Write, Store}
 use Rattle.land_streams.proofs.Fronts.{front_then, whole_then}
-use Rattle.land_streams.specs.Writing.{IsWhole}
+use Rattle.land_streams.specs.Writing.{WritesAll}
 
 -- a text is written after another one
-pub put_then : (text more : List ℕ) (i j : ℕ) (a b c : Option (List ℕ)) (r : Result ℕ ExtractFault) → IsWhole text i j a b → IsPut more j b c r → IsPut (text ++ more) i a c r
+pub put_then : (text more : List ℕ) (i j : ℕ) (a b c : Option (List ℕ)) (r : Result ℕ ExtractFault) → WritesAll text i j a b → WritesText more j b c r → WritesText (text ++ more) i a c r
 put_then text more i j a b c (Ok k) first second = whole_then text more i j k a b c first second
 put_then text more i j a b c (Err (Write k)) first second = front_then text more i j k a b c first second
 put_then text more i j a b c (Err (Store fault k)) first second = front_then text more i j k a b c first second
@@ -18,7 +18,7 @@ put_then text more i j a b c (Err (Denied rule)) first second = absurd second
 put_then text more i j a b c (Err (Fault number)) first second = absurd second
 
 -- the bytes written if the list is allowed
-pub extracted : (list : Reply) (text : List ℕ) (a b : Option (List ℕ)) (r : Result ℕ ExtractFault) → Lists list → IsPut text 0 a b r → IsExtracted list text a b r
+pub extracted : (list : Reply) (text : List ℕ) (a b : Option (List ℕ)) (r : Result ℕ ExtractFault) → IsListReply list → WritesText text 0 a b r → IsExtracted list text a b r
 extracted list text a b (Ok n) lists put = (lists, put)
 extracted list text a b (Err (Write n)) lists put = (lists, put)
 extracted list text a b (Err (Store fault n)) lists put = (inl lists, put)

@@ -18,7 +18,7 @@ use Rattle.land_rules.proofs.Seeing.{seen_exactly}
 use Rattle.land_rules.specs.Rules.{denies, first_denial, is_allowed, seen_of, sees, view_rules}
 use Rattle.land_rules.specs.declared.verdict.Verdict.{Verdict}
 use Rattle.land_rules.specs.declared.verdict.Verdict.TheVariants.{Allowed, Denied}
-use Rattle.land_sheet.specs.Extracts.Seeing.{AllStand}
+use Rattle.land_sheet.specs.Extracts.Seeing.{AllExist}
 
 mapped : {A B : Type 0} (f : A → B) (o : Option A) → is_some (option_map f o) ≡ is_some o
 mapped f None = refl
@@ -50,7 +50,7 @@ sees_what_stands at caller k n h = object_stands at k n ∙ denies_absent at cal
     allowed_from (Denied k) e = absurd (false≢true e)
 
 -- if each of some numbers exists, so does one of them
-each_stands : (r : Register) (k : Kind) (numbers : List ℕ) → ((n : ℕ) → list_any (nat_eq n) numbers ≡ true → IsSome (object_at r k n)) → AllStand r k numbers
+each_stands : (r : Register) (k : Kind) (numbers : List ℕ) → ((n : ℕ) → list_any (nat_eq n) numbers ≡ true → IsSome (object_at r k n)) → AllExist r k numbers
 each_stands r k [] among = tt
 each_stands r k (number ∷ numbers) among = (
   among number (ap (λ b. b || list_any (nat_eq number) numbers) (nat_eq_equiv.refl number)),
@@ -58,5 +58,5 @@ each_stands r k (number ∷ numbers) among = (
 )
 
 -- each object that a caller sees exists
-pub all_stand : (r : Register) (caller : Caller) (k : Kind) → AllStand r k (seen_of r caller k)
+pub all_stand : (r : Register) (caller : Caller) (k : Kind) → AllExist r k (seen_of r caller k)
 all_stand r caller k = each_stands r k (seen_of r caller k) (λ n among. sees_what_stands r caller k n (sym ((seen_exactly r caller k).exact n) ∙ among))

@@ -12,7 +12,7 @@ use Rattle.land_core.specs.declared.caller.Caller.{Caller}
 use Rattle.land_core.specs.declared.kind.Kind.{Kind}
 use Rattle.land_core.specs.declared.register.Register.{Register}
 use Rattle.land_keep.specs.Machine.{step}
-use Rattle.land_keep.specs.Named.{name_beside}
+use Rattle.land_keep.specs.Named.{party_name_beside}
 use Rattle.land_keep.specs.Timeline.{Timeline}
 use Rattle.land_keep.specs.declared.reply.Reply.{Reply}
 use Rattle.land_rules.specs.Rules.{seen_of}
@@ -21,7 +21,7 @@ use Rattle.land_sheet.specs.Rows.{header_text, object_row}
 -- the row of the object with a number, of an entry with the name of its party; empty if the object does not
 -- exist
 abbrev pub row_at : Register → Kind → (number : ℕ) → List ℕ
-row_at r k number = option_map_or (λ it. object_row it (name_beside r it)) (object_at r k number) []
+row_at r k number = option_map_or (λ it. object_row it (party_name_beside r it)) (object_at r k number) []
 
 -- the rows of these objects in order
 abbrev pub rows_at : Register → Kind → List ℕ → List ℕ

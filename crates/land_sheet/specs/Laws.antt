@@ -5,9 +5,9 @@ use Rattle.land_sheet.specs.Dates.{CivilDate, IsDateOf}
 use Rattle.land_sheet.specs.Sheets.{IsSheet}
 
 -- a day has exactly one date
-abbrev pub OneDateLaw : Type 0
-OneDateLaw = (number : ℕ) (a b : CivilDate) → IsDateOf number a → IsDateOf number b → a ≡ b
+abbrev pub DatesAreUnique : Type 0
+DatesAreUnique = (number : ℕ) (a b : CivilDate) → IsDateOf number a → IsDateOf number b → a ≡ b
 
 -- a view has exactly one sheet
-abbrev pub OneSheetLaw : Type 0
-OneSheetLaw = (view : View) (a b : List ℕ) → IsSheet view a → IsSheet view b → a ≡ b
+abbrev pub SheetsAreUnique : Type 0
+SheetsAreUnique = (view : View) (a b : List ℕ) → IsSheet view a → IsSheet view b → a ≡ b

@@ -34,7 +34,7 @@ use std::alloc::{AllocError, Global};
 use std::io::Write;
 
 /// The maximum number of columns of a kind.
-const MOST_COLUMNS: usize = 11;
+const MAX_COLUMNS: usize = 11;
 
 /// Returns the first row of an extract, the names of a kind's columns, with its line feed. The only error is
 /// out of memory.
@@ -149,7 +149,7 @@ fn write_object<W: Write + Drop>(
     ensures text { WritesRows W.contents result writer.old writer.new (object_row object.now name.now) }
     ensures between { OnOk result (IsBetweenRows writer.new) }
 {
-    let mut fields = Vec::with_capacity(alloc, MOST_COLUMNS)?;
+    let mut fields = Vec::with_capacity(alloc, MAX_COLUMNS)?;
     push_object(&mut fields, alloc, object, name)?;
     write_texts(writer, alloc, fields.as_slice())
 }
@@ -165,7 +165,7 @@ fn write_texts<W: Write + Drop>(
         (row_text default_writer (map string_bytes fields.now)) }
     ensures between { OnOk result (IsBetweenRows writer.new) }
 {
-    let mut lent: Vec<&[u8]> = Vec::with_capacity(alloc, MOST_COLUMNS)?;
+    let mut lent: Vec<&[u8]> = Vec::with_capacity(alloc, MAX_COLUMNS)?;
     for field in fields {
         lent.push(field.as_bytes())?;
     }

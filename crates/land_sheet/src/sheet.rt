@@ -33,14 +33,14 @@ pub fn title_sheet(alloc: Global, view: &View) -> Result<String, AllocError>
 }
 
 /// The initial capacity of a sheet in bytes: enough for a unit with a parcel and a few entries.
-const SHEET_ROOM: usize = 512;
+const SHEET_CAPACITY: usize = 512;
 
 /// Returns the sheet of a view with a date and a moment.
 #[tactic(auto, unfolding(crate::specs::Sheets::sheet_text))]
 fn sheet_on(alloc: Global, view: &View, date: Date, moment: u64) -> Result<String, AllocError>
     ensures { IfOk result (λ text. string_bytes text ≡ sheet_text view.now (parts_of date) moment) }
 {
-    let mut text = String::with_capacity(alloc, SHEET_ROOM)?;
+    let mut text = String::with_capacity(alloc, SHEET_CAPACITY)?;
     push_head(&mut text, &view.unit, date, moment)?;
     push_parcel_part(&mut text, alloc, view.parcels.as_slice())?;
     push_entry_part(&mut text, view.rrrs.as_slice())?;

@@ -3,10 +3,10 @@ use Rattle.std.specs.Prelude.{◌≡◌, ◌≤◌, ◌+◌, ℕ, List, length, 
 use Rattle.std.specs.Io.KnownBytes.{Appends}
 
 -- a whole text is appended, and `after` counts the bytes written
-abbrev pub IsWhole : (text : List ℕ) → (before after : ℕ) → (old new : Option (List ℕ)) → Type 0
-IsWhole text before after old new = (after ≡ before + length text) × Appends old new text
+abbrev pub WritesAll : (text : List ℕ) → (before after : ℕ) → (old new : Option (List ℕ)) → Type 0
+WritesAll text before after old new = (after ≡ before + length text) × Appends old new text
 
 -- a prefix of a text is appended, and `after` counts the bytes written
-abbrev pub IsFront : (text : List ℕ) → (before after : ℕ) → (old new : Option (List ℕ)) → Type 0
-IsFront text before after old new = (n : ℕ) × (n ≤ length text) × (after ≡ before + n)
+abbrev pub WritesPrefix : (text : List ℕ) → (before after : ℕ) → (old new : Option (List ℕ)) → Type 0
+WritesPrefix text before after old new = (n : ℕ) × (n ≤ length text) × (after ≡ before + n)
     × Appends old new (take n text)

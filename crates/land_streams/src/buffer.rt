@@ -8,10 +8,10 @@ use crate::stream_fault::StreamFault;
 use std::io::Read;
 
 /// The size of one read, in bytes.
-const PIECE: usize = 1024;
+const CHUNK_SIZE: usize = 1024;
 
 /// The capacity, in bytes, to which the buffer shrinks after an item, unless it contains more.
-const ROOM_KEPT: usize = 16_384;
+const IDLE_CAPACITY: usize = 16_384;
 
 /// Reads one chunk and appends it to the buffer. Returns the number of bytes read; 0 only at the end of the
 /// input. No byte of the stream is lost in any case.
@@ -41,10 +41,10 @@ pub fn read_more<R: Read>(
     ensures failed { IfErr result (λ e. e ≡ StreamFault.Read → ((reader.old.left ≡ 0) × (reader.new.left ≡ 0))
         ⊎ ((reader.old.left ≡ reader.new.left + 1) × (vec_len buffer.new + 1024 ≤ vec_capacity buffer.new))) }
 {
-    if buffer.reserve(PIECE).is_err() {
+    if buffer.reserve(CHUNK_SIZE).is_err() {
         return Err(StreamFault::NoMemory);
     }
-    let mut piece = [0; PIECE];
+    let mut piece = [0; CHUNK_SIZE];
     let Ok(n) = reader.read(&mut piece) else {
         return Err(StreamFault::Read);
     };
@@ -96,12 +96,12 @@ pub fn read_to<R: Read>(
 }
 
 /// Removes the first `n` bytes of the buffer, and frees the capacity that a long body needed.
-pub fn drop_front(buffer: &mut Vec<u8>, n: usize)
+pub fn consume_front(buffer: &mut Vec<u8>, n: usize)
     requires { n ≤ length buffer.old.items }
     ensures { buffer.new.items ≡ drop n buffer.old.items }
 {
     let left = buffer.len() - n;
     buffer.copy_within(n.., 0);
     buffer.truncate(left);
-    buffer.shrink_to(ROOM_KEPT);
+    buffer.shrink_to(IDLE_CAPACITY);
 }

@@ -7,7 +7,7 @@ use crate::stream_fault::StreamFault;
 use std::io::Read;
 
 /// The maximum number of reads of a stream.
-pub const MOST_READS: u64 = 10_000_000;
+pub const MAX_READS: u64 = 10_000_000;
 
 /// A borrowed reader, with the number of reads left.
 #[derive(Debug, Drop)]
@@ -23,7 +23,7 @@ impl<'a, R> CountedReader<'a, R> {
         ensures left { result.left ≡ 10000000 }
         ensures same_reference { result.reader.ghost_name ≡ reader.entry.ghost_name }
     {
-        CountedReader::with_budget(reader, MOST_READS)
+        CountedReader::with_budget(reader, MAX_READS)
     }
 
     /// Returns a reader with this budget of reads.

@@ -1,6 +1,6 @@
 //! Writes pieces of a text and counts their bytes.
 ghost use Rattle.std.specs.Prelude.{◌<◌, ◌+◌, length, IfErr, IfOk};
-ghost use Rattle.land_streams.specs.Writing.{IsFront, IsWhole};
+ghost use Rattle.land_streams.specs.Writing.{WritesPrefix, WritesAll};
 
 use crate::send::send;
 use std::io::Write;
@@ -10,9 +10,9 @@ use std::io::Write;
 /// writes nothing.
 pub fn put<W: Write>(writer: &mut W, written: u64, piece: &[u8]) -> Result<u64, u64>
     ensures ok { IfOk result
-        (λ n. IsWhole piece.now written n (W.contents writer.old) (W.contents writer.new)) }
+        (λ n. WritesAll piece.now written n (W.contents writer.old) (W.contents writer.new)) }
     ensures err { IfErr result
-        (λ n. IsFront piece.now written n (W.contents writer.old) (W.contents writer.new)) }
+        (λ n. WritesPrefix piece.now written n (W.contents writer.old) (W.contents writer.new)) }
     ensures short { IfErr result (λ n. n < written + length piece.now) }
 {
     let length = piece.len() as u64;

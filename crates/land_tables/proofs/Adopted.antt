@@ -11,32 +11,32 @@ use Rattle.land_core.specs.declared.mandates.Mandate.{Mandate}
 use Rattle.land_keep.specs.Moments.{IsMoment, last_moment}
 use Rattle.land_keep.specs.Timeline.{last_register, last_stamp}
 use Rattle.land_tables.proofs.Tellings.{read_stands, tells, told_reordered}
-use Rattle.land_tables.specs.Adopting.{HoldsNone, IsFound, IsMissing, IsRefused, IsRegisterTo}
+use Rattle.land_tables.specs.Adopting.{HoldsNoRegister, IsReadFrom, IsNotOfVersion, IsRefused, IsRegisterTo}
 use Rattle.land_tables.specs.Faults.{of_read}
-use Rattle.land_tables.specs.Findings.{AreMandates, Finds, FindsFirst, IsEditionOf, IsJudged, IsPassed, Misses, SaysAll, SaysFirstRows, is_one_edition, is_version}
-use Rattle.land_tables.specs.Registers.{AreIntervals, AreOf, AreOurs, HasMandates, MayBeOurs, Shapes, the_second}
-use Rattle.land_tables.specs.Standing.{HoldsTimeline, timeline_in, without_mandates}
+use Rattle.land_tables.specs.TableContents.{ReadsMandates, Finds, ReadsTablesV1, IsEditionOf, IsValidated, IsValidWith, FailsTest, DecodesAllRows, DecodesRowsV1, is_one_edition, is_version}
+use Rattle.land_tables.specs.Registers.{HasValidIntervals, IsOfVersion, HasRegisterSchema, HasMandates, MayBeRegister, SchemaVersion, version_2}
+use Rattle.land_tables.specs.Standing.{HoldsTimeline, decoded_timeline, without_mandates}
 use Rattle.land_tables.specs.Timelines.{timeline_of}
-use Rattle.land_tables.specs.Timelines.Judging.{OrderKeepsIntervals, SoundTimelinesAreLawful}
-use Rattle.land_tables.specs.Timelines.Laws.{LastMomentIsTheLastStamp, LawfulVersionsStand, OrderDoesNotMatter, VersionsStandForOne}
+use Rattle.land_tables.specs.Timelines.Judging.{OrderKeepsIntervals, SoundTimelinesAreValid}
+use Rattle.land_tables.specs.Timelines.Laws.{LastMomentIsTheLastStamp, ValidHistoriesRepresentTimelines, OrderDoesNotMatter, HistoriesRepresentOneTimeline}
 use Rattle.land_tables.specs.declared.fault.AdoptFault.{AdoptFault}
 use Rattle.land_tables.specs.declared.fault.AdoptFault.TheVariants.{NotOurs, Interval, Unsound, Version, NoMemory, Store}
-use Rattle.land_tables.specs.declared.finding.Findings.{Findings}
+use Rattle.land_tables.specs.declared.table_contents.TableContents.{TableContents}
 use Rattle.land_tables_history.specs.Intervals.{has_intervals}
 use Rattle.land_tables_history.specs.declared.moment.Moment.{Moment}
-use Rattle.land_tables_history.specs.declared.version.Version.{Version as Lived}
+use Rattle.land_tables_history.specs.declared.version.Version.{Version as LiveSpan}
 use Rattle.land_tables_rows.proofs.ToldTables.{told_is}
 use Rattle.land_tables_rows.proofs.WrittenCells.{moment_cell}
-use Rattle.land_tables_rows.specs.Listing.Reading.{CannotSay, Says, editions, mandates, moments}
-use Rattle.land_tables_rows.specs.Listing.Told.{history_in, told_by}
-use Rattle.land_tables_rows.specs.Moment.Reading.{change_in}
+use Rattle.land_tables_rows.specs.Listing.Reading.{UnreadableOnlyIfNone, Says, editions, mandates, moments}
+use Rattle.land_tables_rows.specs.Listing.Told.{decoded_history, decode_rows}
+use Rattle.land_tables_rows.specs.Moment.Reading.{moment_row_in}
 use Rattle.land_tables_rows.specs.Reading.Cells.{moment_in, next_in}
-use Rattle.land_tables_rows.specs.Rowids.{AreFirstKeyed, AreKeyed}
+use Rattle.land_tables_rows.specs.Rowids.{HaveUniqueRowidsV1, HasUniqueRowids}
 use Rattle.land_tables_rows.specs.Writing.History.{HoldsHistory}
 use Rattle.land_tables_rows.specs.declared.edition.reading.Edition.{Edition}
 use Rattle.land_tables_rows.specs.declared.listing.fault.ReadFault.{ReadFault}
 use Rattle.land_tables_rows.specs.declared.listing.fault.ReadFault.TheVariants as read
-use Rattle.land_tables_schema.specs.Land.{MayBeLand}
+use Rattle.land_tables_schema.specs.Schemas.{MayBeRegisterSchema}
 use Rattle.land_tables_schema.specs.Rows.Forms.{AreNumbered}
 use Rattle.land_tables_schema.specs.Tables.{mandate}
 use Rattle.land_wire_json.specs.Bodies.WireFaults.{◌>>=◌}
@@ -78,8 +78,8 @@ unfolding moment_in
 moment_is cell z h = within z (int_le (pos 0) z && int_le z last_moment) refl (subst (λ c. moment_in c ≡ Ok z) (moment_cell cell z h) h)
 
 -- a row of `moments` decodes to a moment
-change_is : (row : Row) (m : Moment) → change_in row ≡ Ok m → IsMoment m.stamp
-unfolding change_in
+change_is : (row : Row) (m : Moment) → moment_row_in row ≡ Ok m → IsMoment m.stamp
+unfolding moment_row_in
 change_is row m h = go (moment_in (column row 0)) (next_in (column row 1)) (λ z e. moment_is (column row 0) z e) h
   where
     go : (a : Result ℤ WireFault) (b : Result ℕ WireFault) → ((z : ℤ) → a ≡ Ok z → IsMoment z)
@@ -111,7 +111,7 @@ are_moments db ms says =
 -- ---- the content of the tables
 
 -- tables that decode to a history, with unique rowids, hold that history
-held_if_said : (db : Trees) (found : Findings) → SaysAll db found → AreFirstKeyed db → AreKeyed mandate db → HoldsHistory db found.moments found.history
+held_if_said : (db : Trees) (found : TableContents) → DecodesAllRows db found → HaveUniqueRowidsV1 db → HasUniqueRowids mandate db → HoldsHistory db found.moments found.history
 held_if_said db found said keyed mandates_keyed = record {
   the_moments = said.moments;
   the_parties = record { said = said.history.parties; numbered = keyed.persons.parties };
@@ -128,24 +128,24 @@ held_if_said db found said keyed mandates_keyed = record {
 
 -- ---- the tables of schema version 1
 
-module _ (db : Database) (land : MayBeLand db.schema) (found : Findings) (finds : FindsFirst db.trees found) where
-  pub told_editions : is_one_edition found.editions ≡ true → told_by editions db.trees ≡ found.editions
-  told_editions is = one_is_alone found.editions (told_by editions db.trees) is (told_is editions db.trees found.editions finds.said.editions)
+module _ (db : Database) (has_tables : MayBeRegisterSchema db.schema) (found : TableContents) (finds : ReadsTablesV1 db.trees found) where
+  pub told_editions : is_one_edition found.editions ≡ true → decode_rows editions db.trees ≡ found.editions
+  told_editions is = one_is_alone found.editions (decode_rows editions db.trees) is (told_is editions db.trees found.editions finds.said.editions)
 
-  pub may_be : is_one_edition found.editions ≡ true → MayBeOurs db
-  may_be is = record { land = land; found = found; said = finds.said; one = ap is_one_edition (told_editions is) ∙ is }
+  pub may_be : is_one_edition found.editions ≡ true → MayBeRegister db
+  may_be is = record { has_tables = has_tables; found = found; said = finds.said; one = ap is_one_edition (told_editions is) ∙ is }
 
   -- if there is not exactly one edition, the decoded tables do not have one either
-  not_one : is_one_edition found.editions ≡ false → ¬ MayBeOurs db
+  not_one : is_one_edition found.editions ≡ false → ¬ MayBeRegister db
   not_one missed it =
-      let same = one_is_alone (told_by editions db.trees) found.editions it.one (IsPermutation-sym found.editions (told_by editions db.trees) (told_is editions db.trees found.editions finds.said.editions)) in
+      let same = one_is_alone (decode_rows editions db.trees) found.editions it.one (IsPermutation-sym found.editions (decode_rows editions db.trees) (told_is editions db.trees found.editions finds.said.editions)) in
       false≢true (sym missed ∙ ap is_one_edition same ∙ it.one)
 
   -- the edition is that of the required version, or the tables are not of this version
-  pub to_found : (version : ℕ) → IsEditionOf version found.editions (Ok tt) → IsFound version db found
-  to_found version is = record { land = land; finds = finds; one = is.0; made = is.1 }
+  pub to_found : (version : ℕ) → IsEditionOf version found.editions (Ok tt) → IsReadFrom version db found
+  to_found version is = record { has_tables = has_tables; finds = finds; one = is.0; made = is.1 }
 
-  pub to_missing : (version : ℕ) (why : AdoptFault) → IsEditionOf version found.editions (Err why) → IsMissing version why db
+  pub to_missing : (version : ℕ) (why : AdoptFault) → IsEditionOf version found.editions (Err why) → IsNotOfVersion version why db
   to_missing version NotOurs missed = not_one missed
   to_missing version Version missed = (may_be missed.0, ap (is_version version) (told_editions missed.0) ∙ missed.1)
   to_missing version Interval missed = absurd missed
@@ -154,46 +154,46 @@ module _ (db : Database) (land : MayBeLand db.schema) (found : Findings) (finds 
   to_missing version Store missed = tt
 
 -- tables that lack schema version 1, or do not decode, are not a register
-pub other_tables : (db : Database) → (¬ MayBeLand db.schema) → ¬ MayBeOurs db
-other_tables db none it = none it.land
+pub other_tables : (db : Database) → (¬ MayBeRegisterSchema db.schema) → ¬ MayBeRegister db
+other_tables db none it = none it.has_tables
 
-pub unread : (db : Database) → ((found : Findings) → ¬ SaysFirstRows db.trees found) → ¬ MayBeOurs db
+pub unread : (db : Database) → ((found : TableContents) → ¬ DecodesRowsV1 db.trees found) → ¬ MayBeRegister db
 unread db none it = none it.found it.said
 
 -- a failed read of them
-pub unread_missing : (version : ℕ) (db : Database) (fault : ReadFault) → CannotSay (SaysFirstRows db.trees) fault → IsMissing version (of_read fault) db
+pub unread_missing : (version : ℕ) (db : Database) (fault : ReadFault) → UnreadableOnlyIfNone (DecodesRowsV1 db.trees) fault → IsNotOfVersion version (of_read fault) db
 unread_missing version db read.Unreadable cannot = unread db (cannot refl)
 unread_missing version db read.NoMemory cannot = tt
 unread_missing version db read.Store cannot = tt
 
-pub missing_after : {X : Type 0} (version : ℕ) (db : Database) (r : Result X AdoptFault) (fault : ReadFault) → IsErrAnd r (λ f. f ≡ of_read fault) → CannotSay (SaysFirstRows db.trees) fault
-    → IfErr r (λ why. IsMissing version why db)
+pub missing_after : {X : Type 0} (version : ℕ) (db : Database) (r : Result X AdoptFault) (fault : ReadFault) → IsErrAnd r (λ f. f ≡ of_read fault) → UnreadableOnlyIfNone (DecodesRowsV1 db.trees) fault
+    → IfErr r (λ why. IsNotOfVersion version why db)
 missing_after version db (Ok x) fault is cannot = tt
-missing_after version db (Err f) fault is cannot = subst (λ (g : AdoptFault). IsMissing version g db) (sym is) (unread_missing version db fault cannot)
+missing_after version db (Err f) fault is cannot = subst (λ (g : AdoptFault). IsNotOfVersion version g db) (sym is) (unread_missing version db fault cannot)
 
 -- ---- the schema version
 
 -- the store may be a register, of this schema version
 pub record IsMadeBy (version : ℕ) (db : Database) : Type 0 where
-  pub may_be : MayBeOurs db
-  pub made : is_version version (told_by editions db.trees) ≡ true
+  pub may_be : MayBeRegister db
+  pub made : is_version version (decode_rows editions db.trees) ≡ true
 
-pub made_by : (version : ℕ) (db : Database) (found : Findings) → IsFound version db found → IsMadeBy version db
+pub made_by : (version : ℕ) (db : Database) (found : TableContents) → IsReadFrom version db found → IsMadeBy version db
 made_by version db found it = record {
-  may_be = may_be db it.land found it.finds it.one;
-  made = ap (is_version version) (told_editions db it.land found it.finds it.one) ∙ it.made;
+  may_be = may_be db it.has_tables found it.finds it.one;
+  made = ap (is_version version) (told_editions db it.has_tables found it.finds it.one) ∙ it.made;
 }
 
 -- with the schema of that version, it is a register of that version
-pub is_of : (shapes : Shapes) (db : Database) → IsMadeBy shapes.version db → shapes.AreThere db → AreOf shapes db
+pub is_of : (shapes : SchemaVersion) (db : Database) → IsMadeBy shapes.version db → shapes.AreThere db → IsOfVersion shapes db
 is_of shapes db made there = record { ours = record { first = made.may_be; there = λ _. there }; version = made.made }
 
 -- without it, it is not a register
-pub is_none : (shapes : Shapes) (db : Database) → IsMadeBy shapes.version db → (¬ shapes.AreThere db) → ¬ AreOurs shapes db
+pub is_none : (shapes : SchemaVersion) (db : Database) → IsMadeBy shapes.version db → (¬ shapes.AreThere db) → ¬ HasRegisterSchema shapes db
 is_none shapes db made none ours = none (ours.there made.made)
 
 -- tables that are not of the version are refused, under any schema
-pub missing_refused : (shapes : Shapes) (why : AdoptFault) (db : Database) → IsMissing shapes.version why db → IsRefused shapes why db
+pub missing_refused : (shapes : SchemaVersion) (why : AdoptFault) (db : Database) → IsNotOfVersion shapes.version why db → IsRefused shapes why db
 missing_refused shapes NotOurs db missing = λ ours. missing ours.first
 missing_refused shapes Version db missing = (
   record { first = missing.0; there = λ is. absurd (false≢true (sym missing.1 ∙ is)) },
@@ -205,32 +205,32 @@ missing_refused shapes NoMemory db missing = tt
 missing_refused shapes Store db missing = tt
 
 -- a propagated fault
-pub missing_on : {X : Type 0} (shapes : Shapes) (db : Database) (r : Result X AdoptFault) (fault : AdoptFault) → IsErrAnd r (λ f. f ≡ fault) → IsMissing shapes.version fault db → IfErr r (λ why. IsRefused shapes why db)
+pub missing_on : {X : Type 0} (shapes : SchemaVersion) (db : Database) (r : Result X AdoptFault) (fault : AdoptFault) → IsErrAnd r (λ f. f ≡ fault) → IsNotOfVersion shapes.version fault db → IfErr r (λ why. IsRefused shapes why db)
 missing_on shapes db (Ok x) fault is missing = tt
-missing_on shapes db (Err f) fault is missing = missing_refused shapes f db (subst (λ (g : AdoptFault). IsMissing shapes.version g db) (sym is) missing)
+missing_on shapes db (Err f) fault is missing = missing_refused shapes f db (subst (λ (g : AdoptFault). IsNotOfVersion shapes.version g db) (sym is) missing)
 
 -- a property of a fault is one of the result that returns it
 pub told_on : {X : Type 0} (Q : AdoptFault → Type 0) (r : Result X AdoptFault) (fault : AdoptFault) → IsErrAnd r (λ f. f ≡ fault) → Q fault → IfErr r Q
 told_on Q (Ok x) fault is so = tt
 told_on Q (Err f) fault is so = subst Q (sym is) so
 
-pub refused_on : {X : Type 0} (shapes : Shapes) (db : Database) (r : Result X AdoptFault) (fault : AdoptFault) → IsErrAnd r (λ f. f ≡ fault) → IsRefused shapes fault db → IfErr r (λ why. IsRefused shapes why db)
+pub refused_on : {X : Type 0} (shapes : SchemaVersion) (db : Database) (r : Result X AdoptFault) (fault : AdoptFault) → IsErrAnd r (λ f. f ≡ fault) → IsRefused shapes fault db → IfErr r (λ why. IsRefused shapes why db)
 refused_on shapes db (Ok x) fault is refused = tt
 refused_on shapes db (Err f) fault is refused = subst (λ (g : AdoptFault). IsRefused shapes g db) (sym is) refused
 
 -- the decoded tables of a store with the schema
-module _ (a b : State) (shapes : Shapes) (found : Findings) (first : IsFound shapes.version a.now found) (same : b.now ≡ a.now) where
-  pub lacks : (shapes.AreThere b.now → ⊥) → ¬ AreOurs shapes a.now
+module _ (a b : State) (shapes : SchemaVersion) (found : TableContents) (first : IsReadFrom shapes.version a.now found) (same : b.now ≡ a.now) where
+  pub lacks : (shapes.AreThere b.now → ⊥) → ¬ HasRegisterSchema shapes a.now
   lacks none = is_none shapes a.now (made_by shapes.version a.now found first) (λ there. none (subst shapes.AreThere (sym same) there))
 
-  pub has : shapes.AreThere b.now → AreOf shapes a.now
+  pub has : shapes.AreThere b.now → IsOfVersion shapes a.now
   has there = is_of shapes a.now (made_by shapes.version a.now found first) (subst shapes.AreThere same there)
 
 -- ---- mandates
 
 -- the value of all tables, from those of schema version 1 and the mandates
-all_said : (db : Trees) (found : Findings) (listed : List (Lived Mandate)) → SaysFirstRows db found → Says mandates db listed
-    → SaysAll db (record found { history = record found.history { mandates = listed } })
+all_said : (db : Trees) (found : TableContents) (listed : List (LiveSpan Mandate)) → DecodesRowsV1 db found → Says mandates db listed
+    → DecodesAllRows db (record found { history = record found.history { mandates = listed } })
 all_said db found listed said listed_said = record {
   editions = said.editions;
   moments = said.moments;
@@ -248,12 +248,12 @@ all_said db found listed said listed_said = record {
   };
 }
 
-pub with_mandates_found : (db : Trees) (found : Findings) (listed : List (Lived Mandate)) → FindsFirst db found → AreMandates db listed
+pub with_mandates_found : (db : Trees) (found : TableContents) (listed : List (LiveSpan Mandate)) → ReadsTablesV1 db found → ReadsMandates db listed
     → Finds db (record found { history = record found.history { mandates = listed } })
 with_mandates_found db found listed finds are = record { said = all_said db found listed finds.said are.said; keyed = finds.keyed; mandates = are.keyed }
 
 -- in schema version 1 there are no mandates
-none_said : (db : Trees) (found : Findings) → SaysFirstRows db found → SaysAll (without_mandates db) found
+none_said : (db : Trees) (found : TableContents) → DecodesRowsV1 db found → DecodesAllRows (without_mandates db) found
 none_said db found said = record {
   editions = said.editions;
   moments = said.moments;
@@ -267,11 +267,11 @@ none_said db found said = record {
     sources = said.history.sources;
     mutations = said.history.mutations;
     namings = said.history.namings;
-    mandates = subst (λ (listed : List (Lived Mandate)). Says mandates (without_mandates db) listed) (sym said.history.none) (IsPermutation-refl []);
+    mandates = subst (λ (listed : List (LiveSpan Mandate)). Says mandates (without_mandates db) listed) (sym said.history.none) (IsPermutation-refl []);
   };
 }
 
-none_keyed : (db : Trees) → AreFirstKeyed db → AreFirstKeyed (without_mandates db)
+none_keyed : (db : Trees) → HaveUniqueRowidsV1 db → HaveUniqueRowidsV1 (without_mandates db)
 none_keyed db keyed = record {
   persons = record { parties = keyed.persons.parties; roles = keyed.persons.roles; members = keyed.persons.members };
   holdings = record { units = keyed.holdings.units; parcels = keyed.holdings.parcels; rrrs = keyed.holdings.rrrs };
@@ -285,39 +285,39 @@ none_apart = tt
 no_rows : AreNumbered []
 no_rows = record { whole = refl; apart = none_apart }
 
-pub first_found : (db : Trees) (found : Findings) → FindsFirst db found → Finds (without_mandates db) found
+pub first_found : (db : Trees) (found : TableContents) → ReadsTablesV1 db found → Finds (without_mandates db) found
 first_found db found finds = record { said = none_said db found finds.said; keyed = none_keyed db finds.keyed; mandates = no_rows }
 
 -- mandates that do not decode have no value
-pub no_mandates_said : (db : Database) → ((listed : List (Lived Mandate)) → ¬ Says mandates db.trees listed) → ¬ HasMandates db
+pub no_mandates_said : (db : Database) → ((listed : List (LiveSpan Mandate)) → ¬ Says mandates db.trees listed) → ¬ HasMandates db
 no_mandates_said db none it = none it.listed it.said
 
-pub unread_refused : (db : Database) (fault : ReadFault) → IsMadeBy 2 db → CannotSay (Says mandates db.trees) fault → IsRefused the_second (of_read fault) db
-unread_refused db read.Unreadable made cannot = is_none the_second db made (no_mandates_said db (cannot refl))
+pub unread_refused : (db : Database) (fault : ReadFault) → IsMadeBy 2 db → UnreadableOnlyIfNone (Says mandates db.trees) fault → IsRefused version_2 (of_read fault) db
+unread_refused db read.Unreadable made cannot = is_none version_2 db made (no_mandates_said db (cannot refl))
 unread_refused db read.NoMemory made cannot = tt
 unread_refused db read.Store made cannot = tt
 
-pub refused_after : {X : Type 0} (db : Database) (r : Result X AdoptFault) (fault : ReadFault) → IsErrAnd r (λ f. f ≡ of_read fault) → IsMadeBy 2 db → CannotSay (Says mandates db.trees) fault
-    → IfErr r (λ why. IsRefused the_second why db)
+pub refused_after : {X : Type 0} (db : Database) (r : Result X AdoptFault) (fault : ReadFault) → IsErrAnd r (λ f. f ≡ of_read fault) → IsMadeBy 2 db → UnreadableOnlyIfNone (Says mandates db.trees) fault
+    → IfErr r (λ why. IsRefused version_2 why db)
 refused_after db (Ok x) fault is made cannot = tt
-refused_after db (Err f) fault is made cannot = subst (λ (g : AdoptFault). IsRefused the_second g db) (sym is) (unread_refused db fault made cannot)
+refused_after db (Err f) fault is made cannot = subst (λ (g : AdoptFault). IsRefused version_2 g db) (sym is) (unread_refused db fault made cannot)
 
 -- ---- validation
 
-module _ (stand : LawfulVersionsStand) (one : VersionsStandForOne) (order : OrderDoesNotMatter) (latest_is : LastMomentIsTheLastStamp) (lawful_too : SoundTimelinesAreLawful) (intervals_too : OrderKeepsIntervals)
-    (shapes : Shapes) (db : Database) (of : AreOf shapes db) (found : Findings) (finds : Finds (shapes.rows db.trees) found) where
-  said : SaysAll (shapes.rows db.trees) found
+module _ (stand : ValidHistoriesRepresentTimelines) (one : HistoriesRepresentOneTimeline) (order : OrderDoesNotMatter) (latest_is : LastMomentIsTheLastStamp) (lawful_too : SoundTimelinesAreValid) (intervals_too : OrderKeepsIntervals)
+    (shapes : SchemaVersion) (db : Database) (of : IsOfVersion shapes db) (found : TableContents) (finds : Finds (shapes.rows db.trees) found) where
+  said : DecodesAllRows (shapes.rows db.trees) found
   said = finds.said
 
-  told_intervals : has_intervals (told_by moments (shapes.rows db.trees)) (history_in (shapes.rows db.trees)) ≡ has_intervals found.moments found.history
-  told_intervals = intervals_too found.moments (told_by moments (shapes.rows db.trees)) found.history (history_in (shapes.rows db.trees))
+  told_intervals : has_intervals (decode_rows moments (shapes.rows db.trees)) (decoded_history (shapes.rows db.trees)) ≡ has_intervals found.moments found.history
+  told_intervals = intervals_too found.moments (decode_rows moments (shapes.rows db.trees)) found.history (decoded_history (shapes.rows db.trees))
       (told_is moments (shapes.rows db.trees) found.moments said.moments) (told_reordered (shapes.rows db.trees) found.history said.history)
 
-  intervals : has_intervals found.moments found.history ≡ true → AreIntervals shapes db
+  intervals : has_intervals found.moments found.history ≡ true → HasValidIntervals shapes db
   intervals proper = record { made = of; intervals = told_intervals ∙ proper }
 
   -- contents that fail a test are refused for it
-  pub misses : (why : AdoptFault) → Misses why found → IsRefused shapes why db
+  pub misses : (why : AdoptFault) → FailsTest why found → IsRefused shapes why db
   misses NotOurs missed = absurd missed
   misses Version missed = absurd missed
   misses Interval missed = (of, λ it. false≢true (sym missed ∙ sym told_intervals ∙ it.intervals))
@@ -330,14 +330,14 @@ module _ (stand : LawfulVersionsStand) (one : VersionsStandForOne) (order : Orde
   misses Store missed = tt
 
   -- contents that pass all tests are a register
-  pub passes : (latest : Moment) → IsPassed found latest → IsRegisterTo shapes db latest
+  pub passes : (latest : Moment) → IsValidWith found latest → IsRegisterTo shapes db latest
   passes latest passed =
       let p = passed.passes in
       let rows = shapes.rows db.trees in
       let tl = timeline_of found.moments found.history in
-      let stands = stand found.moments found.history (are_moments rows found.moments said.moments) p.intervals p.lawful in
+      let stands = stand found.moments found.history (are_moments rows found.moments said.moments) p.intervals p.valid_history in
       let holds : HoldsTimeline rows tl = record { listed = found.moments; history = found.history; holds = held_if_said rows found said finds.keyed finds.mandates; stands = stands.0 } in
-      let is : timeline_in rows ≡ tl = tells one order rows tl holds stands.1 in
+      let is : decoded_timeline rows ≡ tl = tells one order rows tl holds stands.1 in
       let last_is : Some latest ≡ Some (let it : Moment = record { stamp = last_stamp tl; next = (last_register tl).next } in it) = sym passed.last ∙ latest_is found.moments found.history tl stands.0 stands.1 in
       record {
         register = record { intervals = intervals p.intervals; holds = rw is holds; sound = rw is stands.1 };
@@ -346,19 +346,19 @@ module _ (stand : LawfulVersionsStand) (one : VersionsStandForOne) (order : Orde
       }
 
   -- validated contents are a register, or are refused
-  pub to_register : (r : Result Moment AdoptFault) → IsJudged found r → IfOk r (IsRegisterTo shapes db)
+  pub to_register : (r : Result Moment AdoptFault) → IsValidated found r → IfOk r (IsRegisterTo shapes db)
   to_register (Ok latest) passed = passes latest passed
   to_register (Err why) missed = tt
 
-  pub to_refusal : (r : Result Moment AdoptFault) → IsJudged found r → IfErr r (λ why. IsRefused shapes why db)
+  pub to_refusal : (r : Result Moment AdoptFault) → IsValidated found r → IfErr r (λ why. IsRefused shapes why db)
   to_refusal (Ok latest) passed = tt
   to_refusal (Err why) missed = misses why missed
 
 -- a refused store does not hold a register
-pub refused_holds_none : (shapes : Shapes) (why : AdoptFault) (db : Database) → IsRefused shapes why db → HoldsNone shapes why db
+pub refused_holds_none : (shapes : SchemaVersion) (why : AdoptFault) (db : Database) → IsRefused shapes why db → HoldsNoRegister shapes why db
 refused_holds_none shapes NotOurs db refused other open_still it = refused it.intervals.made.ours
 refused_holds_none shapes Version db refused other open_still it = refused.1 it.intervals.made
 refused_holds_none shapes Interval db refused other open_still it = refused.1 it.intervals
-refused_holds_none shapes Unsound db refused other open_still it = refused.1 (timeline_in (shapes.rows db.trees)) it.holds it.sound
+refused_holds_none shapes Unsound db refused other open_still it = refused.1 (decoded_timeline (shapes.rows db.trees)) it.holds it.sound
 refused_holds_none shapes NoMemory db refused other open_still it = other refl
 refused_holds_none shapes Store db refused other open_still it = open_still refl

@@ -18,14 +18,14 @@ use Rattle.land_core.specs.declared.mutation.MutationRecord.{MutationRecord}
 use Rattle.land_core.specs.declared.register.Register.{Register}
 use Rattle.land_core.specs.declared.roles.Grant.{Grant}
 use Rattle.land_keep.specs.Moments.{IsMoment, last_moment}
-use Rattle.land_keep.specs.Timeline.{IsSoundTimeline, Rises, last_stamp}
+use Rattle.land_keep.specs.Timeline.{IsSoundTimeline, IncreasesFrom, last_stamp}
 use Rattle.land_keep.specs.declared.timeline.Version.{Version as Begun}
 use Rattle.land_tables.proofs.Between.{all_ended, all_later, none_after, none_standing, reached, same_standing}
 use Rattle.land_tables.proofs.One.{found_at, registered}
 use Rattle.land_tables.proofs.Rising.{Orderly, in_order_permuted, orderly, rises_from}
 use Rattle.land_tables.proofs.Sorting.{is_late}
-use Rattle.land_tables.specs.Timelines.{in_order, moment_of, version_of}
-use Rattle.land_tables.specs.Timelines.Laws.{LawfulVersionsStand}
+use Rattle.land_tables.specs.Timelines.{sorted_moments, moment_of, version_of}
+use Rattle.land_tables.specs.Timelines.Laws.{ValidHistoriesRepresentTimelines}
 use Rattle.land_tables_history.proofs.Distinct.{distinct_standing}
 use Rattle.land_tables_history.proofs.Entered.{made_mandates, made_part, made_roles, no_entries}
 use Rattle.land_tables_history.proofs.MadeGroups.{made_groups, no_groups}
@@ -34,9 +34,9 @@ use Rattle.land_tables_history.proofs.NamingLists.{namings_distinct, same_naming
 use Rattle.land_tables_history.proofs.Permutations.{any_permuted}
 use Rattle.land_tables_history.proofs.Proper.{AllProper, Proper, all_proper}
 use Rattle.land_tables_history.specs.History as history
-use Rattle.land_tables_history.specs.History.{StandsAt, namings_of}
+use Rattle.land_tables_history.specs.History.{IsRegisterAt, namings_of}
 use Rattle.land_tables_history.specs.Intervals.{is_same_grant, is_same_mandate, is_same_member, is_same_naming, is_same_number, is_stamp}
-use Rattle.land_tables_history.specs.Lawful.{IsLawfulAt, is_same_stamp, never_falls}
+use Rattle.land_tables_history.specs.ValidHistory.{IsValidAt, is_same_stamp, never_decreases}
 use Rattle.land_tables_history.specs.Open.{has_ended, have_ended}
 use Rattle.land_tables_history.specs.Standing.{IsPartAt, part_at, standing}
 use Rattle.land_tables_history.specs.declared.history.History.{History}
@@ -50,8 +50,8 @@ part_stands : {V : Type 0} (moments : List Moment) (t : ℤ) (vs : List (Version
 part_stands moments t vs p = made_part (standing t vs) (distinct_standing is_same_number t vs p.apart)
 
 -- at a moment at which a history is valid, its versions represent the register that they form
-stands_there : (moments : List Moment) (h : History) (m : Moment) → AllProper moments h → IsLawfulAt h m → StandsAt m.stamp h (history.register_at m.stamp h m.next)
-stands_there moments h m p lawful = record {
+stands_there : (moments : List Moment) (h : History) (m : Moment) → AllProper moments h → IsValidAt h m → IsRegisterAt m.stamp h (history.register_at m.stamp h m.next)
+stands_there moments h m p valid_history = record {
   parties = part_stands moments m.stamp h.parties p.parties;
   roles = made_roles (standing m.stamp h.roles) (distinct_standing is_same_grant m.stamp h.roles p.roles.apart);
   members = made_groups (standing m.stamp h.members) (distinct_standing is_same_member m.stamp h.members p.members.apart);
@@ -61,7 +61,7 @@ stands_there moments h m p lawful = record {
   sources = part_stands moments m.stamp h.sources p.sources;
   mutations = part_stands moments m.stamp h.mutations p.mutations;
   namings = same_namings (standing m.stamp h.namings) (namings_of (history.register_at m.stamp h m.next).mutations)
-      (distinct_standing is_same_naming m.stamp h.namings p.namings.apart) (namings_distinct (history.register_at m.stamp h m.next) lawful.sound) lawful.named;
+      (distinct_standing is_same_naming m.stamp h.namings p.namings.apart) (namings_distinct (history.register_at m.stamp h m.next) valid_history.sound) valid_history.named;
   mandates = made_mandates (standing m.stamp h.mandates) (distinct_standing is_same_mandate m.stamp h.mandates p.mandates.apart);
 }
 
@@ -69,7 +69,7 @@ stands_there moments h m p lawful = record {
 
 -- the versions at two moments without a stamp between them
 stands_still : (moments : List Moment) (h : History) (s t : ℤ) (r : Register) → AllProper moments h → s ≤ℤ t → t ≤ℤ last_moment
-    → ((u : ℤ) → is_stamp moments u ≡ true → int_le u t ≡ int_le u s) → StandsAt s h r → StandsAt t h r
+    → ((u : ℤ) → is_stamp moments u ≡ true → int_le u t ≡ int_le u s) → IsRegisterAt s h r → IsRegisterAt t h r
 stands_still moments h s t r p least most same there = record {
   parties = on is_same_number h.parties p.parties there.parties;
   roles = on is_same_grant h.roles p.roles there.roles;
@@ -87,7 +87,7 @@ stands_still moments h s t r p least most same there = record {
     on alike vs {records} its there = subst (λ l. IsPermutation l records) (sym (same_standing moments s t vs least most same its.intervals)) there
 
 -- before the first stamp there are no versions
-pub nothing_stands : (moments : List Moment) (h : History) (t : ℤ) → AllProper moments h → ((u : ℤ) → is_stamp moments u ≡ true → int_le u t ≡ false) → StandsAt t h nothing
+pub nothing_stands : (moments : List Moment) (h : History) (t : ℤ) → AllProper moments h → ((u : ℤ) → is_stamp moments u ≡ true → int_le u t ≡ false) → IsRegisterAt t h nothing
 unfolding grants_in mandates_in
 nothing_stands moments h t p none = record {
   parties = on is_same_number h.parties p.parties (no_entries nat_cmp _);
@@ -113,33 +113,33 @@ late : (s t : ℤ) → int_le s t ≡ false → t <ℤ s
 late s t h = grind (arith, ints)
 
 -- at each moment the versions represent the register of the latest stamp up to it
-stands_at : (moments : List Moment) (h : History) (ms : List Moment) (t : ℤ) → AllProper moments h → Orderly h ms → AllByRecursion (IsLawfulAt h) ms → t ≤ℤ last_moment
-    → ((u : ℤ) → is_stamp moments u ≡ true → is_stamp ms u ≡ true) → StandsAt t h (registered (found_at t None (map_list (version_of h) ms)))
-stands_at moments h [] t p rises lawful most all = nothing_stands moments h t p (λ u is. absurd (false≢true (all u is)))
-stands_at moments h (m ∷ ms) t p rises lawful most all = go (int_le m.stamp t) refl
+stands_at : (moments : List Moment) (h : History) (ms : List Moment) (t : ℤ) → AllProper moments h → Orderly h ms → AllByRecursion (IsValidAt h) ms → t ≤ℤ last_moment
+    → ((u : ℤ) → is_stamp moments u ≡ true → is_stamp ms u ≡ true) → IsRegisterAt t h (registered (found_at t None (map_list (version_of h) ms)))
+stands_at moments h [] t p rises valid_history most all = nothing_stands moments h t p (λ u is. absurd (false≢true (all u is)))
+stands_at moments h (m ∷ ms) t p rises valid_history most all = go (int_le m.stamp t) refl
   where
-    climbs : Rises (version_of h m) (map_list (version_of h) ms)
+    climbs : IncreasesFrom (version_of h m) (map_list (version_of h) ms)
     climbs = rises_from h m ms rises
 
-    go : (b : Bool) → int_le m.stamp t ≡ b → StandsAt t h (registered (found_at t (cond b (Some (version_of h m)) None) (map_list (version_of h) ms)))
+    go : (b : Bool) → int_le m.stamp t ≡ b → IsRegisterAt t h (registered (found_at t (cond b (Some (version_of h m)) None) (map_list (version_of h) ms)))
     go true on =
-        let r = reached (IsLawfulAt h) h t m ms climbs lawful (le_from m.stamp t on) in
-        subst (λ (o : Option Begun). StandsAt t h (registered o)) (sym r.is)
+        let r = reached (IsValidAt h) h t m ms climbs valid_history (le_from m.stamp t on) in
+        subst (λ (o : Option Begun). IsRegisterAt t h (registered o)) (sym r.is)
         (stands_still moments h r.moment.stamp t (history.register_at r.moment.stamp h r.moment.next) p r.before most (λ u is. r.same u (all u is)) (stands_there moments h r.moment p r.holds))
     go false on =
-        subst (λ (o : Option Begun). StandsAt t h (registered o)) (sym (later ms climbs))
+        subst (λ (o : Option Begun). IsRegisterAt t h (registered o)) (sym (later ms climbs))
         (nothing_stands moments h t p (λ u is. all_later h t m ms (late m.stamp t on) climbs u (all u is)))
       where
         less : (s n : ℤ) → t <ℤ s → s <ℤ n → t <ℤ n
         less s n g k = omega (arith, ints)
 
-        later_from : (n : Moment) (ns : List Moment) → t <ℤ n.stamp → Rises (version_of h n) (map_list (version_of h) ns) → found_at t None (map_list (version_of h) ns) ≡ None
+        later_from : (n : Moment) (ns : List Moment) → t <ℤ n.stamp → IncreasesFrom (version_of h n) (map_list (version_of h) ns) → found_at t None (map_list (version_of h) ns) ≡ None
         later_from n [] before climbs = refl
         later_from n (k ∷ ks) before climbs =
             let next = less n.stamp k.stamp before climbs.0 in
             ap (λ b. found_at t (cond b (Some (version_of h k)) None) (map_list (version_of h) ks)) (is_late k.stamp t next) ∙ later_from k ks next climbs.2
 
-        later : (ns : List Moment) → Rises (version_of h m) (map_list (version_of h) ns) → found_at t None (map_list (version_of h) ns) ≡ None
+        later : (ns : List Moment) → IncreasesFrom (version_of h m) (map_list (version_of h) ns) → found_at t None (map_list (version_of h) ns) ≡ None
         later ns climbs = later_from m ns (late m.stamp t on) climbs
 
 -- ---- the whole timeline
@@ -170,23 +170,23 @@ ended moments h ms p rises all = ten (on is_same_number h.parties p.parties) (on
     on alike vs its = all_ended moments (last_stamp (map_list (version_of h) ms)) vs (λ u is. past ms rises u (all u is)) its.intervals
 
 -- sorted moments, of which there is at least one
-timeline_rises : (h : History) (ms : List Moment) → Orderly h ms → nat_lt 0 (length ms) ≡ true → AllByRecursion (λ m. IsMoment m.stamp) ms → AllByRecursion (IsLawfulAt h) ms → IsSoundTimeline (map_list (version_of h) ms)
-timeline_rises h [] rises some moments lawful = absurd (false≢true some)
-timeline_rises h (m ∷ ms) rises some moments lawful = record {
+timeline_rises : (h : History) (ms : List Moment) → Orderly h ms → nat_lt 0 (length ms) ≡ true → AllByRecursion (λ m. IsMoment m.stamp) ms → AllByRecursion (IsValidAt h) ms → IsSoundTimeline (map_list (version_of h) ms)
+timeline_rises h [] rises some moments valid_history = absurd (false≢true some)
+timeline_rises h (m ∷ ms) rises some moments valid_history = record {
   rising = rises_from h m ms rises;
   moments = of_versions h (λ m. IsMoment m.stamp) (λ v. IsMoment v.stamp) (λ m is. is) (m ∷ ms) moments;
-  sound = of_versions h (IsLawfulAt h) (λ v. IsSound v.register) (λ m is. is.sound) (m ∷ ms) lawful;
+  sound = of_versions h (IsValidAt h) (λ v. IsSound v.register) (λ m is. is.sound) (m ∷ ms) valid_history;
 }
 
-pub lawful_stands : LawfulVersionsStand
-lawful_stands moments h at_moments intervals lawful =
+pub lawful_stands : ValidHistoriesRepresentTimelines
+lawful_stands moments h at_moments intervals valid_history =
     let p = all_proper moments h intervals in
-    let ms = in_order moments in
+    let ms = sorted_moments moments in
     let sorted : IsPermutation moments ms = IsPermutation-sym ms moments (in_order_permuted moments) in
-    let two = and_parts (nat_lt 0 (length moments) && are_distinct is_same_stamp moments) (never_falls moments) lawful.moments in
+    let two = and_parts (nat_lt 0 (length moments) && are_distinct is_same_stamp moments) (never_decreases moments) valid_history.moments in
     let one = and_parts (nat_lt 0 (length moments)) (are_distinct is_same_stamp moments) two.0 in
     let rises = orderly h moments one.1 two.1 in
-    let each = recursion_from_All (IsLawfulAt h) ms (All-permutation (IsLawfulAt h) moments ms sorted lawful.each) in
+    let each = recursion_from_All (IsValidAt h) ms (All-permutation (IsValidAt h) moments ms sorted valid_history.each) in
     let stamps : AllByRecursion (λ m. IsMoment m.stamp) ms = recursion_from_All (λ m. IsMoment m.stamp) ms (All-permutation (λ m. IsMoment m.stamp) moments ms sorted at_moments) in
     let same_stamps : (u : ℤ) → is_stamp moments u ≡ true → is_stamp ms u ≡ true = λ u is. any_permuted (λ m. int_eq m.stamp u) moments ms sorted ∙ is in (
       record {

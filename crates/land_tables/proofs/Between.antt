@@ -7,7 +7,7 @@ use Rattle.std.specs.List.{AllByRecursion, list_all}
 use Rattle.std.specs.Ordering.{int_eq}
 use Rattle.std.proofs.lemmas.Cmp.{int_eq_equiv}
 use Rattle.land_keep.specs.Moments.{last_moment}
-use Rattle.land_keep.specs.Timeline.{Rises, last_from}
+use Rattle.land_keep.specs.Timeline.{IncreasesFrom, last_from}
 use Rattle.land_keep.specs.declared.timeline.Version.{Version as Begun}
 use Rattle.land_tables.proofs.One.{found_at, none_later}
 use Rattle.land_tables.specs.Timelines.{version_of}
@@ -40,7 +40,7 @@ either_of true b h none = absurd (false≢true (sym none))
 either_of false b h none = h
 
 -- each stamp is after every time before the first one
-pub all_later : (versions : History) (t : ℤ) (m : Moment) (ms : List Moment) → t <ℤ m.stamp → Rises (version_of versions m) (map (version_of versions) ms)
+pub all_later : (versions : History) (t : ℤ) (m : Moment) (ms : List Moment) → t <ℤ m.stamp → IncreasesFrom (version_of versions m) (map (version_of versions) ms)
     → (u : ℤ) → is_stamp (m ∷ ms) u ≡ true → int_le u t ≡ false
 all_later versions t m [] less rises u is = at_stamp m.stamp t u (one (int_eq m.stamp u) is) less
   where
@@ -59,7 +59,7 @@ at_first s t u is least = grind (arith, ints)
 reaches : (s n r : ℤ) → int_le n r ≡ true → s <ℤ n → s ≤ℤ r
 reaches s n r h less = grind (arith, ints)
 
-pub reached : (P : Moment → Type 0) (versions : History) (t : ℤ) (m : Moment) (ms : List Moment) → Rises (version_of versions m) (map (version_of versions) ms) → AllByRecursion P (m ∷ ms) → m.stamp ≤ℤ t
+pub reached : (P : Moment → Type 0) (versions : History) (t : ℤ) (m : Moment) (ms : List Moment) → IncreasesFrom (version_of versions m) (map (version_of versions) ms) → AllByRecursion P (m ∷ ms) → m.stamp ≤ℤ t
     → Reached P versions (m ∷ ms) t (found_at t (Some (version_of versions m)) (map (version_of versions) ms))
 reached P versions t m [] rises all least = record {
   moment = m;
@@ -104,7 +104,7 @@ reached P versions t m (n ∷ ns) rises all least = go (int_le n.stamp t) refl (
         at u false here is = all_later versions t n ns (late n.stamp t on) rises.2 u is ∙ sym (all_later versions m.stamp n ns rises.0 rises.2 u is)
 
 -- no stamp is after the last one
-pub none_after : (versions : History) (m : Moment) (ms : List Moment) → Rises (version_of versions m) (map (version_of versions) ms)
+pub none_after : (versions : History) (m : Moment) (ms : List Moment) → IncreasesFrom (version_of versions m) (map (version_of versions) ms)
     → (u : ℤ) → is_stamp (m ∷ ms) u ≡ true → int_le u (last_from (version_of versions m) (map (version_of versions) ms)).stamp ≡ true
 none_after versions m [] rises u is = go (int_eq m.stamp u) refl is
   where

@@ -4,14 +4,14 @@ use Rattle.std.proofs.lemmas.Bool.{false≢true, eqb-true}
 use Rattle.std.proofs.lemmas.List.Sorted.{IsPermutation-sym}
 use Rattle.land_tables.proofs.Adopted.{alone}
 use Rattle.land_tables.proofs.Tellings.{held_is_said}
-use Rattle.land_tables.specs.Findings.{is_one_edition, is_version}
-use Rattle.land_tables.specs.Office.{HoldsRegister}
-use Rattle.land_tables.specs.Registers.{AreOf, HasMandates, IsRegister, MayBeOurs, Shapes, the_second}
+use Rattle.land_tables.specs.TableContents.{is_one_edition, is_version}
+use Rattle.land_tables.specs.TablesState.{HoldsRegister}
+use Rattle.land_tables.specs.Registers.{IsOfVersion, HasMandates, IsRegister, MayBeRegister, SchemaVersion, version_2}
 use Rattle.land_tables_history.specs.declared.history.History.{History}
 use Rattle.land_tables_rows.proofs.ToldTables.{told_is}
-use Rattle.land_tables_rows.specs.Edition.Writing.{KeepsEditions, current_edition}
-use Rattle.land_tables_rows.specs.Listing.Reading.{Says, SaysFirst, SaysHistory, editions}
-use Rattle.land_tables_rows.specs.Listing.Told.{told_by}
+use Rattle.land_tables_rows.specs.Edition.Writing.{HoldsEditions, v2_edition}
+use Rattle.land_tables_rows.specs.Listing.Reading.{Says, DecodesHistoryV1, DecodesHistory, editions}
+use Rattle.land_tables_rows.specs.Listing.Told.{decode_rows}
 use Rattle.land_tables_rows.specs.declared.edition.reading.Edition.{Edition}
 use Rattle.land_tables_schema.proofs.KnownSchemas.{known_schemas}
 use Rattle.sqlite.specs.Effect.{Database}
@@ -30,21 +30,21 @@ only_edition n [] one version = absurd (false≢true one)
 only_edition n (e ∷ []) one version = ap (λ x. x ∷ []) (edition_is n e one version)
 only_edition n (e ∷ (f ∷ es)) one version = absurd (false≢true one)
 
-pub keeps_edition : (shapes : Shapes) (db : Database) → AreOf shapes db → KeepsEditions db.trees (edition_of shapes.version ∷ [])
+pub keeps_edition : (shapes : SchemaVersion) (db : Database) → IsOfVersion shapes db → HoldsEditions db.trees (edition_of shapes.version ∷ [])
 keeps_edition shapes db of =
     let it = of.ours.first in
     let only = edition_of shapes.version in
-    let told = only_edition shapes.version (told_by editions db.trees) it.one of.version in
+    let told = only_edition shapes.version (decode_rows editions db.trees) it.one of.version in
     let found = alone only it.found.editions (IsPermutation-sym it.found.editions (only ∷ []) (subst (λ (es : List Edition). IsPermutation it.found.editions es) told (told_is editions db.trees it.found.editions it.said.editions))) in
     subst (Says editions db.trees) found it.said.editions
 
-told_edition : (n : ℕ) (db : Trees) → KeepsEditions db (edition_of n ∷ []) → told_by editions db ≡ edition_of n ∷ []
-told_edition n db kept = alone (edition_of n) (told_by editions db) (told_is editions db (edition_of n ∷ []) kept)
+told_edition : (n : ℕ) (db : Trees) → HoldsEditions db (edition_of n ∷ []) → decode_rows editions db ≡ edition_of n ∷ []
+told_edition n db kept = alone (edition_of n) (decode_rows editions db) (told_is editions db (edition_of n ∷ []) kept)
 
 -- ---- the content of the tables between calls
 
 -- the tables of schema version 1 decode to a history without its mandates
-said_before : (db : Trees) (h : History) → SaysHistory db h → SaysFirst db (record h { mandates = [] })
+said_before : (db : Trees) (h : History) → DecodesHistory db h → DecodesHistoryV1 db (record h { mandates = [] })
 said_before db h said = record {
   parties = said.parties;
   roles = said.roles;
@@ -58,22 +58,22 @@ said_before db h said = record {
   none = refl;
 }
 
-held_may_be : (s : State) → HoldsRegister s → MayBeOurs s.now
+held_may_be : (s : State) → HoldsRegister s → MayBeRegister s.now
 held_may_be s it =
     let db = s.now.trees in
     let h = it.holds.history in
     record {
-      land = known_schemas.land s.now.schema it.land;
-      found = record { editions = current_edition ∷ []; moments = it.holds.listed; history = record h { mandates = [] } };
+      has_tables = known_schemas.has_tables s.now.schema it.has_tables;
+      found = record { editions = v2_edition ∷ []; moments = it.holds.listed; history = record h { mandates = [] } };
       said = record { editions = it.edition; moments = it.holds.holds.the_moments; history = said_before db h (held_is_said db it.holds.listed h it.holds.holds) };
       one = ap is_one_edition (told_edition 2 db it.edition);
     }
 
 held_mandates : (s : State) → HoldsRegister s → HasMandates s.now
-held_mandates s it = record { land = it.land; listed = it.holds.history.mandates; said = it.holds.holds.the_mandates.said }
+held_mandates s it = record { has_tables = it.has_tables; listed = it.holds.history.mandates; said = it.holds.holds.the_mandates.said }
 
 -- the content of the tables between calls is a valid register
-pub register_held : (s : State) → HoldsRegister s → IsRegister the_second s.now
+pub register_held : (s : State) → HoldsRegister s → IsRegister version_2 s.now
 register_held s it = record {
   intervals = record {
     made = record {

@@ -7,7 +7,7 @@ use Rattle.std.proofs.lemmas.Bool.{and_parts}
 use Rattle.land_keep.specs.Moments.{last_moment}
 use Rattle.land_tables_history.specs.Moments.{follows, last, latest_from}
 use Rattle.land_tables_history.specs.declared.moment.Moment.{Moment}
-use Rattle.land_tables_lawful.specs.Pieces.{are_in_time}
+use Rattle.land_tables_lawful.specs.CoverageSpans.{are_in_range}
 
 abbrev are_upto : ℤ → List Moment → Bool
 are_upto t ms = list_all (λ m. int_le m.stamp t) ms
@@ -52,11 +52,11 @@ none_after latest (m ∷ ms) is = none_later m latest ms is
 before_the_end : (s t : ℤ) → int_le s t ≡ true → t ≤ℤ last_moment → int_lt s (pos 4102444800000) ≡ true
 before_the_end s t p q = grind (arith, ints)
 
-all_before : (t : ℤ) → t ≤ℤ last_moment → (ms : List Moment) → are_upto t ms ≡ true → are_in_time ms ≡ true
+all_before : (t : ℤ) → t ≤ℤ last_moment → (ms : List Moment) → are_upto t ms ≡ true → are_in_range ms ≡ true
 all_before t h [] all = refl
 all_before t h (m ∷ ms) all =
     let parts = and_parts (int_le m.stamp t) (are_upto t ms) all in
     ap₂ (λ a b. a && b) (before_the_end m.stamp t parts.0 h) (all_before t h ms parts.1)
 
-pub in_time : (latest : Moment) (ms : List Moment) → last ms ≡ Some latest → latest.stamp ≤ℤ last_moment → are_in_time ms ≡ true
+pub in_time : (latest : Moment) (ms : List Moment) → last ms ≡ Some latest → latest.stamp ≤ℤ last_moment → are_in_range ms ≡ true
 in_time latest ms is h = all_before latest.stamp h ms (none_after latest ms is)

@@ -10,7 +10,7 @@ use Rattle.land_core.specs.Soundness.{IsSound}
 use Rattle.land_keep.proofs.Timelines.{last_is_sound}
 use Rattle.land_keep.specs.Machine.{written}
 use Rattle.land_keep.specs.Moments.{IsMoment, last_moment}
-use Rattle.land_keep.specs.Timeline.{IsRising, IsSoundTimeline, Rises, Timeline, last_from, last_register, last_stamp}
+use Rattle.land_keep.specs.Timeline.{IsIncreasing, IsSoundTimeline, IncreasesFrom, Timeline, last_from, last_register, last_stamp}
 use Rattle.land_keep.specs.declared.timeline.Version.{Version}
 use Rattle.land_tables.proofs.PutMutations.{accepted_puts}
 use Rattle.land_tables.proofs.WrittenTimelines.{first_before_last, stays_last, written_register}
@@ -18,19 +18,19 @@ use Rattle.land_tables.specs.Timelines.{moment_of}
 use Rattle.land_tables.specs.Timelines.Writing.{WritesKeepIntervals}
 use Rattle.land_tables_history.proofs.Kept.{changes_keep_intervals}
 use Rattle.land_tables_history.proofs.MomentOrder.{le_itself}
-use Rattle.land_tables_history.specs.History.{StandsAt}
+use Rattle.land_tables_history.specs.History.{IsRegisterAt}
 use Rattle.land_tables_history.specs.Open.{never}
 use Rattle.land_tables_history.specs.declared.moment.Moment.{Moment}
 
 before_never : (t : ℤ) → t ≤ℤ last_moment → t <ℤ never
 before_never t le = omega (arith, ints)
 
-all_upto : (v : Version) (vs : Timeline) (t : ℤ) → Rises v vs → (last_from v vs).stamp ≤ℤ t → AllByRecursion (λ m. m.stamp ≤ℤ t) (map_list moment_of (v ∷ vs))
+all_upto : (v : Version) (vs : Timeline) (t : ℤ) → IncreasesFrom v vs → (last_from v vs).stamp ≤ℤ t → AllByRecursion (λ m. m.stamp ≤ℤ t) (map_list moment_of (v ∷ vs))
 all_upto v [] t rises le = (le, tt)
 all_upto v (w ∷ ws) t rises le = (first_before_last v (w ∷ ws) t rises le, all_upto w ws t rises.2 le)
 
 -- no moment is after the last stamp
-none_after_last : (tl : Timeline) → IsRising tl → AllByRecursion (λ m. m.stamp ≤ℤ last_stamp tl) (map_list moment_of tl)
+none_after_last : (tl : Timeline) → IsIncreasing tl → AllByRecursion (λ m. m.stamp ≤ℤ last_stamp tl) (map_list moment_of tl)
 none_after_last [] rising = absurd rising
 none_after_last (v ∷ vs) rising = all_upto v vs (last_from v vs).stamp rising (le_itself (last_from v vs).stamp)
 
@@ -50,5 +50,5 @@ writes_keep_intervals moments h tl change stamp sound for can written_sound inte
     let listed = recursion_from_All upto moments (All-permutation upto (map_list moment_of tl) moments for.moments (All-from_recursion upto (map_list moment_of tl) (none_after_last tl sound.rising))) in
     changes_keep_intervals moments change last stamp h r intervals listed can.later (before_never stamp can.moment)
     (accepted_once r change stamp (last_is_sound tl sound) can.made) (accepted_puts r change stamp (last_is_sound tl sound) can.made)
-    (subst (StandsAt last h) (stays_last tl last sound.rising (le_itself last)) (for.stands last (last_is_moment tl sound)))
+    (subst (IsRegisterAt last h) (stays_last tl last sound.rising (le_itself last)) (for.stands last (last_is_moment tl sound)))
     (subst IsSound (written_register tl change stamp) (last_is_sound (written tl change stamp) written_sound))

@@ -5,10 +5,10 @@ use Rattle.std.specs.Option.{option_map, option_map_or}
 use Rattle.std.proofs.lemmas.Bool.{false≢true}
 use Rattle.std.proofs.lemmas.Int.{ints}
 use Rattle.land_core.specs.Register.{nothing}
-use Rattle.land_keep.specs.Timeline.{IsRising, Rises, Timeline, last_from, last_register, last_stamp, register_at, version_at}
+use Rattle.land_keep.specs.Timeline.{IsIncreasing, IncreasesFrom, Timeline, last_from, last_register, last_stamp, register_at, version_at}
 use Rattle.land_keep.specs.declared.timeline.Version.{Version}
 use Rattle.land_tables.proofs.Sorting.{timeline_order}
-use Rattle.land_tables.specs.Timelines.{in_order, moment_of, put_in}
+use Rattle.land_tables.specs.Timelines.{sorted_moments, moment_of, insert_moment}
 use Rattle.land_tables_history.proofs.MomentOrder.{lt_through}
 use Rattle.land_tables_history.specs.Moments.{follows, last, latest, latest_from, next_at}
 use Rattle.land_tables_history.specs.declared.moment.Moment.{Moment}
@@ -60,29 +60,29 @@ either_first passes found m n late = go (passes m) (passes n) refl refl
     go true false em en = ap (λ k. one_more passes k m) (goes false found n en) ∙ sym (goes false (one_more passes found m) n en)
 
 put_latest : (passes : Moment → Bool) (found : Option Moment) (m : Moment) (ms : List Moment)
-    → latest_from passes found (put_in m ms) ≡ latest_from passes (one_more passes found m) ms
+    → latest_from passes found (insert_moment m ms) ≡ latest_from passes (one_more passes found m) ms
 put_latest passes found m [] = refl
 put_latest passes found m (n ∷ ns) = go (int_le m.stamp n.stamp) refl (put_latest passes (one_more passes found n) m ns)
   where
     go : (b : Bool) → int_le m.stamp n.stamp ≡ b
-        → latest_from passes (one_more passes found n) (put_in m ns) ≡ latest_from passes (one_more passes (one_more passes found n) m) ns
-        → latest_from passes found (cond b (m ∷ n ∷ ns) (n ∷ put_in m ns)) ≡ latest_from passes (one_more passes (one_more passes found m) n) ns
+        → latest_from passes (one_more passes found n) (insert_moment m ns) ≡ latest_from passes (one_more passes (one_more passes found n) m) ns
+        → latest_from passes found (cond b (m ∷ n ∷ ns) (n ∷ insert_moment m ns)) ≡ latest_from passes (one_more passes (one_more passes found m) n) ns
     go true is rest = refl
     go false is rest = rest ∙ ap (λ k. latest_from passes k ns) (either_first passes found m n is)
 
-order_latest : (passes : Moment → Bool) (found : Option Moment) (ms : List Moment) → latest_from passes found (in_order ms) ≡ latest_from passes found ms
+order_latest : (passes : Moment → Bool) (found : Option Moment) (ms : List Moment) → latest_from passes found (sorted_moments ms) ≡ latest_from passes found ms
 order_latest passes found [] = refl
-order_latest passes found (m ∷ ms) = put_latest passes found m (in_order ms) ∙ order_latest passes (one_more passes found m) ms
+order_latest passes found (m ∷ ms) = put_latest passes found m (sorted_moments ms) ∙ order_latest passes (one_more passes found m) ms
 
 -- ---- the latest moment of a timeline is that of its latest version
 
 -- the versions after a version that passes the test
 After : Option Version → Timeline → Type 0
 After None [] = Unit {0}
-After None (v ∷ vs) = Rises v vs
-After (Some v) vs = Rises v vs
+After None (v ∷ vs) = IncreasesFrom v vs
+After (Some v) vs = IncreasesFrom v vs
 
-rises_on : (v w : Version) (vs : Timeline) → Rises v (w ∷ vs) → Rises v vs
+rises_on : (v w : Version) (vs : Timeline) → IncreasesFrom v (w ∷ vs) → IncreasesFrom v vs
 rises_on v w [] h = tt
 rises_on v w (u ∷ us) h = (lt_through v.stamp w.stamp u.stamp h.0 h.2.0, more v.register.next w.register.next u.register.next h.1 h.2.1, h.2.2)
   where
@@ -99,7 +99,7 @@ unfolding After
 along passes found [] h = refl
 along passes None (w ∷ ws) h = go (passes (moment_of w)) (along passes (Some w) ws h) (along passes None ws (none w ws h))
   where
-    none : (w : Version) (ws : Timeline) → Rises w ws → After None ws
+    none : (w : Version) (ws : Timeline) → IncreasesFrom w ws → After None ws
     none w [] h = tt
     none w (u ∷ us) h = h.2
 
@@ -121,7 +121,7 @@ along passes (Some v) (w ∷ ws) h =
     go true false e taken left = absurd (false≢true e)
     go false c e taken left = left
 
-latest_version : (passes : Moment → Bool) (tl : Timeline) (moments : List Moment) → IsRising tl → IsPermutation (map moment_of tl) moments
+latest_version : (passes : Moment → Bool) (tl : Timeline) (moments : List Moment) → IsIncreasing tl → IsPermutation (map moment_of tl) moments
     → latest passes moments ≡ option_map moment_of (last_passing passes None tl)
 unfolding After
 latest_version passes [] moments rises p = absurd rises
@@ -131,7 +131,7 @@ latest_version passes (v ∷ vs) moments rises p =
 -- ---- its value
 
 -- the next number of the latest moment up to a time is that of the register at that time
-pub next_is : (tl : Timeline) (moments : List Moment) (t : ℤ) → IsRising tl → IsPermutation (map moment_of tl) moments → next_at moments t ≡ (register_at tl t).next
+pub next_is : (tl : Timeline) (moments : List Moment) (t : ℤ) → IsIncreasing tl → IsPermutation (map moment_of tl) moments → next_at moments t ≡ (register_at tl t).next
 next_is tl moments t rises p = ap (λ o. option_map_or (λ (m : Moment). m.next) o 2) (latest_version (λ m. int_le m.stamp t) tl moments rises p) ∙ same (version_at tl t)
   where
     same : (o : Option Version) → option_map_or (λ (m : Moment). m.next) (option_map moment_of o) 2 ≡ (unwrap_or (option_map (λ (v : Version). v.register) o) nothing).next
@@ -139,7 +139,7 @@ next_is tl moments t rises p = ap (λ o. option_map_or (λ (m : Moment). m.next)
     same (Some v) = refl
 
 -- the latest moment has the timeline's last stamp and the next number of its last register
-pub last_is_last : (tl : Timeline) (moments : List Moment) → IsRising tl → IsPermutation (map moment_of tl) moments
+pub last_is_last : (tl : Timeline) (moments : List Moment) → IsIncreasing tl → IsPermutation (map moment_of tl) moments
     → last moments ≡ Some (record { stamp = last_stamp tl; next = (last_register tl).next })
 last_is_last [] moments rises p = absurd rises
 last_is_last (v ∷ vs) moments rises p = latest_version (λ m. true) (v ∷ vs) moments rises p ∙ ap (option_map moment_of) (to_last v vs)

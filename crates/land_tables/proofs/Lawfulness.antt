@@ -10,25 +10,25 @@ use Rattle.std.proofs.lemmas.Bool.{and_from, and_parts}
 use Rattle.std.proofs.lemmas.Cmp.{int_eq_equiv, nat_eq_equiv}
 use Rattle.land_core.proofs.Booleans.{or_true}
 use Rattle.land_core.specs.Entries.{are_distinct}
-use Rattle.land_core.specs.Laws.{SoundnessByLookUps}
+use Rattle.land_core.specs.Laws.{SoundnessByNumber}
 use Rattle.land_core.specs.Soundness.{IsSound}
 use Rattle.land_core.specs.declared.register.Register.{Register}
 use Rattle.land_keep.specs.Moments.{IsMoment}
-use Rattle.land_keep.specs.Timeline.{IsRising, IsSoundTimeline, Rises, Timeline}
+use Rattle.land_keep.specs.Timeline.{IsIncreasing, IsSoundTimeline, IncreasesFrom, Timeline}
 use Rattle.land_keep.specs.declared.timeline.Version.{Version}
 use Rattle.land_tables.proofs.IntervalOrders.{all_alike}
 use Rattle.land_tables.proofs.One.{reads, stands_for_one}
 use Rattle.land_tables.proofs.Rising.{in_order_permuted}
 use Rattle.land_tables.proofs.Sorting.{distinct}
-use Rattle.land_tables.specs.Timelines.{StandsFor, in_order, moment_of, version_of}
-use Rattle.land_tables.specs.Timelines.Judging.{SoundTimelinesAreLawful}
+use Rattle.land_tables.specs.Timelines.{RepresentsTimeline, sorted_moments, moment_of, version_of}
+use Rattle.land_tables.specs.Timelines.Judging.{SoundTimelinesAreValid}
 use Rattle.land_tables_history.proofs.Distinct.{distinct_permuted}
 use Rattle.land_tables_history.proofs.MomentOrder.{lt_through}
 use Rattle.land_tables_history.proofs.Permutations.{all_permuted}
 use Rattle.land_tables_history.specs.History as history
 use Rattle.land_tables_history.specs.History.{namings_of}
 use Rattle.land_tables_history.specs.Intervals.{is_same_naming}
-use Rattle.land_tables_history.specs.Lawful.{IsLawfulAt, are_moments, are_same_namings, falls, is_among, is_same_stamp, never_falls}
+use Rattle.land_tables_history.specs.ValidHistory.{IsValidAt, are_moments, are_same_namings, decreases, is_among, is_same_stamp, never_decreases}
 use Rattle.land_tables_history.specs.Standing.{standing}
 use Rattle.land_tables_history.specs.declared.history.History.{History}
 use Rattle.land_tables_history.specs.declared.moment.Moment.{Moment}
@@ -53,7 +53,7 @@ pairs {X} p x xs itself after before rest =
         and_from (p y x && list_all (p y) xs) (list_all (λ a. p a x && list_all (p a) xs) ys) (and_from (p y x) (list_all (p y) xs) one.0 two.0) (each ys one.1 two.1)
 
 abbrev keeps : Moment → Moment → Bool
-keeps a b = not (falls a b)
+keeps a b = not (decreases a b)
 
 keeps_itself : (s : ℤ) (n : ℕ) → not (int_lt s s && nat_lt n n) ≡ true
 keeps_itself s n = grind (arith, ints, nat_tests)
@@ -66,33 +66,33 @@ keeps_before s t m n less = grind (arith, ints, nat_tests)
 
 -- a version, compared with the later ones
 module _ (u : Version) where
-  all_after : (v : Version) (vs : Timeline) → u.stamp <ℤ v.stamp → u.register.next ≤ v.register.next → Rises v vs → list_all (keeps (moment_of u)) (map_list moment_of (v ∷ vs)) ≡ true
+  all_after : (v : Version) (vs : Timeline) → u.stamp <ℤ v.stamp → u.register.next ≤ v.register.next → IncreasesFrom v vs → list_all (keeps (moment_of u)) (map_list moment_of (v ∷ vs)) ≡ true
   all_after v [] before no_fewer rises = and_from (keeps (moment_of u) (moment_of v)) true (keeps_after u.stamp v.stamp u.register.next v.register.next before no_fewer) refl
   all_after v (w ∷ ws) before no_fewer rises =
       and_from (keeps (moment_of u) (moment_of v)) (list_all (keeps (moment_of u)) (map_list moment_of (w ∷ ws))) (keeps_after u.stamp v.stamp u.register.next v.register.next before no_fewer)
       (all_after w ws (lt_through u.stamp v.stamp w.stamp before rises.0) (omega (arith, no_fewer, rises.1)) rises.2)
 
-  all_before : (v : Version) (vs : Timeline) → u.stamp <ℤ v.stamp → Rises v vs → list_all (λ m. keeps m (moment_of u)) (map_list moment_of (v ∷ vs)) ≡ true
+  all_before : (v : Version) (vs : Timeline) → u.stamp <ℤ v.stamp → IncreasesFrom v vs → list_all (λ m. keeps m (moment_of u)) (map_list moment_of (v ∷ vs)) ≡ true
   all_before v [] before rises = and_from (keeps (moment_of v) (moment_of u)) true (keeps_before u.stamp v.stamp u.register.next v.register.next before) refl
   all_before v (w ∷ ws) before rises =
       and_from (keeps (moment_of v) (moment_of u)) (list_all (λ m. keeps m (moment_of u)) (map_list moment_of (w ∷ ws))) (keeps_before u.stamp v.stamp u.register.next v.register.next before)
       (all_before w ws (lt_through u.stamp v.stamp w.stamp before rises.0) rises.2)
 
-never_fall : (v : Version) (vs : Timeline) → Rises v vs → never_falls (map_list moment_of (v ∷ vs)) ≡ true
+never_fall : (v : Version) (vs : Timeline) → IncreasesFrom v vs → never_decreases (map_list moment_of (v ∷ vs)) ≡ true
 never_fall v [] rises = pairs keeps (moment_of v) [] (keeps_itself v.stamp v.register.next) refl refl refl
 never_fall v (w ∷ ws) rises =
     pairs keeps (moment_of v) (map_list moment_of (w ∷ ws)) (keeps_itself v.stamp v.register.next)
     (all_after v w ws rises.0 rises.1 rises.2) (all_before v w ws rises.0 rises.2) (never_fall w ws rises.2)
 
-never_falls_anyhow : (ms ns : List Moment) → IsPermutation ms ns → never_falls ns ≡ never_falls ms
+never_falls_anyhow : (ms ns : List Moment) → IsPermutation ms ns → never_decreases ns ≡ never_decreases ms
 never_falls_anyhow ms ns p =
     all_alike (λ a. list_all (keeps a) ns) (λ a. list_all (keeps a) ms) (λ a. all_permuted (keeps a) ms ns p) ns ∙ all_permuted (λ a. list_all (keeps a) ms) ms ns p
 
-moments_of : (tl : Timeline) (ms : List Moment) → IsRising tl → IsPermutation (map_list moment_of tl) ms → are_moments ms ≡ true
+moments_of : (tl : Timeline) (ms : List Moment) → IsIncreasing tl → IsPermutation (map_list moment_of tl) ms → are_moments ms ≡ true
 moments_of [] ms rises p = absurd rises
 moments_of (v ∷ vs) ms rises p =
     let ns = map_list moment_of (v ∷ vs) in
-    and_from (nat_lt 0 (length ms) && are_distinct is_same_stamp ms) (never_falls ms)
+    and_from (nat_lt 0 (length ms) && are_distinct is_same_stamp ms) (never_decreases ms)
     (and_from (nat_lt 0 (length ms)) (are_distinct is_same_stamp ms)
     (ap (nat_lt 0) (length_permutation ns ms p) ∙ some (length (map_list moment_of vs)))
     (distinct_permuted is_same_stamp stamps_turn ns ms p ∙ distinct (v ∷ vs) rises))
@@ -136,8 +136,8 @@ joined : {X : Type 0} (P Q R : X → Type 0) → ((x : X) → P x → Q x → R 
 joined P Q R to [] g h = tt
 joined P Q R to (x ∷ xs) g h = (to x g.0 h.0, joined P Q R to xs g.1 h.1)
 
-lawful_at : SoundnessByLookUps → (ms : List Moment) (h : History) (tl : Timeline) → StandsFor ms h tl → IsSoundTimeline tl → (m : Moment)
-    → IsMoment m.stamp → IsSound (history.register_at m.stamp h m.next) → IsLawfulAt h m
+lawful_at : SoundnessByNumber → (ms : List Moment) (h : History) (tl : Timeline) → RepresentsTimeline ms h tl → IsSoundTimeline tl → (m : Moment)
+    → IsMoment m.stamp → IsSound (history.register_at m.stamp h m.next) → IsValidAt h m
 lawful_at look_ups ms h tl stands sound m is its =
     let there = reads look_ups ms h tl m.stamp stands sound is in
     let mutations = ap (λ (r : Register). r.mutations) there in
@@ -147,14 +147,14 @@ lawful_at look_ups ms h tl stands sound m is its =
           (subst (λ k. IsPermutation (standing m.stamp h.namings) (namings_of k)) (sym mutations) (stands.stands m.stamp is).namings);
     }
 
-pub sound_is_lawful : SoundnessByLookUps → SoundTimelinesAreLawful
+pub sound_is_lawful : SoundnessByNumber → SoundTimelinesAreValid
 sound_is_lawful look_ups ms h tl stands sound =
     let one = stands_for_one look_ups ms h tl stands sound in
-    let sorted = in_order ms in
+    let sorted = sorted_moments ms in
     let registers = at_moments h (λ m. IsSound (history.register_at m.stamp h m.next)) (λ v. IsSound v.register) (λ m s. s) sorted (subst (AllByRecursion (λ v. IsSound v.register)) (sym one) sound.sound) in
     let stamps = at_moments h (λ m. IsMoment m.stamp) (λ v. IsMoment v.stamp) (λ m s. s) sorted (subst (AllByRecursion (λ v. IsMoment v.stamp)) (sym one) sound.moments) in
-    let each = joined (λ m. IsMoment m.stamp) (λ m. IsSound (history.register_at m.stamp h m.next)) (IsLawfulAt h) (lawful_at look_ups ms h tl stands sound) sorted stamps registers in
+    let each = joined (λ m. IsMoment m.stamp) (λ m. IsSound (history.register_at m.stamp h m.next)) (IsValidAt h) (lawful_at look_ups ms h tl stands sound) sorted stamps registers in
     record {
       moments = moments_of tl ms sound.rising stands.moments;
-      each = All-permutation (IsLawfulAt h) sorted ms (in_order_permuted ms) (All-from_recursion (IsLawfulAt h) sorted each);
+      each = All-permutation (IsValidAt h) sorted ms (in_order_permuted ms) (All-from_recursion (IsValidAt h) sorted each);
     }

@@ -4,7 +4,7 @@ pub mod AdoptedTimelines
 pub mod Begun
 pub mod Between
 pub mod Editions
-pub mod Findings
+pub mod TableContents
 pub mod InTime
 pub mod IntervalOrders
 pub mod Judged

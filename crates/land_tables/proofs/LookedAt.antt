@@ -13,12 +13,12 @@ use Rattle.land_keep.specs.Timeline.{Timeline, register_at}
 use Rattle.land_tables.proofs.AdoptedTimelines.{nothing_stands}
 use Rattle.land_tables.proofs.ReadBack.{before_all, not_before, read_moment}
 use Rattle.land_tables.proofs.ToldIntervals.{told_intervals}
-use Rattle.land_tables.specs.Office.{HoldsRegister}
-use Rattle.land_tables.specs.Standing.{timeline_in}
+use Rattle.land_tables.specs.TablesState.{HoldsRegister}
+use Rattle.land_tables.specs.Standing.{decoded_timeline}
 use Rattle.land_tables.specs.Timelines.{moment_of}
 use Rattle.land_tables_history.proofs.Permutations.{any_permuted}
 use Rattle.land_tables_history.proofs.Proper.{all_proper}
-use Rattle.land_tables_history.specs.History.{StandsAt}
+use Rattle.land_tables_history.specs.History.{IsRegisterAt}
 use Rattle.land_tables_history.specs.Intervals.{is_stamp}
 use Rattle.sqlite.specs.State.{State}
 
@@ -35,9 +35,9 @@ all_after (v ∷ vs) t u all less is = go (int_eq v.stamp u) refl is (all_after 
     go false here is rest = rest is
 
 -- before the first moment the tables of a register have no versions
-stands_before : (s : State) (register : HoldsRegister s) (t : ℤ) → t <ℤ pos 0 → StandsAt t register.holds.history nothing
+stands_before : (s : State) (register : HoldsRegister s) (t : ℤ) → t <ℤ pos 0 → IsRegisterAt t register.holds.history nothing
 stands_before s register t less =
-    let tl = timeline_in s.now.trees in
+    let tl = decoded_timeline s.now.trees in
     let holds = register.holds in
     nothing_stands holds.listed holds.history t (all_proper holds.listed holds.history (sym (told_intervals s.now.trees tl holds) ∙ register.intervals))
     (λ u is. all_after tl t u register.sound.moments less (sym (any_permuted (λ m. int_eq m.stamp u) (map moment_of tl) holds.listed holds.stands.moments) ∙ is))
@@ -50,7 +50,7 @@ not_past t h = grind (arith, ints)
 
 -- a request for time t that reads at u returns the register at t
 abbrev pub IsLookedAt : (t u : ℤ) → Type 1
-IsLookedAt t u = (s : State) (register : HoldsRegister s) → StandsAt u register.holds.history (register_at (timeline_in s.now.trees) t)
+IsLookedAt t u = (s : State) (register : HoldsRegister s) → IsRegisterAt u register.holds.history (register_at (decoded_timeline s.now.trees) t)
 
 -- times after the last moment read at the last moment, all others at themselves
 pub look_moment : (t u : ℤ) → u ≡ int_min t last_moment → IsLookedAt t u
@@ -60,9 +60,9 @@ look_moment t u is = go (int_lt t (pos 0)) refl
     go true h = λ s register.
         let holds = register.holds in
         let itself : u ≡ t = is ∙ ap (λ b. cond b last_moment t) (not_past t h) in
-        subst (λ (x : ℤ). StandsAt x holds.history (register_at (timeline_in s.now.trees) t)) (sym itself)
-        (subst (λ (r : Register). StandsAt t holds.history r) (sym (before_all (timeline_in s.now.trees) t register.sound (before t h))) (stands_before s register t (before t h)))
+        subst (λ (x : ℤ). IsRegisterAt x holds.history (register_at (decoded_timeline s.now.trees) t)) (sym itself)
+        (subst (λ (r : Register). IsRegisterAt t holds.history r) (sym (before_all (decoded_timeline s.now.trees) t register.sound (before t h))) (stands_before s register t (before t h)))
     go false h = λ s register.
         let holds = register.holds in
         let place = read_moment t u (not_before t h) is in
-        subst (λ (r : Register). StandsAt u holds.history r) (sym (place.1 (timeline_in s.now.trees) register.sound)) (holds.stands.stands u place.0)
+        subst (λ (r : Register). IsRegisterAt u holds.history r) (sym (place.1 (decoded_timeline s.now.trees) register.sound)) (holds.stands.stands u place.0)

@@ -6,7 +6,7 @@ use Rattle.std.specs.FinMap.{get-empty}
 use Rattle.std.specs.Option.{option_map_or}
 use Rattle.std.specs.Ordering.{nat_cmp}
 use Rattle.land_core.proofs.FiniteMaps.{none_is_not_some, nothing_from_length}
-use Rattle.land_core.specs.Laws.{IsSoundByLookUps, SoundnessByLookUps}
+use Rattle.land_core.specs.Laws.{IsSoundByNumber, SoundnessByNumber}
 use Rattle.land_core.specs.Members.{shares_in}
 use Rattle.land_core.specs.Register.{is_single, nothing, shares_of}
 use Rattle.land_core.specs.Soundness.{IsSound}
@@ -21,10 +21,10 @@ no_shares = ap (λ es. map_list (λ (e : ℕ × Ratio). e.1) es) (nothing_from_l
 few : (n : ℕ) → 2 ≤ n → n ≡ 0 → ⊥
 few n least none = omega arith
 
-pub sound_members : SoundnessByLookUps → (r : Register) → IsSound r → HaveMembers r.members
+pub sound_members : SoundnessByNumber → (r : Register) → IsSound r → HaveMembers r.members
 sound_members look_ups r sound group is = go (map.get r.parties group) refl (told.members group map.empty is).grouped
   where
-    told : IsSoundByLookUps r
+    told : IsSoundByNumber r
     told = (look_ups r).0 sound
 
     nobody : shares_of r group ≡ []

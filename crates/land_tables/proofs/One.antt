@@ -3,18 +3,18 @@ use Rattle.std.proofs.Common.{◌≡◌, Bool, true, false, cond, List, [], ◌�
 use Rattle.std.specs.Prelude.{ℤ, ◌≤ℤ◌, int_le, fold, unwrap_or, if◌then◌else◌}
 use Rattle.std.specs.List.{AllByRecursion}
 use Rattle.std.specs.Option.{option_map}
-use Rattle.land_core.specs.Laws.{SoundnessByLookUps}
+use Rattle.land_core.specs.Laws.{SoundnessByNumber}
 use Rattle.land_core.specs.Register.{nothing}
 use Rattle.land_core.specs.Soundness.{IsSound}
 use Rattle.land_core.specs.declared.register.Register.{Register}
 use Rattle.land_keep.specs.Moments.{IsMoment}
-use Rattle.land_keep.specs.Timeline.{IsRising, IsSoundTimeline, Rises, Timeline, register_at}
+use Rattle.land_keep.specs.Timeline.{IsIncreasing, IsSoundTimeline, IncreasesFrom, Timeline, register_at}
 use Rattle.land_keep.specs.declared.timeline.Version.{Version}
 use Rattle.land_tables.proofs.Latest.{last_is_last, next_is}
 use Rattle.land_tables.proofs.Members.{no_members, sound_members}
 use Rattle.land_tables.proofs.Sorting.{is_late, timeline_order}
-use Rattle.land_tables.specs.Timelines.{StandsFor, moment_of, version_of}
-use Rattle.land_tables.specs.Timelines.Laws.{LastMomentIsTheLastStamp, ReadingIsTheRegister, VersionsStandForOne}
+use Rattle.land_tables.specs.Timelines.{RepresentsTimeline, moment_of, version_of}
+use Rattle.land_tables.specs.Timelines.Laws.{LastMomentIsTheLastStamp, ReadingIsTheRegister, HistoriesRepresentOneTimeline}
 use Rattle.land_tables_history.proofs.MomentOrder.{le_itself, le_then_lt, le_true, lt_is_le}
 use Rattle.land_tables_history.proofs.Registers.{stood}
 use Rattle.land_tables_history.specs.Groups.{HaveMembers}
@@ -33,7 +33,7 @@ found_at t found vs = fold (λ found v. if int_le v.stamp t then Some v else fou
 
 -- ---- each register of a timeline is sound, or empty
 
-members_found : SoundnessByLookUps → (t : ℤ) (vs : Timeline) (found : Option Version) → HaveMembers (registered found).members → AllByRecursion (λ v. IsSound v.register) vs
+members_found : SoundnessByNumber → (t : ℤ) (vs : Timeline) (found : Option Version) → HaveMembers (registered found).members → AllByRecursion (λ v. IsSound v.register) vs
     → HaveMembers (registered (found_at t found vs)).members
 members_found look_ups t [] found have sound = have
 members_found look_ups t (v ∷ vs) found have sound = members_found look_ups t vs (cond (int_le v.stamp t) (Some v) found) (here (int_le v.stamp t)) sound.1
@@ -42,13 +42,13 @@ members_found look_ups t (v ∷ vs) found have sound = members_found look_ups t 
     here true = sound_members look_ups v.register sound.0
     here false = have
 
-pub have_members : SoundnessByLookUps → (tl : Timeline) (t : ℤ) → IsSoundTimeline tl → HaveMembers (register_at tl t).members
+pub have_members : SoundnessByNumber → (tl : Timeline) (t : ℤ) → IsSoundTimeline tl → HaveMembers (register_at tl t).members
 have_members look_ups tl t sound = members_found look_ups t tl None no_members sound.sound
 
 -- ---- at a stamp the timeline has the register of that stamp
 
 -- no version with a later stamp is selected
-pub none_later : (t : ℤ) (found : Option Version) (v : Version) (vs : Timeline) → t ≤ℤ v.stamp → Rises v vs → found_at t found vs ≡ found
+pub none_later : (t : ℤ) (found : Option Version) (v : Version) (vs : Timeline) → t ≤ℤ v.stamp → IncreasesFrom v vs → found_at t found vs ≡ found
 none_later t found v [] least rises = refl
 none_later t found v (w ∷ ws) least rises =
     let before = le_then_lt t v.stamp w.stamp least rises.0 in
@@ -63,14 +63,14 @@ found_after : (v : Version) (vs ws : Timeline) → AllByRecursion (Found vs) ws 
 found_after v vs [] h = tt
 found_after v vs (w ∷ ws) h = (λ found. h.0 (cond (int_le v.stamp w.stamp) (Some v) found), found_after v vs ws h.1)
 
-first_found : (v : Version) (vs : Timeline) → Rises v vs → Found (v ∷ vs) v
+first_found : (v : Version) (vs : Timeline) → IncreasesFrom v vs → Found (v ∷ vs) v
 first_found v vs rises found = ap (λ b. found_at v.stamp (cond b (Some v) found) vs) (le_true v.stamp v.stamp (le_itself v.stamp)) ∙ none_later v.stamp (Some v) v vs (le_itself v.stamp) rises
 
-each_found : (v : Version) (vs : Timeline) → Rises v vs → AllByRecursion (Found (v ∷ vs)) (v ∷ vs)
+each_found : (v : Version) (vs : Timeline) → IncreasesFrom v vs → AllByRecursion (Found (v ∷ vs)) (v ∷ vs)
 each_found v [] rises = (first_found v [] rises, tt)
 each_found v (w ∷ ws) rises = (first_found v (w ∷ ws) rises, found_after v (w ∷ ws) (w ∷ ws) (each_found w ws rises.2))
 
-stamps_found : (tl : Timeline) → IsRising tl → AllByRecursion (Found tl) tl
+stamps_found : (tl : Timeline) → IsIncreasing tl → AllByRecursion (Found tl) tl
 stamps_found [] rises = absurd rises
 stamps_found (v ∷ vs) rises = each_found v vs rises
 
@@ -79,12 +79,12 @@ stamps_found (v ∷ vs) rises = each_found v vs rises
 same_next : (r : Register) (n : ℕ) → n ≡ r.next → record r { next = n } ≡ r
 same_next r n e = ap (λ (k : ℕ). let it : Register = record r { next = k } in it) e
 
-pub stands_read : SoundnessByLookUps → (moments : List Moment) (versions : History) (tl : Timeline) (t : ℤ) (n : ℕ)
-    → StandsFor moments versions tl → IsSoundTimeline tl → IsMoment t → n ≡ (register_at tl t).next → history.register_at t versions n ≡ register_at tl t
+pub stands_read : SoundnessByNumber → (moments : List Moment) (versions : History) (tl : Timeline) (t : ℤ) (n : ℕ)
+    → RepresentsTimeline moments versions tl → IsSoundTimeline tl → IsMoment t → n ≡ (register_at tl t).next → history.register_at t versions n ≡ register_at tl t
 stands_read look_ups moments versions tl t n stands sound is e =
     stood t versions n (register_at tl t) (have_members look_ups tl t sound) (stands.stands t is) ∙ same_next (register_at tl t) n e
 
-pub reads : SoundnessByLookUps → ReadingIsTheRegister
+pub reads : SoundnessByNumber → ReadingIsTheRegister
 reads look_ups moments versions tl t stands sound is =
     stands_read look_ups moments versions tl t (next_at moments t) stands sound is (next_is tl moments t sound.rising stands.moments)
 
@@ -93,7 +93,7 @@ last_is moments versions tl stands sound = last_is_last tl moments sound.rising 
 
 -- ---- one timeline
 
-pub stands_for_one : SoundnessByLookUps → VersionsStandForOne
+pub stands_for_one : SoundnessByNumber → HistoriesRepresentOneTimeline
 stands_for_one look_ups moments versions tl stands sound =
     ap (map (version_of versions)) (timeline_order tl moments sound.rising stands.moments) ∙ each tl (stamps_found tl sound.rising) sound.moments
   where

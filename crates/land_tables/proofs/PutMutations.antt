@@ -3,13 +3,13 @@ use Rattle.std.proofs.Common.{◌≡◌, ℕ, ◌<◌, Option, Some, None, [], r
 use Rattle.std.specs.Prelude.{ℤ}
 use Rattle.std.specs.FinMap as map
 use Rattle.std.specs.Option.{option_map_or}
-use Rattle.land_acts.proofs.Accepted.{planned}
+use Rattle.land_acts.proofs.Accepted.{plan_of}
 use Rattle.land_acts.specs.Deciding.{with_state}
 use Rattle.land_acts.specs.Laws.{IsAccepted}
-use Rattle.land_acts.specs.Mutations.Asking.{content_change, transfer_change}
-use Rattle.land_acts.specs.Mutations.Transferring.{held_at}
+use Rattle.land_acts.specs.Mutations.ByContent.{content_change, transfer_change}
+use Rattle.land_acts.specs.Mutations.Transferring.{right_at}
 use Rattle.land_acts.specs.Outcome.{change_of}
-use Rattle.land_acts.specs.declared.mutations.transfer.Held.{Held}
+use Rattle.land_acts.specs.declared.mutations.transfer.HeldRight.{HeldRight}
 use Rattle.land_core.proofs.SoundRegisters.{are_used, refers, used_bounds, used_from}
 use Rattle.land_core.specs.Changes.{no_change}
 use Rattle.land_core.specs.Soundness.{IsSound}
@@ -31,13 +31,13 @@ module _ (r : Register) (sound : IsSound r) where
   below : (n : ℕ) (m : MutationRecord) → map.get r.mutations n ≡ Some m → n < r.next
   below n m is = (used_bounds r n (used_from r r.mutations (are_used r (refers r (sound Reference)).numbers).mutations n m is)).1
 
-  transfer_ends : (source : ℕ) (it : Transfer) (o : Option Held) → (transfer_change r source it o).ended.mutations ≡ []
+  transfer_ends : (source : ℕ) (it : Transfer) (o : Option HeldRight) → (transfer_change r source it o).ended.mutations ≡ []
   transfer_ends source it None = refl
   transfer_ends source it (Some from) = refl
 
   -- no content ends a mutation
   content_ends : (source : ℕ) (c : Content) → (content_change r source c).ended.mutations ≡ []
-  content_ends source (content.Transfer it) = transfer_ends source it (held_at r it.unit it.right)
+  content_ends source (content.Transfer it) = transfer_ends source it (right_at r it.unit it.right)
   content_ends source (content.Subdivision it) = refl
   content_ends source (content.Merger it) = refl
   content_ends source (content.Mortgage it) = refl
@@ -66,4 +66,4 @@ module _ (r : Register) (sound : IsSound r) where
   puts caller (act.Refuse it) stamp = by_decision it.mutation Refused (λ m. no_change r.next) (λ m. refl) (map.get r.mutations it.mutation) refl
 
 pub accepted_puts : (r : Register) (change : Change) (stamp : ℤ) → IsSound r → IsAccepted r change stamp → PutsMutations r change
-accepted_puts r change stamp sound h = subst (PutsMutations r) (planned r h.caller h.act stamp change h.done h.outcome).same (puts r sound h.caller h.act stamp)
+accepted_puts r change stamp sound h = subst (PutsMutations r) (plan_of r h.caller h.act stamp change h.done h.outcome).same (puts r sound h.caller h.act stamp)

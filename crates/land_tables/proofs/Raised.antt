@@ -10,24 +10,24 @@ use Rattle.land_tables.proofs.One.{found_at, registered}
 use Rattle.land_tables.proofs.Tellings.{tells}
 use Rattle.land_tables.proofs.ToldIntervals.{told_intervals}
 use Rattle.land_tables.specs.Adopting.{IsRegisterTo}
-use Rattle.land_tables.specs.Migrating.{AreRaised, HasNoMandates}
-use Rattle.land_tables.specs.Office.{IsOffice}
-use Rattle.land_tables.specs.Registers.{IsRegister, the_first}
-use Rattle.land_tables.specs.Standing.{HoldsTimeline, first_timeline_in, timeline_in, without_mandates}
-use Rattle.land_tables.specs.Timelines.{in_order, version_of}
-use Rattle.land_tables.specs.Timelines.Laws.{OrderDoesNotMatter, VersionsStandForOne}
+use Rattle.land_tables.specs.Migrating.{IsMigratedFrom, HasNoMandates}
+use Rattle.land_tables.specs.TablesState.{IsConsistentState}
+use Rattle.land_tables.specs.Registers.{IsRegister, version_1}
+use Rattle.land_tables.specs.Standing.{HoldsTimeline, decoded_timeline_v1, decoded_timeline, without_mandates}
+use Rattle.land_tables.specs.Timelines.{sorted_moments, version_of}
+use Rattle.land_tables.specs.Timelines.Laws.{OrderDoesNotMatter, HistoriesRepresentOneTimeline}
 use Rattle.land_tables_history.proofs.Orders.{no_more}
 use Rattle.land_tables_history.specs.Intervals.{has_intervals}
 use Rattle.land_tables_history.specs.Standing.{mandates_at}
 use Rattle.land_tables_history.specs.declared.history.History.{History}
 use Rattle.land_tables_history.specs.declared.moment.Moment.{Moment}
-use Rattle.land_tables_history.specs.declared.version.Version.{Version as Lived}
+use Rattle.land_tables_history.specs.declared.version.Version.{Version as LiveSpan}
 use Rattle.land_tables_rows.proofs.ToldTables.{same_values}
 use Rattle.land_tables_rows.specs.Listing.Reading.{moments}
-use Rattle.land_tables_rows.specs.Listing.Told.{history_in, told_by}
-use Rattle.land_tables_rows.specs.Writing.History.{HoldsFirst, HoldsHistory}
-use Rattle.land_tables_rows.specs.Writing.Laws.{RaisedAreRead, RaisedRegistersAreHeld}
-use Rattle.land_tables_schema.specs.Rows.Raising.{Raises}
+use Rattle.land_tables_rows.specs.Listing.Told.{decoded_history, decode_rows}
+use Rattle.land_tables_rows.specs.Writing.History.{HoldsHistoryV1, HoldsHistory}
+use Rattle.land_tables_rows.specs.Writing.Laws.{MigratedRowsAreRead, MigratedRegistersAreHeld}
+use Rattle.land_tables_schema.specs.Rows.SchemaMigration.{Migrates}
 use Rattle.land_wire_json.specs.declared.bodies.wire_fault.WireFault.{WireFault}
 use Rattle.sqlite.specs.Effect.{Database}
 use Rattle.sqlite.specs.State.{State}
@@ -36,11 +36,11 @@ use Rattle.sqlite_trees.specs.Tree.{Trees}
 -- ---- the same rows
 
 -- a table of mandates without rows decodes to no mandates
-none_said : (listed : List (Lived Mandate)) → IsPermutation {X = Result (Lived Mandate) WireFault} [] (map (λ v. Ok v) listed) → listed ≡ []
+none_said : (listed : List (LiveSpan Mandate)) → IsPermutation {X = Result (LiveSpan Mandate) WireFault} [] (map (λ v. Ok v) listed) → listed ≡ []
 none_said listed said = no_more listed (length_permutation [] listed (same_values [] listed said))
 
 -- tables that hold a history without mandates hold it in schema version 1
-first_held : (db : Trees) (listed : List Moment) (h : History) → HoldsHistory (without_mandates db) listed h → HoldsFirst db listed h
+first_held : (db : Trees) (listed : List Moment) (h : History) → HoldsHistory (without_mandates db) listed h → HoldsHistoryV1 db listed h
 first_held db listed h held = record {
   the_moments = held.the_moments;
   the_parties = record { said = held.the_parties.said; numbered = held.the_parties.numbered };
@@ -57,32 +57,32 @@ first_held db listed h held = record {
 
 -- ---- the same timeline
 
-module _ (law : RaisedRegistersAreHeld) (old new : Database) (first : IsRegister the_first old) (raised : Raises old new) where
-  read : RaisedAreRead new.trees first.holds.listed first.holds.history
+module _ (law : MigratedRegistersAreHeld) (old new : Database) (first : IsRegister version_1 old) (raised : Migrates old new) where
+  read : MigratedRowsAreRead new.trees first.holds.listed first.holds.history
   read =
       law old new first.holds.listed first.holds.history raised (first_held old.trees first.holds.listed first.holds.history first.holds.holds)
-      (keeps_edition the_first old first.intervals.made)
+      (keeps_edition version_1 old first.intervals.made)
 
-  timeline_raised : HoldsTimeline new.trees (first_timeline_in old.trees)
+  timeline_raised : HoldsTimeline new.trees (decoded_timeline_v1 old.trees)
   timeline_raised = record { listed = first.holds.listed; history = first.holds.history; holds = read.history; stands = first.holds.stands }
 
   -- the states that a crash may leave instead of schema version 1
-  pub are_raised : AreRaised old new.trees
+  pub are_raised : IsMigratedFrom old new.trees
   are_raised = record { edition = read.editions; holds = timeline_raised }
 
-  pub tells_raised : VersionsStandForOne → OrderDoesNotMatter → timeline_in new.trees ≡ first_timeline_in old.trees
-  tells_raised one order = tells one order new.trees (first_timeline_in old.trees) timeline_raised first.sound
+  pub tells_raised : HistoriesRepresentOneTimeline → OrderDoesNotMatter → decoded_timeline new.trees ≡ decoded_timeline_v1 old.trees
+  tells_raised one order = tells one order new.trees (decoded_timeline_v1 old.trees) timeline_raised first.sound
 
-  pub intervals_raised : has_intervals (told_by moments new.trees) (history_in new.trees) ≡ true
+  pub intervals_raised : has_intervals (decode_rows moments new.trees) (decoded_history new.trees) ≡ true
   unfolding timeline_raised
   intervals_raised =
-      told_intervals new.trees (first_timeline_in old.trees) timeline_raised
-      ∙ sym (told_intervals (without_mandates old.trees) (first_timeline_in old.trees) first.holds)
+      told_intervals new.trees (decoded_timeline_v1 old.trees) timeline_raised
+      ∙ sym (told_intervals (without_mandates old.trees) (decoded_timeline_v1 old.trees) first.holds)
       ∙ first.intervals.intervals
 
 -- a migrated store is consistent
-pub office_raised : RaisedRegistersAreHeld → VersionsStandForOne → OrderDoesNotMatter → (old new : State) (latest : Moment) → IsRegisterTo the_first old.now latest → Raises old.now new.now → IsTrue new.is_open → new.committed ≡ new.now
-    → IsOffice new latest.stamp latest.next
+pub office_raised : MigratedRegistersAreHeld → HistoriesRepresentOneTimeline → OrderDoesNotMatter → (old new : State) (latest : Moment) → IsRegisterTo version_1 old.now latest → Migrates old.now new.now → IsTrue new.is_open → new.committed ≡ new.now
+    → IsConsistentState new latest.stamp latest.next
 office_raised law one order old new latest to raised is_open committed =
     let first = to.register in
     let is = tells_raised law old.now new.now first raised one order in
@@ -91,7 +91,7 @@ office_raised law one order old new latest to raised is_open committed =
       register = record {
         is_open = is_open;
         committed = committed;
-        land = raised.land;
+        has_tables = raised.has_tables;
         edition = them.edition;
         intervals = intervals_raised law old.now new.now first raised;
         holds = rw is them.holds;
@@ -115,5 +115,5 @@ none_found h none t (m ∷ ms) found so = none_found h none t ms (cond (int_le m
     here false = so
 
 -- tables of schema version 1 represent a timeline without mandates
-pub none_at_first : (db : Trees) → HasNoMandates (first_timeline_in db)
-none_at_first db t = none_found (history_in (without_mandates db)) refl t (in_order (told_by moments (without_mandates db))) None refl
+pub none_at_first : (db : Trees) → HasNoMandates (decoded_timeline_v1 db)
+none_at_first db t = none_found (decoded_history (without_mandates db)) refl t (sorted_moments (decode_rows moments (without_mandates db))) None refl

@@ -16,9 +16,9 @@ use Rattle.land_keep.specs.declared.timeline.Version.{Version}
 use Rattle.land_tables.proofs.Tellings.{read_stands}
 use Rattle.land_tables.proofs.WrittenTimelines.{stays_last}
 use Rattle.land_tables.specs.Calls.{IsSafeRead}
-use Rattle.land_tables.specs.Office.{HoldsRegister}
-use Rattle.land_tables.specs.Standing.{ReadsAt, timeline_in}
-use Rattle.land_tables.specs.Timelines.Laws.{OrderDoesNotMatter, ReadingIsTheRegister, VersionsStandForOne}
+use Rattle.land_tables.specs.TablesState.{HoldsRegister}
+use Rattle.land_tables.specs.Standing.{ReadsAt, decoded_timeline}
+use Rattle.land_tables.specs.Timelines.Laws.{OrderDoesNotMatter, ReadingIsTheRegister, HistoriesRepresentOneTimeline}
 use Rattle.land_tables_history.proofs.MomentOrder.{le_through}
 use Rattle.land_tables_schema.proofs.Looking.{was_clean}
 use Rattle.sqlite.specs.State.{HasCleanDisk, State}
@@ -45,10 +45,10 @@ past_all tl t sound le =
     stays_last tl t sound.rising (le_through (last_stamp tl) last_moment t is_moment le) ∙ sym (stays_last tl last_moment sound.rising is_moment)
 
 -- the register that was read at a moment is the timeline's
-pub read_is : VersionsStandForOne → OrderDoesNotMatter → ReadingIsTheRegister → (s : State) → HoldsRegister s → (t : ℤ) → IsMoment t → (register : Register) → ReadsAt s.now.trees t register
-    → register ≡ register_at (timeline_in s.now.trees) t
+pub read_is : HistoriesRepresentOneTimeline → OrderDoesNotMatter → ReadingIsTheRegister → (s : State) → HoldsRegister s → (t : ℤ) → IsMoment t → (register : Register) → ReadsAt s.now.trees t register
+    → register ≡ register_at (decoded_timeline s.now.trees) t
 read_is one order reading s office t is_moment register read =
-    let tl = timeline_in s.now.trees in
+    let tl = decoded_timeline s.now.trees in
     read.4 ∙ reading read.0 read.1 tl t (read_stands one order s.now.trees tl office.holds read.0 read.1 read.2 read.3) office.sound is_moment
 
 past_last : (t : ℤ) → int_lt last_moment t ≡ true → last_moment ≤ℤ t
@@ -69,16 +69,16 @@ read_moment t u le is = go (int_lt last_moment t) refl is
     go false h e = subst (λ u. IsMoment u × ((tl : Timeline) → IsSoundTimeline tl → register_at tl t ≡ register_at tl u)) (sym e) ((le, within_last t h), λ tl sound. refl)
 
 -- nothing is read for a time before the first moment
-pub read_nothing : (s : State) (t : ℤ) → (HasCleanDisk s → HoldsRegister s) → t <ℤ pos 0 → (r : Register) → r ≡ nothing → IsSafeRead {X = Register} (Ok r) (λ it. it ≡ register_at (timeline_in s.now.trees) t) s s
+pub read_nothing : (s : State) (t : ℤ) → (HasCleanDisk s → HoldsRegister s) → t <ℤ pos 0 → (r : Register) → r ≡ nothing → IsSafeRead {X = Register} (Ok r) (λ it. it ≡ register_at (decoded_timeline s.now.trees) t) s s
 read_nothing s t office less r is = record {
-  given = λ clean. is ∙ sym (before_all (timeline_in s.now.trees) t (office clean).sound less);
+  given = λ clean. is ∙ sym (before_all (decoded_timeline s.now.trees) t (office clean).sound less);
   same = λ clean _. record { is_open = (office clean).is_open; now = refl; committed = (office clean).committed };
   survives = record { clean = omega arith; shield = λ x. x; counts = omega arith; limit = refl; closes = λ _ t. inl t; crash = λ _ _ x. inl x };
 }
 
 -- the register that is read from the tables is the timeline's
-pub read_register : VersionsStandForOne → OrderDoesNotMatter → ReadingIsTheRegister → (a b : State) (t u : ℤ) → (HasCleanDisk a → HoldsRegister a) → IsReadAt t u → (r : Result Register StoreFault)
-    → IsSafeRead r (ReadsAt a.now.trees u) a b → IsSafeRead r (λ it. it ≡ register_at (timeline_in a.now.trees) t) a b
+pub read_register : HistoriesRepresentOneTimeline → OrderDoesNotMatter → ReadingIsTheRegister → (a b : State) (t u : ℤ) → (HasCleanDisk a → HoldsRegister a) → IsReadAt t u → (r : Result Register StoreFault)
+    → IsSafeRead r (ReadsAt a.now.trees u) a b → IsSafeRead r (λ it. it ≡ register_at (decoded_timeline a.now.trees) t) a b
 read_register one order reading a b t u office place r safe = record {
   given = λ clean. (
       let was = office (was_clean a b safe.survives clean) in
@@ -87,8 +87,8 @@ read_register one order reading a b t u office place r safe = record {
   survives = safe.survives;
 }
   where
-    go : HoldsRegister a → (r : Result Register StoreFault) → IfOk r (ReadsAt a.now.trees u) → IfOk r (λ it. it ≡ register_at (timeline_in a.now.trees) t)
-    go was (Ok it) read = read_is one order reading a was u place.0 it read ∙ sym (place.1 (timeline_in a.now.trees) was.sound)
+    go : HoldsRegister a → (r : Result Register StoreFault) → IfOk r (ReadsAt a.now.trees u) → IfOk r (λ it. it ≡ register_at (decoded_timeline a.now.trees) t)
+    go was (Ok it) read = read_is one order reading a was u place.0 it read ∙ sym (place.1 (decoded_timeline a.now.trees) was.sound)
     go was (Err fault) read = tt
 
 least : (a b : ℤ) → a ≡ b → b ≤ℤ a

@@ -7,7 +7,7 @@ use Rattle.land_keep.specs.Timeline.{last_stamp, register_at}
 use Rattle.land_tables.specs.Timelines.{moment_of}
 use Rattle.land_tables.specs.Timelines.Laws.{IsReordered, OrderDoesNotMatter}
 use Rattle.land_tables_history.proofs.Permutations.{all_permuted, filter_permuted}
-use Rattle.land_tables_history.specs.History.{StandsAt}
+use Rattle.land_tables_history.specs.History.{IsRegisterAt}
 use Rattle.land_tables_history.specs.Open.{has_ended, have_ended}
 use Rattle.land_tables_history.specs.Standing.{standing, stands}
 use Rattle.land_tables_history.specs.declared.history.History.{History}
@@ -31,7 +31,7 @@ ended_too last one other same =
     (all_permuted (has_ended last) one.sources other.sources same.sources) (all_permuted (has_ended last) one.mutations other.mutations same.mutations)
     (all_permuted (has_ended last) one.namings other.namings same.namings) (all_permuted (has_ended last) one.mandates other.mandates same.mandates)
 
-pub stands_too : (t : ℤ) (one other : History) (r : Register) → IsReordered one other → StandsAt t one r → StandsAt t other r
+pub stands_too : (t : ℤ) (one other : History) (r : Register) → IsReordered one other → IsRegisterAt t one r → IsRegisterAt t other r
 stands_too t one other r same h = record {
   parties = stand_too t one.parties other.parties _ same.parties h.parties;
   roles = stand_too t one.roles other.roles _ same.roles h.roles;

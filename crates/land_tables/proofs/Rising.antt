@@ -8,33 +8,33 @@ use Rattle.std.specs.List.{list_all, list_any}
 use Rattle.std.specs.Ordering.{int_eq}
 use Rattle.std.proofs.lemmas.Bool.{and_parts, not-true, or_parts}
 use Rattle.land_core.specs.Entries.{are_distinct}
-use Rattle.land_keep.specs.Timeline.{Rises}
-use Rattle.land_tables.specs.Timelines.{in_order, put_in, version_of}
+use Rattle.land_keep.specs.Timeline.{IncreasesFrom}
+use Rattle.land_tables.specs.Timelines.{sorted_moments, insert_moment, version_of}
 use Rattle.land_tables_history.proofs.Permutations.{all_permuted}
-use Rattle.land_tables_history.specs.Lawful.{falls, is_same_stamp, never_falls}
+use Rattle.land_tables_history.specs.ValidHistory.{decreases, is_same_stamp, never_decreases}
 use Rattle.land_tables_history.specs.declared.history.History.{History}
 use Rattle.land_tables_history.specs.declared.moment.Moment.{Moment}
 
 -- ---- the same moments
 
-put_permuted : (m : Moment) (ms : List Moment) → IsPermutation (put_in m ms) (m ∷ ms)
+put_permuted : (m : Moment) (ms : List Moment) → IsPermutation (insert_moment m ms) (m ∷ ms)
 put_permuted m [] = IsPermutation-refl (m ∷ [])
 put_permuted m (n ∷ ns) = go (int_le m.stamp n.stamp) (put_permuted m ns)
   where
-    go : (b : Bool) → IsPermutation (put_in m ns) (m ∷ ns) → IsPermutation (cond b (m ∷ n ∷ ns) (n ∷ put_in m ns)) (m ∷ n ∷ ns)
+    go : (b : Bool) → IsPermutation (insert_moment m ns) (m ∷ ns) → IsPermutation (cond b (m ∷ n ∷ ns) (n ∷ insert_moment m ns)) (m ∷ n ∷ ns)
     go true rest = IsPermutation-refl (m ∷ n ∷ ns)
-    go false rest = IsPermutation-trans (n ∷ put_in m ns) (n ∷ m ∷ ns) (m ∷ n ∷ ns) (IsPermutation-cons n (put_in m ns) (m ∷ ns) rest) (IsPermutation-middle (n ∷ []) m ns)
+    go false rest = IsPermutation-trans (n ∷ insert_moment m ns) (n ∷ m ∷ ns) (m ∷ n ∷ ns) (IsPermutation-cons n (insert_moment m ns) (m ∷ ns) rest) (IsPermutation-middle (n ∷ []) m ns)
 
-pub in_order_permuted : (ms : List Moment) → IsPermutation (in_order ms) ms
+pub in_order_permuted : (ms : List Moment) → IsPermutation (sorted_moments ms) ms
 in_order_permuted [] = IsPermutation-refl []
 in_order_permuted (m ∷ ms) =
-    IsPermutation-trans (put_in m (in_order ms)) (m ∷ in_order ms) (m ∷ ms) (put_permuted m (in_order ms)) (IsPermutation-cons m (in_order ms) ms (in_order_permuted ms))
+    IsPermutation-trans (insert_moment m (sorted_moments ms)) (m ∷ sorted_moments ms) (m ∷ ms) (put_permuted m (sorted_moments ms)) (IsPermutation-cons m (sorted_moments ms) ms (in_order_permuted ms))
 
 -- ---- two moments of one history
 
 -- stamps are distinct, and the next number never decreases
 abbrev fits : Moment → Moment → Bool
-fits a b = not (is_same_stamp a b) && not (falls a b) && not (falls b a)
+fits a b = not (is_same_stamp a b) && not (decreases a b) && not (decreases b a)
 
 abbrev pairs_fit : List Moment → Bool
 pairs_fit [] = true
@@ -51,21 +51,21 @@ all_both p q (x ∷ xs) h =
 three : (a b c : Bool) → a ≡ false → b ≡ true → c ≡ true → (not a && b && c) ≡ true
 three a b c x y z = grind arith
 
-fit_all : (m : Moment) (ms : List Moment) → list_any (is_same_stamp m) ms ≡ false → list_all (λ b. not (falls m b)) ms ≡ true → list_all (λ a. not (falls a m)) ms ≡ true → list_all (fits m) ms ≡ true
+fit_all : (m : Moment) (ms : List Moment) → list_any (is_same_stamp m) ms ≡ false → list_all (λ b. not (decreases m b)) ms ≡ true → list_all (λ a. not (decreases a m)) ms ≡ true → list_all (fits m) ms ≡ true
 fit_all m [] apart after before = refl
 fit_all m (n ∷ ns) apart after before =
     let one = or_parts (is_same_stamp m n) (list_any (is_same_stamp m) ns) apart in
-    let two = and_parts (not (falls m n)) (list_all (λ b. not (falls m b)) ns) after in
-    let more = and_parts (not (falls n m)) (list_all (λ a. not (falls a m)) ns) before in
-    ap (λ b. b && list_all (fits m) ns) (three (is_same_stamp m n) (not (falls m n)) (not (falls n m)) one.0 two.0 more.0) ∙ fit_all m ns one.1 two.1 more.1
+    let two = and_parts (not (decreases m n)) (list_all (λ b. not (decreases m b)) ns) after in
+    let more = and_parts (not (decreases n m)) (list_all (λ a. not (decreases a m)) ns) before in
+    ap (λ b. b && list_all (fits m) ns) (three (is_same_stamp m n) (not (decreases m n)) (not (decreases n m)) one.0 two.0 more.0) ∙ fit_all m ns one.1 two.1 more.1
 
-fit_pairs : (ms : List Moment) → are_distinct is_same_stamp ms ≡ true → never_falls ms ≡ true → pairs_fit ms ≡ true
+fit_pairs : (ms : List Moment) → are_distinct is_same_stamp ms ≡ true → never_decreases ms ≡ true → pairs_fit ms ≡ true
 fit_pairs [] distinct never = refl
 fit_pairs (m ∷ ms) distinct never =
     let apart = and_parts (not (list_any (is_same_stamp m) ms)) (are_distinct is_same_stamp ms) distinct in
-    let rows = and_parts (list_all (λ b. not (falls m b)) (m ∷ ms)) (list_all (λ a. list_all (λ b. not (falls a b)) (m ∷ ms)) ms) never in
-    let row = and_parts (not (falls m m)) (list_all (λ b. not (falls m b)) ms) rows.0 in
-    let rest = all_both (λ a. not (falls a m)) (λ a. list_all (λ b. not (falls a b)) ms) ms rows.1 in
+    let rows = and_parts (list_all (λ b. not (decreases m b)) (m ∷ ms)) (list_all (λ a. list_all (λ b. not (decreases a b)) (m ∷ ms)) ms) never in
+    let row = and_parts (not (decreases m m)) (list_all (λ b. not (decreases m b)) ms) rows.0 in
+    let rest = all_both (λ a. not (decreases a m)) (λ a. list_all (λ b. not (decreases a b)) ms) ms rows.1 in
     ap (λ b. b && pairs_fit ms) (fit_all m ms (not-true (list_any (is_same_stamp m) ms) apart.0) row.1 rest.0) ∙ fit_pairs ms apart.1 rest.1
 
 -- ---- they increase
@@ -86,22 +86,22 @@ module _ (versions : History) where
   -- the stamps increase, and so do those of the versions that begin at them
   pub Orderly : List Moment → Type 0
   Orderly [] = Unit {0}
-  Orderly (m ∷ ms) = Rises (version_of versions m) (map (version_of versions) ms)
+  Orderly (m ∷ ms) = IncreasesFrom (version_of versions m) (map (version_of versions) ms)
 
-  put_rises : (b m : Moment) (ms : List Moment) → b.stamp <ℤ m.stamp → b.next ≤ m.next → Rises (version_of versions b) (map (version_of versions) ms) → list_all (fits m) ms ≡ true
-      → Rises (version_of versions b) (map (version_of versions) (put_in m ms))
+  put_rises : (b m : Moment) (ms : List Moment) → b.stamp <ℤ m.stamp → b.next ≤ m.next → IncreasesFrom (version_of versions b) (map (version_of versions) ms) → list_all (fits m) ms ≡ true
+      → IncreasesFrom (version_of versions b) (map (version_of versions) (insert_moment m ms))
   put_rises b m [] less more rises fit = (less, more, tt)
   put_rises b m (n ∷ ns) less more rises fit = go (int_le m.stamp n.stamp) refl (λ after most. put_rises n m ns after most rises.2 parts.1)
     where
       parts : (fits m n ≡ true) × (list_all (fits m) ns ≡ true)
       parts = and_parts (fits m n) (list_all (fits m) ns) fit
 
-      go : (c : Bool) → int_le m.stamp n.stamp ≡ c → (n.stamp <ℤ m.stamp → n.next ≤ m.next → Rises (version_of versions n) (map (version_of versions) (put_in m ns)))
-          → Rises (version_of versions b) (map (version_of versions) (cond c (m ∷ n ∷ ns) (n ∷ put_in m ns)))
+      go : (c : Bool) → int_le m.stamp n.stamp ≡ c → (n.stamp <ℤ m.stamp → n.next ≤ m.next → IncreasesFrom (version_of versions n) (map (version_of versions) (insert_moment m ns)))
+          → IncreasesFrom (version_of versions b) (map (version_of versions) (cond c (m ∷ n ∷ ns) (n ∷ insert_moment m ns)))
       go true first rest = (less, more, (is_before m.stamp n.stamp m.next n.next parts.0 first, no_fewer m.stamp n.stamp m.next n.next parts.0 first, rises.2))
       go false first rest = (rises.0, rises.1, rest (is_after m.stamp n.stamp m.next n.next parts.0 first) (no_more m.stamp n.stamp m.next n.next parts.0 first))
 
-  put_orderly : (m : Moment) (ms : List Moment) → Orderly ms → list_all (fits m) ms ≡ true → Orderly (put_in m ms)
+  put_orderly : (m : Moment) (ms : List Moment) → Orderly ms → list_all (fits m) ms ≡ true → Orderly (insert_moment m ms)
   unfolding Orderly
   put_orderly m [] orderly fit = tt
   put_orderly m (n ∷ ns) orderly fit = go (int_le m.stamp n.stamp) refl
@@ -109,20 +109,20 @@ module _ (versions : History) where
       parts : (fits m n ≡ true) × (list_all (fits m) ns ≡ true)
       parts = and_parts (fits m n) (list_all (fits m) ns) fit
 
-      go : (c : Bool) → int_le m.stamp n.stamp ≡ c → Orderly (cond c (m ∷ n ∷ ns) (n ∷ put_in m ns))
+      go : (c : Bool) → int_le m.stamp n.stamp ≡ c → Orderly (cond c (m ∷ n ∷ ns) (n ∷ insert_moment m ns))
       go true first = (is_before m.stamp n.stamp m.next n.next parts.0 first, no_fewer m.stamp n.stamp m.next n.next parts.0 first, orderly)
       go false first = put_rises n m ns (is_after m.stamp n.stamp m.next n.next parts.0 first) (no_more m.stamp n.stamp m.next n.next parts.0 first) orderly parts.1
 
-  orderly_from : (ms : List Moment) → pairs_fit ms ≡ true → Orderly (in_order ms)
+  orderly_from : (ms : List Moment) → pairs_fit ms ≡ true → Orderly (sorted_moments ms)
   unfolding Orderly
   orderly_from [] fit = tt
   orderly_from (m ∷ ms) fit =
       let parts = and_parts (list_all (fits m) ms) (pairs_fit ms) fit in
-      put_orderly m (in_order ms) (orderly_from ms parts.1) (sym (all_permuted (fits m) (in_order ms) ms (in_order_permuted ms)) ∙ parts.0)
+      put_orderly m (sorted_moments ms) (orderly_from ms parts.1) (sym (all_permuted (fits m) (sorted_moments ms) ms (in_order_permuted ms)) ∙ parts.0)
 
-  pub orderly : (ms : List Moment) → are_distinct is_same_stamp ms ≡ true → never_falls ms ≡ true → Orderly (in_order ms)
+  pub orderly : (ms : List Moment) → are_distinct is_same_stamp ms ≡ true → never_decreases ms ≡ true → Orderly (sorted_moments ms)
   orderly ms distinct never = orderly_from ms (fit_pairs ms distinct never)
 
-  pub rises_from : (m : Moment) (ms : List Moment) → Orderly (m ∷ ms) → Rises (version_of versions m) (map (version_of versions) ms)
+  pub rises_from : (m : Moment) (ms : List Moment) → Orderly (m ∷ ms) → IncreasesFrom (version_of versions m) (map (version_of versions) ms)
   unfolding Orderly
   rises_from m ms h = h

@@ -8,12 +8,12 @@ use Rattle.std.proofs.lemmas.Int.{ints}
 use Rattle.std.proofs.lemmas.Cmp.{int_eq_equiv}
 use Rattle.land_core.proofs.Booleans.{or_turned}
 use Rattle.land_core.specs.Entries.{are_distinct}
-use Rattle.land_keep.specs.Timeline.{IsRising, Rises, Timeline}
+use Rattle.land_keep.specs.Timeline.{IsIncreasing, IncreasesFrom, Timeline}
 use Rattle.land_keep.specs.declared.timeline.Version.{Version}
-use Rattle.land_tables.specs.Timelines.{in_order, moment_of, put_in}
+use Rattle.land_tables.specs.Timelines.{sorted_moments, moment_of, insert_moment}
 use Rattle.land_tables_history.proofs.MomentOrder.{le_itself, le_then_lt}
 use Rattle.land_tables_history.proofs.Permutations.{along_permutation}
-use Rattle.land_tables_history.specs.Lawful.{is_same_stamp}
+use Rattle.land_tables_history.specs.ValidHistory.{is_same_stamp}
 use Rattle.land_tables_history.specs.declared.moment.Moment.{Moment}
 
 -- ---- orders of stamps
@@ -35,7 +35,7 @@ later_differs s t less = grind (arith, ints)
 true_is_false : true ≡ false → ⊥
 true_is_false e = false≢true (sym e)
 
-turned : (x y : Moment) (ms : List Moment) → is_same_stamp x y ≡ false → put_in x (put_in y ms) ≡ put_in y (put_in x ms)
+turned : (x y : Moment) (ms : List Moment) → is_same_stamp x y ≡ false → insert_moment x (insert_moment y ms) ≡ insert_moment y (insert_moment x ms)
 turned x y [] apart = go (int_le x.stamp y.stamp) (int_le y.stamp x.stamp) (other_way x.stamp y.stamp apart)
   where
     go : (c d : Bool) → d ≡ not c → cond c (x ∷ y ∷ []) (y ∷ x ∷ []) ≡ cond d (y ∷ x ∷ []) (x ∷ y ∷ [])
@@ -47,12 +47,12 @@ turned x y (n ∷ ns) apart =
     go (int_le x.stamp n.stamp) (int_le y.stamp n.stamp) (int_le x.stamp y.stamp) (int_le y.stamp x.stamp) refl refl refl refl (other_way x.stamp y.stamp apart) (turned x y ns apart)
   where
     go : (a b c d : Bool) → int_le x.stamp n.stamp ≡ a → int_le y.stamp n.stamp ≡ b → int_le x.stamp y.stamp ≡ c → int_le y.stamp x.stamp ≡ d → d ≡ not c
-        → put_in x (put_in y ns) ≡ put_in y (put_in x ns)
-        → put_in x (cond b (y ∷ n ∷ ns) (n ∷ put_in y ns)) ≡ put_in y (cond a (x ∷ n ∷ ns) (n ∷ put_in x ns))
-    go true true c d ia ib ic id e rest = ap (λ k. cond k (x ∷ y ∷ n ∷ ns) (y ∷ cond (int_le x.stamp n.stamp) (x ∷ n ∷ ns) (n ∷ put_in x ns))) ic
-        ∙ ap (λ k. cond c (x ∷ y ∷ n ∷ ns) (y ∷ cond k (x ∷ n ∷ ns) (n ∷ put_in x ns))) ia ∙ both c d e
-        ∙ sym (ap (λ k. cond k (y ∷ x ∷ n ∷ ns) (x ∷ cond (int_le y.stamp n.stamp) (y ∷ n ∷ ns) (n ∷ put_in y ns))) id
-        ∙ ap (λ k. cond d (y ∷ x ∷ n ∷ ns) (x ∷ cond k (y ∷ n ∷ ns) (n ∷ put_in y ns))) ib)
+        → insert_moment x (insert_moment y ns) ≡ insert_moment y (insert_moment x ns)
+        → insert_moment x (cond b (y ∷ n ∷ ns) (n ∷ insert_moment y ns)) ≡ insert_moment y (cond a (x ∷ n ∷ ns) (n ∷ insert_moment x ns))
+    go true true c d ia ib ic id e rest = ap (λ k. cond k (x ∷ y ∷ n ∷ ns) (y ∷ cond (int_le x.stamp n.stamp) (x ∷ n ∷ ns) (n ∷ insert_moment x ns))) ic
+        ∙ ap (λ k. cond c (x ∷ y ∷ n ∷ ns) (y ∷ cond k (x ∷ n ∷ ns) (n ∷ insert_moment x ns))) ia ∙ both c d e
+        ∙ sym (ap (λ k. cond k (y ∷ x ∷ n ∷ ns) (x ∷ cond (int_le y.stamp n.stamp) (y ∷ n ∷ ns) (n ∷ insert_moment y ns))) id
+        ∙ ap (λ k. cond d (y ∷ x ∷ n ∷ ns) (x ∷ cond k (y ∷ n ∷ ns) (n ∷ insert_moment y ns))) ib)
       where
         both : (c d : Bool) → d ≡ not c → cond c (x ∷ y ∷ n ∷ ns) (y ∷ x ∷ n ∷ ns) ≡ cond d (y ∷ x ∷ n ∷ ns) (x ∷ y ∷ n ∷ ns)
         both true true e = absurd (true_is_false e)
@@ -60,22 +60,22 @@ turned x y (n ∷ ns) apart =
         both false true e = refl
         both false false e = absurd (false≢true e)
     go true false c d ia ib ic id e rest =
-        ap (λ k. cond k (x ∷ n ∷ put_in y ns) (n ∷ put_in x (put_in y ns))) ia
-        ∙ sym (ap (λ k. cond k (y ∷ x ∷ n ∷ ns) (x ∷ cond (int_le y.stamp n.stamp) (y ∷ n ∷ ns) (n ∷ put_in y ns))) (between x.stamp y.stamp n.stamp ia ib)
-        ∙ ap (λ k. x ∷ cond k (y ∷ n ∷ ns) (n ∷ put_in y ns)) ib)
+        ap (λ k. cond k (x ∷ n ∷ insert_moment y ns) (n ∷ insert_moment x (insert_moment y ns))) ia
+        ∙ sym (ap (λ k. cond k (y ∷ x ∷ n ∷ ns) (x ∷ cond (int_le y.stamp n.stamp) (y ∷ n ∷ ns) (n ∷ insert_moment y ns))) (between x.stamp y.stamp n.stamp ia ib)
+        ∙ ap (λ k. x ∷ cond k (y ∷ n ∷ ns) (n ∷ insert_moment y ns)) ib)
     go false true c d ia ib ic id e rest =
-        ap (λ k. cond k (x ∷ y ∷ n ∷ ns) (y ∷ cond (int_le x.stamp n.stamp) (x ∷ n ∷ ns) (n ∷ put_in x ns))) (between y.stamp x.stamp n.stamp ib ia)
-        ∙ ap (λ k. y ∷ cond k (x ∷ n ∷ ns) (n ∷ put_in x ns)) ia
-        ∙ sym (ap (λ k. cond k (y ∷ n ∷ put_in x ns) (n ∷ put_in y (put_in x ns))) ib)
+        ap (λ k. cond k (x ∷ y ∷ n ∷ ns) (y ∷ cond (int_le x.stamp n.stamp) (x ∷ n ∷ ns) (n ∷ insert_moment x ns))) (between y.stamp x.stamp n.stamp ib ia)
+        ∙ ap (λ k. y ∷ cond k (x ∷ n ∷ ns) (n ∷ insert_moment x ns)) ia
+        ∙ sym (ap (λ k. cond k (y ∷ n ∷ insert_moment x ns) (n ∷ insert_moment y (insert_moment x ns))) ib)
     go false false c d ia ib ic id e rest =
-        ap (λ k. cond k (x ∷ n ∷ put_in y ns) (n ∷ put_in x (put_in y ns))) ia ∙ ap (λ l. n ∷ l) rest
-        ∙ sym (ap (λ k. cond k (y ∷ n ∷ put_in x ns) (n ∷ put_in y (put_in x ns))) ib)
+        ap (λ k. cond k (x ∷ n ∷ insert_moment y ns) (n ∷ insert_moment x (insert_moment y ns))) ia ∙ ap (λ l. n ∷ l) rest
+        ∙ sym (ap (λ k. cond k (y ∷ n ∷ insert_moment x ns) (n ∷ insert_moment y (insert_moment x ns))) ib)
 
 -- ---- moments with distinct stamps have one sorted order
 
 record Alike (xs ys : List Moment) : Type 0 where
   stamps : (m : Moment) → list_any (is_same_stamp m) xs ≡ list_any (is_same_stamp m) ys
-  sorted : are_distinct is_same_stamp xs ≡ true → (are_distinct is_same_stamp ys ≡ true) × (in_order xs ≡ in_order ys)
+  sorted : are_distinct is_same_stamp xs ≡ true → (are_distinct is_same_stamp ys ≡ true) × (sorted_moments xs ≡ sorted_moments ys)
 
 not_or : (a b : Bool) → not (a || b) ≡ true → (a ≡ false) × (b ≡ false)
 not_or true b h = absurd (false≢true h)
@@ -84,7 +84,7 @@ not_or false b h = (refl, not-true b h)
 neither : (a b : Bool) → a ≡ false → b ≡ false → not (a || b) ≡ true
 neither a b x y = ap (λ t. not (t || b)) x ∙ ap not y
 
-pub one_order : (xs ys : List Moment) → IsPermutation xs ys → are_distinct is_same_stamp xs ≡ true → in_order xs ≡ in_order ys
+pub one_order : (xs ys : List Moment) → IsPermutation xs ys → are_distinct is_same_stamp xs ≡ true → sorted_moments xs ≡ sorted_moments ys
 one_order xs ys p distinct = ((along_permutation Alike itself under over chained xs ys p).sorted distinct).1
   where
     itself : (xs : List Moment) → Alike xs xs
@@ -96,7 +96,7 @@ one_order xs ys p distinct = ((along_permutation Alike itself under over chained
       sorted = λ d.
           let parts = and_parts (not (list_any (is_same_stamp x) xs)) (are_distinct is_same_stamp xs) d in
           let rest = h.sorted parts.1 in
-          (and_from (not (list_any (is_same_stamp x) ys)) (are_distinct is_same_stamp ys) (sym (ap not (h.stamps x)) ∙ parts.0) rest.0, ap (put_in x) rest.1);
+          (and_from (not (list_any (is_same_stamp x) ys)) (are_distinct is_same_stamp ys) (sym (ap not (h.stamps x)) ∙ parts.0) rest.0, ap (insert_moment x) rest.1);
     }
 
     over : (x y : Moment) (xs : List Moment) → Alike (x ∷ y ∷ xs) (y ∷ x ∷ xs)
@@ -109,7 +109,7 @@ one_order xs ys p distinct = ((along_permutation Alike itself under over chained
             and_from (not (is_same_stamp y x || list_any (is_same_stamp y) xs)) (not (list_any (is_same_stamp x) xs) && are_distinct is_same_stamp xs)
                 (neither (is_same_stamp y x) (list_any (is_same_stamp y) xs) (int_eq_equiv.symm y.stamp x.stamp ∙ x_apart.0) (not-true (list_any (is_same_stamp y) xs) two.0))
                 (and_from (not (list_any (is_same_stamp x) xs)) (are_distinct is_same_stamp xs) (ap not x_apart.1) two.1),
-            turned x y (in_order xs) x_apart.0,
+            turned x y (sorted_moments xs) x_apart.0,
           );
     }
 
@@ -121,7 +121,7 @@ one_order xs ys p distinct = ((along_permutation Alike itself under over chained
 
 -- ---- the moments of a timeline with increasing stamps
 
-none_before : (s : ℤ) (v : Version) (vs : Timeline) → s ≤ℤ v.stamp → Rises v vs → list_any (λ (m : Moment). int_eq s m.stamp) (map moment_of vs) ≡ false
+none_before : (s : ℤ) (v : Version) (vs : Timeline) → s ≤ℤ v.stamp → IncreasesFrom v vs → list_any (λ (m : Moment). int_eq s m.stamp) (map moment_of vs) ≡ false
 none_before s v [] least rises = refl
 none_before s v (w ∷ ws) least rises =
     ap (λ b. b || list_any (λ (m : Moment). int_eq s m.stamp) (map moment_of ws)) (later_differs s w.stamp (le_then_lt s v.stamp w.stamp least rises.0))
@@ -130,29 +130,29 @@ none_before s v (w ∷ ws) least rises =
     before : (r s t : ℤ) → r ≤ℤ s → s <ℤ t → r ≤ℤ t
     before r s t less more = omega (arith, ints)
 
-pub distinct : (tl : Timeline) → IsRising tl → are_distinct is_same_stamp (map moment_of tl) ≡ true
+pub distinct : (tl : Timeline) → IsIncreasing tl → are_distinct is_same_stamp (map moment_of tl) ≡ true
 distinct [] rises = absurd rises
 distinct (v ∷ vs) rises = from v vs rises
   where
-    from : (v : Version) (vs : Timeline) → Rises v vs → are_distinct is_same_stamp (map moment_of (v ∷ vs)) ≡ true
+    from : (v : Version) (vs : Timeline) → IncreasesFrom v vs → are_distinct is_same_stamp (map moment_of (v ∷ vs)) ≡ true
     from v [] rises = refl
     from v (w ∷ ws) rises =
         and_from (not (list_any (is_same_stamp (moment_of v)) (map moment_of (w ∷ ws)))) (are_distinct is_same_stamp (map moment_of (w ∷ ws)))
         (ap not (none_before v.stamp v (w ∷ ws) (le_itself v.stamp) rises)) (from w ws rises.2)
 
-pub sorted_already : (tl : Timeline) → IsRising tl → in_order (map moment_of tl) ≡ map moment_of tl
+pub sorted_already : (tl : Timeline) → IsIncreasing tl → sorted_moments (map moment_of tl) ≡ map moment_of tl
 sorted_already [] rises = absurd rises
 sorted_already (v ∷ vs) rises = from v vs rises
   where
     first : (s t : ℤ) → s <ℤ t → int_le s t ≡ true
     first s t less = grind (arith, ints)
 
-    from : (v : Version) (vs : Timeline) → Rises v vs → in_order (map moment_of (v ∷ vs)) ≡ map moment_of (v ∷ vs)
+    from : (v : Version) (vs : Timeline) → IncreasesFrom v vs → sorted_moments (map moment_of (v ∷ vs)) ≡ map moment_of (v ∷ vs)
     from v [] rises = refl
     from v (w ∷ ws) rises =
-        ap (put_in (moment_of v)) (from w ws rises.2)
-        ∙ ap (λ b. cond b (moment_of v ∷ moment_of w ∷ map moment_of ws) (moment_of w ∷ put_in (moment_of v) (map moment_of ws))) (first v.stamp w.stamp rises.0)
+        ap (insert_moment (moment_of v)) (from w ws rises.2)
+        ∙ ap (λ b. cond b (moment_of v ∷ moment_of w ∷ map moment_of ws) (moment_of w ∷ insert_moment (moment_of v) (map moment_of ws))) (first v.stamp w.stamp rises.0)
 
 -- a permutation of the moments of a timeline sorts to the timeline's order
-pub timeline_order : (tl : Timeline) (moments : List Moment) → IsRising tl → IsPermutation (map moment_of tl) moments → in_order moments ≡ map moment_of tl
+pub timeline_order : (tl : Timeline) (moments : List Moment) → IsIncreasing tl → IsPermutation (map moment_of tl) moments → sorted_moments moments ≡ map moment_of tl
 timeline_order tl moments rises p = sym (one_order (map moment_of tl) moments p (distinct tl rises)) ∙ sorted_already tl rises

@@ -1,19 +1,19 @@
 -- The decoded value of tables is one history, up to order, and represents one timeline.
 use Rattle.std.proofs.Common.{◌≡◌, List}
 use Rattle.land_keep.specs.Timeline.{IsSoundTimeline, Timeline}
-use Rattle.land_tables.specs.Standing.{HoldsTimeline, timeline_in}
-use Rattle.land_tables.specs.Timelines.{StandsFor}
-use Rattle.land_tables.specs.Timelines.Laws.{IsReordered, OrderDoesNotMatter, VersionsStandForOne}
+use Rattle.land_tables.specs.Standing.{HoldsTimeline, decoded_timeline}
+use Rattle.land_tables.specs.Timelines.{RepresentsTimeline}
+use Rattle.land_tables.specs.Timelines.Laws.{IsReordered, OrderDoesNotMatter, HistoriesRepresentOneTimeline}
 use Rattle.land_tables_history.specs.declared.history.History.{History}
 use Rattle.land_tables_history.specs.declared.moment.Moment.{Moment}
 use Rattle.land_tables_rows.proofs.ToldTables.{says_same, told_is}
-use Rattle.land_tables_rows.specs.Listing.Reading.{Says, SaysHistory, mandates, members, moments, mutations, namings, parcels, parties, roles, rrrs, sources, units}
-use Rattle.land_tables_rows.specs.Listing.Told.{history_in, told_by}
+use Rattle.land_tables_rows.specs.Listing.Reading.{Says, DecodesHistory, mandates, members, moments, mutations, namings, parcels, parties, roles, rrrs, sources, units}
+use Rattle.land_tables_rows.specs.Listing.Told.{decoded_history, decode_rows}
 use Rattle.land_tables_rows.specs.Writing.History.{HoldsHistory}
 use Rattle.sqlite_trees.specs.Tree.{Trees}
 
 -- histories that the tables decode to are permutations of one another
-pub says_reordered : (db : Trees) (one other : History) → SaysHistory db one → SaysHistory db other → IsReordered one other
+pub says_reordered : (db : Trees) (one other : History) → DecodesHistory db one → DecodesHistory db other → IsReordered one other
 says_reordered db one other a b = record {
   parties = says_same parties db one.parties other.parties a.parties b.parties;
   roles = says_same roles db one.roles other.roles a.roles b.roles;
@@ -27,7 +27,7 @@ says_reordered db one other a b = record {
   mandates = says_same mandates db one.mandates other.mandates a.mandates b.mandates;
 }
 
-pub told_reordered : (db : Trees) (h : History) → SaysHistory db h → IsReordered h (history_in db)
+pub told_reordered : (db : Trees) (h : History) → DecodesHistory db h → IsReordered h (decoded_history db)
 told_reordered db h a = record {
   parties = told_is parties db h.parties a.parties;
   roles = told_is roles db h.roles a.roles;
@@ -42,7 +42,7 @@ told_reordered db h a = record {
 }
 
 -- tables that hold a history decode to it
-pub held_is_said : (db : Trees) (listed : List Moment) (h : History) → HoldsHistory db listed h → SaysHistory db h
+pub held_is_said : (db : Trees) (listed : List Moment) (h : History) → HoldsHistory db listed h → DecodesHistory db h
 held_is_said db listed h held = record {
   parties = held.the_parties.said;
   roles = held.the_roles.said;
@@ -56,14 +56,14 @@ held_is_said db listed h held = record {
   mandates = held.the_mandates.said;
 }
 
-module _ (one : VersionsStandForOne) (order : OrderDoesNotMatter) (db : Trees) (tl : Timeline) (holds : HoldsTimeline db tl) where
+module _ (one : HistoriesRepresentOneTimeline) (order : OrderDoesNotMatter) (db : Trees) (tl : Timeline) (holds : HoldsTimeline db tl) where
   -- tables that represent a sound timeline decode to it
-  pub tells : IsSoundTimeline tl → timeline_in db ≡ tl
-  tells sound = one (told_by moments db) (history_in db) tl
-      (order holds.listed (told_by moments db) holds.history (history_in db) tl holds.stands (told_is moments db holds.listed holds.holds.the_moments)
+  pub tells : IsSoundTimeline tl → decoded_timeline db ≡ tl
+  tells sound = one (decode_rows moments db) (decoded_history db) tl
+      (order holds.listed (decode_rows moments db) holds.history (decoded_history db) tl holds.stands (told_is moments db holds.listed holds.holds.the_moments)
       (told_reordered db holds.history (held_is_said db holds.listed holds.history holds.holds))) sound
 
   -- any history read from tables that represent a timeline represents it
-  pub read_stands : (listed : List Moment) (h : History) → Says moments db listed → SaysHistory db h → StandsFor listed h tl
+  pub read_stands : (listed : List Moment) (h : History) → Says moments db listed → DecodesHistory db h → RepresentsTimeline listed h tl
   read_stands listed h the_moments the_history = order holds.listed listed holds.history h tl holds.stands (says_same moments db holds.listed listed holds.holds.the_moments the_moments)
       (says_reordered db holds.history h (held_is_said db holds.listed holds.history holds.holds) the_history)

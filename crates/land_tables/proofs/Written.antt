@@ -5,7 +5,7 @@ use Rattle.std.proofs.lemmas.Int.{ints}
 use Rattle.land_core.specs.declared.change.Change.{Change}
 use Rattle.land_core.specs.declared.register.Register.{Register}
 use Rattle.land_keep.proofs.Past.{change_stands}
-use Rattle.land_keep.specs.Keeping.{CanWrite, IsLive}
+use Rattle.land_keep.specs.Keeping.{CanWrite, IsHonestAndOpen}
 use Rattle.land_keep.specs.Laws.{WritingKeepsSound}
 use Rattle.land_keep.specs.Machine.{written}
 use Rattle.land_keep.specs.Moments.{last_moment}
@@ -16,19 +16,19 @@ use Rattle.land_tables.proofs.KeptIntervals.{writes_keep_intervals}
 use Rattle.land_tables.proofs.Tellings.{tells}
 use Rattle.land_tables.proofs.ToldIntervals.{told_intervals}
 use Rattle.land_tables.proofs.WrittenTimelines.{stays_last, written_last}
-use Rattle.land_tables.specs.Calls.{IsSafeRead, IsSafeWrite, IsSame, MayRecord}
-use Rattle.land_tables.specs.Office.{HoldsRegister, IsHonest, IsOffice, IsWhole, LeavesEither, Office, Rests, held}
-use Rattle.land_tables.specs.Standing.{HoldsTimeline, timeline_in}
-use Rattle.land_tables.specs.Timelines.Laws.{OrderDoesNotMatter, VersionsStandForOne}
-use Rattle.land_tables.specs.Timelines.Writing.{WritesStand}
+use Rattle.land_tables.specs.Calls.{IsSafeRead, IsSafeWrite, StaysOpenAndSame, MayWriteChange}
+use Rattle.land_tables.specs.TablesState.{HoldsRegister, IsHonest, IsConsistentState, IsTablesState, CrashLeavesOneOf, TablesState, CrashKeeps, held}
+use Rattle.land_tables.specs.Standing.{HoldsTimeline, decoded_timeline}
+use Rattle.land_tables.specs.Timelines.Laws.{OrderDoesNotMatter, HistoriesRepresentOneTimeline}
+use Rattle.land_tables.specs.Timelines.Writing.{WritesRepresentTimelines}
 use Rattle.land_tables_history.specs.Changed.{changed}
 use Rattle.land_tables_history.specs.Intervals.{has_intervals}
-use Rattle.land_tables_rows.specs.Edition.Writing.{current_edition}
+use Rattle.land_tables_rows.specs.Edition.Writing.{v2_edition}
 use Rattle.land_tables_rows.specs.Listing.Reading.{moments}
-use Rattle.land_tables_rows.specs.Listing.Told.{history_in, told_by}
-use Rattle.land_tables_rows.specs.Recording.Whole.{Records}
+use Rattle.land_tables_rows.specs.Listing.Told.{decoded_history, decode_rows}
+use Rattle.land_tables_rows.specs.Recording.Whole.{WritesChange}
 use Rattle.land_tables_rows.specs.Writing.History.{HoldsHistory}
-use Rattle.land_tables_schema.specs.Land.{IsLand}
+use Rattle.land_tables_schema.specs.Schemas.{IsSchemaV2}
 use Rattle.sqlite.proofs.StateLemmas.{survives_then, survives_weaker}
 use Rattle.sqlite.specs.Effect.{Database}
 use Rattle.sqlite.specs.Held.{Held, state}
@@ -45,9 +45,9 @@ next_written tl change stamp sound =
     let last = stays_last (written tl change stamp) stamp sound.rising (least (last_stamp (written tl change stamp)) stamp (written_last tl change stamp)) in
     ap (λ (r : Register). r.next) (sym (change_stands tl change stamp stamp (least stamp stamp refl)) ∙ last)
 
-module _ (one : VersionsStandForOne) (order : OrderDoesNotMatter) (writes : WritesStand) (keeps : WritingKeepsSound) (change : Change) (stamp : ℤ) where
+module _ (one : HistoriesRepresentOneTimeline) (order : OrderDoesNotMatter) (writes : WritesRepresentTimelines) (keeps : WritingKeepsSound) (change : Change) (stamp : ℤ) where
   pub holds_written : (old new : Database) (next : ℕ) (tl : Timeline) → IsSoundTimeline tl → HoldsTimeline old.trees tl → next ≡ (last_register tl).next → CanWrite tl change stamp
-      → Records change next stamp old new → HoldsTimeline new.trees (written tl change stamp)
+      → WritesChange change next stamp old new → HoldsTimeline new.trees (written tl change stamp)
   holds_written old new next tl sound holds is can done = record {
     listed = record { stamp = stamp; next = change.next } ∷ holds.listed;
     history = changed (last_register tl).next change stamp holds.history;
@@ -56,29 +56,29 @@ module _ (one : VersionsStandForOne) (order : OrderDoesNotMatter) (writes : Writ
   }
 
   pub tells_written : (old new : Database) (next : ℕ) (tl : Timeline) → IsSoundTimeline tl → HoldsTimeline old.trees tl → next ≡ (last_register tl).next → CanWrite tl change stamp
-      → Records change next stamp old new → timeline_in new.trees ≡ written tl change stamp
+      → WritesChange change next stamp old new → decoded_timeline new.trees ≡ written tl change stamp
   tells_written old new next tl sound holds is can done =
       tells one order new.trees (written tl change stamp) (holds_written old new next tl sound holds is can done) (keeps tl change stamp sound can)
 
   intervals_written : (old new : Database) (next : ℕ) (tl : Timeline) (sound : IsSoundTimeline tl) (holds : HoldsTimeline old.trees tl) (is : next ≡ (last_register tl).next) (can : CanWrite tl change stamp)
-      (done : Records change next stamp old new) → has_intervals (told_by moments old.trees) (history_in old.trees) ≡ true → has_intervals (told_by moments new.trees) (history_in new.trees) ≡ true
+      (done : WritesChange change next stamp old new) → has_intervals (decode_rows moments old.trees) (decoded_history old.trees) ≡ true → has_intervals (decode_rows moments new.trees) (decoded_history new.trees) ≡ true
   unfolding holds_written
   intervals_written old new next tl sound holds is can done were =
       told_intervals new.trees (written tl change stamp) (holds_written old new next tl sound holds is can done)
       ∙ writes_keep_intervals holds.listed holds.history tl change stamp sound holds.stands can (keeps tl change stamp sound can) (sym (told_intervals old.trees tl holds) ∙ were)
 
-  pub office_written : (old new : State) (last : ℤ) (next : ℕ) → IsOffice old last next → CanWrite (timeline_in old.now.trees) change stamp → Records change next stamp old.now new.now
-      → IsTrue new.is_open → new.committed ≡ new.now → IsOffice new stamp change.next
+  pub office_written : (old new : State) (last : ℤ) (next : ℕ) → IsConsistentState old last next → CanWrite (decoded_timeline old.now.trees) change stamp → WritesChange change next stamp old.now new.now
+      → IsTrue new.is_open → new.committed ≡ new.now → IsConsistentState new stamp change.next
   office_written old new last next office can done is_open committed =
-      let tl = timeline_in old.now.trees in
+      let tl = decoded_timeline old.now.trees in
       let it = office.register in
       let tells_new = tells_written old.now new.now next tl it.sound it.holds office.next can done in
       record {
         register = record {
           is_open = is_open;
           committed = committed;
-          land = subst IsLand (sym done.schema) it.land;
-          edition = done.editions (current_edition ∷ []) it.edition;
+          has_tables = subst IsSchemaV2 (sym done.schema) it.has_tables;
+          edition = done.editions (v2_edition ∷ []) it.edition;
           intervals = intervals_written old.now new.now next tl it.sound it.holds office.next can done it.intervals;
           holds = rw tells_new (holds_written old.now new.now next tl it.sound it.holds office.next can done);
           sound = rw tells_new (keeps tl change stamp it.sound can);
@@ -107,12 +107,12 @@ not_recorded {Commits = Commits} a b c fault register neither first told next = 
 }
 
 -- an unchanged store is as consistent as before
-pub same_office : (a b : State) (last : ℤ) (next : ℕ) → IsOffice a last next → IsSame a b → IsOffice b last next
+pub same_office : (a b : State) (last : ℤ) (next : ℕ) → IsConsistentState a last next → StaysOpenAndSame a b → IsConsistentState b last next
 same_office a b last next office same = record {
   register = record {
     is_open = same.is_open;
     committed = same.committed;
-    land = rw same.now office.register.land;
+    has_tables = rw same.now office.register.has_tables;
     edition = rw same.now office.register.edition;
     intervals = rw same.now office.register.intervals;
     holds = rw same.now office.register.holds;
@@ -126,15 +126,15 @@ same_office a b last next office same = record {
 abbrev pub Settles : {S : Type 0} → Ghosts S → Held S → Type 0
 Settles g conn = (db : Trees) → IsTrue (state g conn).is_open → (state g conn).may_leave db → db ≡ (state g conn).committed.trees
 
-pub rests : {S : Type 0} (g : Ghosts S) (o : Office S) → Settles g o.conn → IsWhole g o → Rests g o
+pub rests : {S : Type 0} (g : Ghosts S) (o : TablesState S) → Settles g o.conn → IsTablesState g o → CrashKeeps g o
 rests g o settles whole open_still clean db may =
     let it = (whole.office (clean, open_still)).register in
     let left : db ≡ (state g o.conn).now.trees = settles db it.is_open may ∙ ap (λ (d : Database). d.trees) it.committed in
     rw left it.holds
 
 -- a call leaves the state that it found, or the one that it committed
-pub leaves_either : {S : Type 0} (g : Ghosts S) (old new : Office S) (after : Timeline) → Settles g old.conn → IsWhole g old
-    → (old.is_closed ≡ false → Survives (state g old.conn) (state g new.conn) (λ db. HoldsTimeline db after)) → LeavesEither g old new (held g old) after
+pub leaves_either : {S : Type 0} (g : Ghosts S) (old new : TablesState S) (after : Timeline) → Settles g old.conn → IsTablesState g old
+    → (old.is_closed ≡ false → Survives (state g old.conn) (state g new.conn) (λ db. HoldsTimeline db after)) → CrashLeavesOneOf g old new (held g old) after
 leaves_either g old new after settles whole survives open_still clean db may = go ((survives open_still).crash clean db may)
   where
     go : (state g old.conn).may_leave db ⊎ HoldsTimeline db after → HoldsTimeline db (held g old) ⊎ HoldsTimeline db after
@@ -142,8 +142,8 @@ leaves_either g old new after settles whole survives open_still clean db may = g
     go (inr commits) = inr commits
 
 -- tables after a write
-module _ {S : Type 0} (g : Ghosts S) (one : VersionsStandForOne) (order : OrderDoesNotMatter) (writes : WritesStand) (keeps : WritingKeepsSound) (change : Change) (stamp : ℤ)
-    (now : Office S) (whole : IsWhole g now) (open_still : now.is_closed ≡ false) (can : IsLive (IsHonest g now) now.is_closed → CanWrite (held g now) change stamp) (conn : Held S) where
+module _ {S : Type 0} (g : Ghosts S) (one : HistoriesRepresentOneTimeline) (order : OrderDoesNotMatter) (writes : WritesRepresentTimelines) (keeps : WritingKeepsSound) (change : Change) (stamp : ℤ)
+    (now : TablesState S) (whole : IsTablesState g now) (open_still : now.is_closed ≡ false) (can : IsHonestAndOpen (IsHonest g now) now.is_closed → CanWrite (held g now) change stamp) (conn : Held S) where
   abbrev a : State
   a = state g now.conn
 
@@ -151,34 +151,34 @@ module _ {S : Type 0} (g : Ghosts S) (one : VersionsStandForOne) (order : OrderD
   b = state g conn
 
   abbrev IsSafe : Result (Unit {0}) StoreFault → Type 0
-  IsSafe r = IsSafeWrite r (Records change now.next stamp) (MayRecord change now.next stamp (state g now.conn).now) (state g now.conn) (state g conn)
+  IsSafe r = IsSafeWrite r (WritesChange change now.next stamp) (MayWriteChange change now.next stamp (state g now.conn).now) (state g now.conn) (state g conn)
 
   pub crash_written : (r : Result (Unit {0}) StoreFault) → IsSafe r → Survives (state g now.conn) (state g conn) (λ db. HoldsTimeline db (written (held g now) change stamp))
-  crash_written r safe = survives_weaker a b (MayRecord change now.next stamp a.now) (λ db. HoldsTimeline db (written (held g now) change stamp))
+  crash_written r safe = survives_weaker a b (MayWriteChange change now.next stamp a.now) (λ db. HoldsTimeline db (written (held g now) change stamp))
       (λ clean db may.
-      let live : IsLive (IsHonest g now) now.is_closed = (clean_before a b safe.survives clean, open_still) in
+      let live : IsHonestAndOpen (IsHonest g now) now.is_closed = (clean_before a b safe.survives clean, open_still) in
       let office = whole.office live in
       subst (λ trees. HoldsTimeline trees (written (held g now) change stamp)) (sym may.2)
       (holds_written one order writes keeps change stamp a.now may.0 now.next (held g now) office.register.sound office.register.holds office.next (can live) may.1))
       safe.survives
 
-  pub timeline_written : IsSafe (Ok tt) → IsHonest g (record now { conn = conn }) → timeline_in (state g conn).now.trees ≡ written (held g now) change stamp
+  pub timeline_written : IsSafe (Ok tt) → IsHonest g (record now { conn = conn }) → decoded_timeline (state g conn).now.trees ≡ written (held g now) change stamp
   timeline_written safe clean =
-      let live : IsLive (IsHonest g now) now.is_closed = (clean_before a b safe.survives clean, open_still) in
+      let live : IsHonestAndOpen (IsHonest g now) now.is_closed = (clean_before a b safe.survives clean, open_still) in
       let office = whole.office live in
       tells_written one order writes keeps change stamp a.now b.now now.next (held g now) office.register.sound office.register.holds office.next (can live) (safe.done clean)
 
-  pub whole_written : (closed : Bool) → conn.in_transaction ≡ false → stamp ≤ℤ last_moment → IsSafe (Ok tt) → IsWhole g (record { conn = conn; last = stamp; next = change.next; is_closed = closed })
+  pub whole_written : (closed : Bool) → conn.in_transaction ≡ false → stamp ≤ℤ last_moment → IsSafe (Ok tt) → IsTablesState g (record { conn = conn; last = stamp; next = change.next; is_closed = closed })
   whole_written closed alone moment safe = record {
     alone = alone;
     moment = moment;
     office = λ still. (
-        let live : IsLive (IsHonest g now) now.is_closed = (clean_before a b safe.survives still.0, open_still) in
+        let live : IsHonestAndOpen (IsHonest g now) now.is_closed = (clean_before a b safe.survives still.0, open_still) in
         office_written one order writes keeps change stamp a b now.last now.next (whole.office live) (can live) (safe.done still.0) (safe.kept still.0).0 (safe.kept still.0).1);
   }
 
   pub whole_unwritten : (fault : StoreFault) (closed : Bool) → (closed ≡ false → fault ≢ Store) → conn.in_transaction ≡ false → IsSafe (Err fault)
-      → IsWhole g (record { conn = conn; last = now.last; next = now.next; is_closed = closed })
+      → IsTablesState g (record { conn = conn; last = now.last; next = now.next; is_closed = closed })
   whole_unwritten fault closed other alone safe = record {
     alone = alone;
     moment = whole.moment;
@@ -186,9 +186,9 @@ module _ {S : Type 0} (g : Ghosts S) (one : VersionsStandForOne) (order : OrderD
   }
 
 -- tables after a failed read
-pub whole_read : {S X : Type 0} (g : Ghosts S) (now : Office S) → IsWhole g now → now.is_closed ≡ false → (conn : Held S) (closed : Bool) → conn.in_transaction ≡ false
+pub whole_read : {S X : Type 0} (g : Ghosts S) (now : TablesState S) → IsTablesState g now → now.is_closed ≡ false → (conn : Held S) (closed : Bool) → conn.in_transaction ≡ false
     → (fault : StoreFault) (Given : X → Type 0) → (closed ≡ false → fault ≢ Store) → IsSafeRead (Err fault) Given (state g now.conn) (state g conn)
-    → IsWhole g (record { conn = conn; last = now.last; next = now.next; is_closed = closed })
+    → IsTablesState g (record { conn = conn; last = now.last; next = now.next; is_closed = closed })
 whole_read {X = X} g now whole open_still conn closed alone fault Given other safe = record {
   alone = alone;
   moment = whole.moment;

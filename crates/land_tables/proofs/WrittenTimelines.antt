@@ -7,7 +7,7 @@ use Rattle.land_core.specs.Changes.{after}
 use Rattle.land_core.specs.Register.{nothing}
 use Rattle.land_core.specs.declared.change.Change.{Change}
 use Rattle.land_keep.specs.Machine.{written}
-use Rattle.land_keep.specs.Timeline.{IsRising, Rises, Timeline, last_from, last_register, last_stamp, last_version, register_at}
+use Rattle.land_keep.specs.Timeline.{IsIncreasing, IncreasesFrom, Timeline, last_from, last_register, last_stamp, last_version, register_at}
 use Rattle.land_keep.specs.declared.timeline.Version.{Version}
 
 is_reached : (t stamp : ℤ) → stamp ≤ℤ t → int_le stamp t ≡ true
@@ -16,19 +16,19 @@ is_reached t stamp le = grind (arith, ints)
 earlier : (a b c : ℤ) → a <ℤ b → b ≤ℤ c → a ≤ℤ c
 earlier a b c less le = omega (arith, ints)
 
-pub first_before_last : (v : Version) (vs : Timeline) (t : ℤ) → Rises v vs → (last_from v vs).stamp ≤ℤ t → v.stamp ≤ℤ t
+pub first_before_last : (v : Version) (vs : Timeline) (t : ℤ) → IncreasesFrom v vs → (last_from v vs).stamp ≤ℤ t → v.stamp ≤ℤ t
 first_before_last v [] t rises le = le
 first_before_last v (w ∷ ws) t rises le = earlier v.stamp w.stamp t rises.0 (first_before_last w ws t rises.2 le)
 
 -- at and after the last stamp the last version is selected
-found_last : (v : Version) (vs : Timeline) (t : ℤ) → Rises v vs → (last_from v vs).stamp ≤ℤ t
+found_last : (v : Version) (vs : Timeline) (t : ℤ) → IncreasesFrom v vs → (last_from v vs).stamp ≤ℤ t
     → fold (λ found v. if int_le v.stamp t then Some v else found) (Some v) vs ≡ Some (last_from v vs)
 found_last v [] t rises le = refl
 found_last v (w ∷ ws) t rises le =
     ap (λ b. fold (λ found v. if int_le v.stamp t then Some v else found) (cond b (Some w) (Some v)) ws) (is_reached t w.stamp (first_before_last w ws t rises.2 le))
     ∙ found_last w ws t rises.2 le
 
-pub stays_last : (tl : Timeline) (t : ℤ) → IsRising tl → last_stamp tl ≤ℤ t → register_at tl t ≡ last_register tl
+pub stays_last : (tl : Timeline) (t : ℤ) → IsIncreasing tl → last_stamp tl ≤ℤ t → register_at tl t ≡ last_register tl
 stays_last [] t rising le = absurd rising
 stays_last (v ∷ vs) t rising le =
     ap (λ b. unwrap_or (option_map (λ v. v.register) (fold (λ found v. if int_le v.stamp t then Some v else found) (cond b (Some v) None) vs)) nothing)

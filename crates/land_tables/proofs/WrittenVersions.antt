@@ -15,11 +15,11 @@ use Rattle.land_keep.specs.Timeline.{IsSoundTimeline, Timeline, last_register, l
 use Rattle.land_keep.specs.declared.timeline.Version.{Version}
 use Rattle.land_tables.proofs.PutMutations.{accepted_puts}
 use Rattle.land_tables.proofs.WrittenTimelines.{stays_last, written_last}
-use Rattle.land_tables.specs.Timelines.{StandsFor, moment_of}
-use Rattle.land_tables.specs.Timelines.Writing.{WritesStand}
+use Rattle.land_tables.specs.Timelines.{RepresentsTimeline, moment_of}
+use Rattle.land_tables.specs.Timelines.Writing.{WritesRepresentTimelines}
 use Rattle.land_tables_history.proofs.Changes as changes
 use Rattle.land_tables_history.specs.Changed.{changed}
-use Rattle.land_tables_history.specs.History.{StandsAt}
+use Rattle.land_tables_history.specs.History.{IsRegisterAt}
 use Rattle.land_tables_history.specs.Open.{have_ended, never}
 use Rattle.land_tables_history.specs.declared.history.History.{History}
 use Rattle.land_tables_history.specs.declared.moment.Moment.{Moment}
@@ -35,7 +35,7 @@ before_never t le = omega (arith, ints)
 last_before : (last stamp t : ℤ) → last <ℤ stamp → stamp ≤ℤ t → last ≤ℤ t
 last_before last stamp t less le = omega (arith, ints)
 
-module _ (moments : List Moment) (h : History) (tl : Timeline) (change : Change) (stamp : ℤ) (sound : IsSoundTimeline tl) (for : StandsFor moments h tl) (can : CanWrite tl change stamp) where
+module _ (moments : List Moment) (h : History) (tl : Timeline) (change : Change) (stamp : ℤ) (sound : IsSoundTimeline tl) (for : RepresentsTimeline moments h tl) (can : CanWrite tl change stamp) where
   moments_stand : IsPermutation (map_list moment_of (written tl change stamp)) (record { stamp = stamp; next = change.next } ∷ moments)
   moments_stand =
       let w : Version = record { stamp = stamp; register = after change (last_register tl) } in
@@ -46,25 +46,25 @@ module _ (moments : List Moment) (h : History) (tl : Timeline) (change : Change)
   abbrev after_it : History
   after_it = changed (last_register tl).next change stamp h
 
-  past_part : (t : ℤ) → IsMoment t → t <ℤ stamp → StandsAt t after_it (register_at (written tl change stamp) t)
+  past_part : (t : ℤ) → IsMoment t → t <ℤ stamp → IsRegisterAt t after_it (register_at (written tl change stamp) t)
   past_part t moment less =
-      subst (StandsAt t after_it) (sym (past.past_stays tl change stamp t less))
+      subst (IsRegisterAt t after_it) (sym (past.past_stays tl change stamp t less))
       (changes.past_stands (last_register tl).next change stamp t h (register_at tl t) less (before_never t moment.1) (for.stands t moment))
 
-  new_part : (t : ℤ) → IsMoment t → stamp ≤ℤ t → StandsAt t after_it (register_at (written tl change stamp) t)
+  new_part : (t : ℤ) → IsMoment t → stamp ≤ℤ t → IsRegisterAt t after_it (register_at (written tl change stamp) t)
   new_part t moment since =
       let last = last_is_sound tl sound in
-      subst (StandsAt t after_it) (sym (past.change_stands tl change stamp t since))
+      subst (IsRegisterAt t after_it) (sym (past.change_stands tl change stamp t since))
       (changes.change_stands change (last_stamp tl) stamp t h (last_register tl) for.ended can.later since (before_never t moment.1)
       (accepted_once (last_register tl) change stamp last can.made) (accepted_puts (last_register tl) change stamp last can.made)
-      (subst (StandsAt t h) (stays_last tl t sound.rising (last_before (last_stamp tl) stamp t can.later since)) (for.stands t moment)))
+      (subst (IsRegisterAt t h) (stays_last tl t sound.rising (last_before (last_stamp tl) stamp t can.later since)) (for.stands t moment)))
 
-  stands_for : StandsFor (record { stamp = stamp; next = change.next } ∷ moments) after_it (written tl change stamp)
+  stands_for : RepresentsTimeline (record { stamp = stamp; next = change.next } ∷ moments) after_it (written tl change stamp)
   stands_for = record {
     moments = moments_stand;
     stands = λ t moment. by_lt_z t stamp (past_part t moment) (new_part t moment);
     ended = subst (λ (last : ℤ). have_ended last after_it ≡ true) (sym (written_last tl change stamp)) (changes.changed_have_ended (last_register tl).next change (last_stamp tl) stamp h for.ended can.later);
   }
 
-pub writes_stand : WritesStand
-writes_stand = stands_for
+pub writes_represent_timelines : WritesRepresentTimelines
+writes_represent_timelines = stands_for

@@ -6,13 +6,13 @@ use Rattle.land_tables.specs.declared.fault.AdoptFault.TheVariants.{NoMemory, St
 use Rattle.land_tables_rows.specs.declared.listing.fault.ReadFault.{ReadFault}
 use Rattle.land_tables_rows.specs.declared.listing.fault.ReadFault.TheVariants as read
 
-abbrev pub number_of : AdoptFault → ℕ
-number_of NotOurs = 520
-number_of Interval = 521
-number_of Unsound = 522
-number_of Version = 523
-number_of NoMemory = 501
-number_of Store = 502
+abbrev pub adopt_fault_number : AdoptFault → ℕ
+adopt_fault_number NotOurs = 520
+adopt_fault_number Interval = 521
+adopt_fault_number Unsound = 522
+adopt_fault_number Version = 523
+adopt_fault_number NoMemory = 501
+adopt_fault_number Store = 502
 
 -- the fault of a failed read
 abbrev pub of_read : ReadFault → AdoptFault

@@ -2,9 +2,9 @@
 pub mod Adopting
 pub mod Calls
 pub mod Faults
-pub mod Findings
+pub mod TableContents
 pub mod Migrating
-pub mod Office
+pub mod TablesState
 pub mod Registers
 pub mod Standing
 pub mod Timelines

@@ -2,39 +2,39 @@
 use Rattle.std.specs.Prelude.{◌≡◌, ℤ, List, []}
 use Rattle.land_core.specs.declared.register.Register.{Register}
 use Rattle.land_keep.specs.Timeline.{Timeline}
-use Rattle.land_tables.specs.Timelines.{StandsFor, timeline_of}
+use Rattle.land_tables.specs.Timelines.{RepresentsTimeline, timeline_of}
 use Rattle.land_tables_history.specs.History.{register_at}
 use Rattle.land_tables_history.specs.Moments.{next_at}
 use Rattle.land_tables_history.specs.declared.history.History.{History}
 use Rattle.land_tables_history.specs.declared.moment.Moment.{Moment}
-use Rattle.land_tables_rows.specs.Listing.Reading.{Says, SaysHistory, moments}
-use Rattle.land_tables_rows.specs.Listing.Told.{history_in, told_by}
+use Rattle.land_tables_rows.specs.Listing.Reading.{Says, DecodesHistory, moments}
+use Rattle.land_tables_rows.specs.Listing.Told.{decoded_history, decode_rows}
 use Rattle.land_tables_rows.specs.Writing.History.{HoldsHistory}
 use Rattle.land_tables_schema.specs.Tables.{mandate}
 use Rattle.sqlite_trees.specs.Tree.{Trees, with_tree}
 
 -- the timeline that tables represent, if they represent one
-abbrev pub timeline_in : Trees → Timeline
-timeline_in db = timeline_of (told_by moments db) (history_in db)
+abbrev pub decoded_timeline : Trees → Timeline
+decoded_timeline db = timeline_of (decode_rows moments db) (decoded_history db)
 
 -- the tables as if that of mandates had no rows, since schema version 1 does not have it
 abbrev pub without_mandates : Trees → Trees
 without_mandates db = with_tree db mandate.tree []
 
 -- the timeline that tables of schema version 1 represent, if they represent one
-abbrev pub first_timeline_in : Trees → Timeline
-first_timeline_in db = timeline_in (without_mandates db)
+abbrev pub decoded_timeline_v1 : Trees → Timeline
+decoded_timeline_v1 db = decoded_timeline (without_mandates db)
 
 -- tables represent a timeline: they hold moments and versions that do
 pub record HoldsTimeline (db : Trees) (tl : Timeline) : Type 0 where
   pub listed : List Moment
   pub history : History
   pub holds : HoldsHistory db listed history
-  pub stands : StandsFor listed history tl
+  pub stands : RepresentsTimeline listed history tl
 
 -- the register read from tables at a moment: its current versions, with the next number of the latest moment
 -- up to it
 abbrev pub ReadsAt : Trees → ℤ → Register → Type 0
 ReadsAt db t register =
-    (listed : List Moment) × (history : History) × Says moments db listed × SaysHistory db history
+    (listed : List Moment) × (history : History) × Says moments db listed × DecodesHistory db history
     × (register ≡ register_at t history (next_at listed t))

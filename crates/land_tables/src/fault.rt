@@ -24,11 +24,11 @@ pub enum AdoptFault {
 }
 
 impl AdoptFault {
-    ghost use Rattle.land_tables.specs.Faults.{number_of};
+    ghost use Rattle.land_tables.specs.Faults.{adopt_fault_number};
 
     /// Returns the number of the error.
     pub fn number(self) -> u16
-        ensures { result ≡ number_of self }
+        ensures { result ≡ adopt_fault_number self }
     {
         match self {
             AdoptFault::NotOurs => 520,

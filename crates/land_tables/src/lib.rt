@@ -1,16 +1,16 @@
 //! The register's timeline in versioned tables of `sqlite`.
 #![tactic(auto)]
 
-mod adopting;
+mod opening;
 mod creating;
-pub mod failing;
+pub mod failed_reads;
 pub mod fault;
-mod finding;
-mod judging;
+mod table_contents;
+mod validation;
 mod migrating;
 mod register;
-mod shaped;
+mod store_versions;
 pub mod table_keeper;
 pub mod tables;
 pub mod timelines;
-mod writing;
+mod committing;

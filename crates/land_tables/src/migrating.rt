@@ -5,35 +5,35 @@ ghost use Rattle.land_tables.specs.Calls.{CommitsNothing, IsCommittedIfOpen, IsL
 ghost use Rattle.land_tables.specs.Migrating.{IsMigration};
 ghost use Rattle.land_tables.specs.declared.fault.AdoptFault.TheVariants as why;
 ghost use Rattle.land_tables_schema.specs.Connections.{LeavesAutocommit};
-ghost use Rattle.land_tables_schema.specs.Land.{IsRaisable};
-ghost use Rattle.land_tables_schema.specs.Rows.Raising.{MayRaise, Raises};
+ghost use Rattle.land_tables_schema.specs.Schemas.{IsMigratable};
+ghost use Rattle.land_tables_schema.specs.Rows.SchemaMigration.{MayMigrate, Migrates};
 ghost use Rattle.sqlite.specs.Held.{state};
 ghost use Rattle.sqlite.specs.State.{HasCleanDisk, IsUnchanged, Survives};
 
-use crate::adopting::first_store;
-use crate::failing::failed;
+use crate::opening::open_v1_store;
+use crate::failed_reads::fault_after;
 use crate::fault::AdoptFault;
-use crate::timelines::laws::{order_does_not_matter, versions_stand_for_one};
+use crate::timelines::laws::{order_does_not_matter, histories_represent_one_timeline};
 use land_keep::store_fault::StoreFault;
 use land_tables_history::moment::Moment;
 use land_tables_rows::listing::fault::ReadFault;
-use land_tables_rows::writing::laws::raised_registers_are_held;
-use land_tables_schema::first_version::can_raise;
-use land_tables_schema::rows::raising::raise_register;
+use land_tables_rows::committing::laws::migrated_registers_are_held;
+use land_tables_schema::schema_v1::can_migrate;
+use land_tables_schema::rows::schema_migration::migrate_register;
 use sqlite::{Alter, Connection, Error};
 use std::alloc::Global;
 
 /// Returns the fault of a failed migration: `NoMemory` (501) if out of memory and the store is still open,
 /// else `Store` (502).
-fn not_raised<S: Alter>(conn: &mut Connection<S>, error: Error) -> AdoptFault
+fn migration_fault<S: Alter>(conn: &mut Connection<S>, error: Error) -> AdoptFault
     ensures fault { (result ≡ why.NoMemory) ⊎ (result ≡ why.Store) }
     ensures same { HasCleanDisk (state S.Store conn.new) → result ≢ why.Store
         → IsUnchanged (state S.Store conn.old) (state S.Store conn.new) }
     ensures left { IsLeftIfOpen S.Store conn.old conn.new }
     ensures survives { CommitsNothing S.Store conn.old conn.new }
-    ensures mode { LeavesAutocommit conn.old conn.new }
+    ensures autocommit { LeavesAutocommit conn.old conn.new }
 {
-    match failed(conn, ReadFault::from(error)) {
+    match fault_after(conn, ReadFault::from(error)) {
         StoreFault::NoMemory => AdoptFault::NoMemory,
         StoreFault::Store | StoreFault::Closed => AdoptFault::Store,
     }
@@ -43,14 +43,14 @@ fn not_raised<S: Alter>(conn: &mut Connection<S>, error: Error) -> AdoptFault
 /// whose last store operation is the commit. Returns the given moment of its last change. Errors: `NoMemory`
 /// (501); `Store` (502) on a store error, or if its next table would not get the tree of the mandates, in
 /// which case nothing is done. A store that is open after an error is unchanged.
-fn raise_store<S: Alter>(conn: &mut Connection<S>, latest: Moment) -> Result<Moment, AdoptFault>
+fn upgrade_store<S: Alter>(conn: &mut Connection<S>, latest: Moment) -> Result<Moment, AdoptFault>
     requires alone { conn.old.in_transaction ≡ false }
     requires settled { HasCleanDisk (state S.Store conn.old)
         → (state S.Store conn.old).now ≡ (state S.Store conn.old).committed }
     ensures latest { IfOk result (λ it. it ≡ latest) }
-    ensures raisable { OnOk result (IsRaisable (state S.Store conn.old).now.schema) }
+    ensures raisable { OnOk result (IsMigratable (state S.Store conn.old).now.schema) }
     ensures done { HasCleanDisk (state S.Store conn.new)
-        → OnOk result (Raises (state S.Store conn.old).now (state S.Store conn.new).now) }
+        → OnOk result (Migrates (state S.Store conn.old).now (state S.Store conn.new).now) }
     ensures committed { HasCleanDisk (state S.Store conn.new)
         → OnOk result ((state S.Store conn.new).committed ≡ (state S.Store conn.new).now) }
     ensures open { HasCleanDisk (state S.Store conn.new)
@@ -63,15 +63,15 @@ fn raise_store<S: Alter>(conn: &mut Connection<S>, latest: Moment) -> Result<Mom
         (((state S.Store conn.new).now ≡ (state S.Store conn.old).committed)
         × ((state S.Store conn.new).committed ≡ (state S.Store conn.old).committed)) }
     ensures crash { Survives (state S.Store conn.old) (state S.Store conn.new)
-        (MayRaise (state S.Store conn.old).now) }
+        (MayMigrate (state S.Store conn.old).now) }
     ensures ended { conn.new.in_transaction ≡ false }
 {
-    if !can_raise(conn.schema()) {
+    if !can_migrate(conn.schema()) {
         return Err(AdoptFault::Store);
     }
-    match raise_register(conn) {
+    match migrate_register(conn) {
         Ok(()) => Ok(latest),
-        Err(error) => Err(not_raised(conn, error)),
+        Err(error) => Err(migration_fault(conn, error)),
     }
 }
 
@@ -88,11 +88,11 @@ pub(crate) fn migrate_store<S: Alter>(
     ensures moment { IfOk result (λ latest. latest.stamp ≤ℤ last_moment) }
     ensures ended { conn.new.in_transaction ≡ false }
 {
-    versions_stand_for_one();
+    histories_represent_one_timeline();
     order_does_not_matter();
-    raised_registers_are_held();
-    match first_store(alloc, conn) {
-        Ok(latest) => raise_store(conn, latest),
+    migrated_registers_are_held();
+    match open_v1_store(alloc, conn) {
+        Ok(latest) => upgrade_store(conn, latest),
         Err(fault) => Err(fault),
     }
 }

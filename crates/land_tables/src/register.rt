@@ -3,16 +3,16 @@ ghost use Rattle.std.specs.Prelude.{◌≡◌, ◌≢◌, Err};
 ghost use Rattle.land_keep.specs.Timeline.{register_at};
 ghost use Rattle.land_keep.specs.declared.store_fault.StoreFault.TheVariants as store;
 ghost use Rattle.land_tables.specs.Calls.{IsSafeRead};
-ghost use Rattle.land_tables.specs.Office.{HoldsRegister};
-ghost use Rattle.land_tables.specs.Standing.{ReadsAt, timeline_in};
+ghost use Rattle.land_tables.specs.TablesState.{HoldsRegister};
+ghost use Rattle.land_tables.specs.Standing.{ReadsAt, decoded_timeline};
 ghost use Rattle.land_tables_rows.specs.Effects.{ReadsTables};
 ghost use Rattle.land_tables_schema.specs.Connections.{HasRegisterTables, LeavesAutocommit};
 ghost use Rattle.sqlite.specs.Held.{state};
 ghost use Rattle.sqlite.specs.State.{HasCleanDisk};
 
-use crate::failing::failed;
+use crate::failed_reads::fault_after;
 use crate::timelines::laws::{
-    order_does_not_matter, reading_is_the_register, versions_stand_for_one,
+    order_does_not_matter, reading_is_the_register, histories_represent_one_timeline,
 };
 use land_core::limits::LAST_MOMENT;
 use land_core::register::Register;
@@ -32,8 +32,8 @@ fn read_tables<S: Alter>(
     at: i64,
 ) -> Result<Register, ReadFault>
     requires { HasRegisterTables S.Store conn.old }
-    ensures look { ReadsTables S.Store result (λ db. ReadsAt db at) conn.old conn.new }
-    ensures mode { LeavesAutocommit conn.old conn.new }
+    ensures reads_only { ReadsTables S.Store result (λ db. ReadsAt db at) conn.old conn.new }
+    ensures autocommit { LeavesAutocommit conn.old conn.new }
 {
     let moments = moments(alloc, conn)?;
     let history = history(alloc, conn)?;
@@ -48,17 +48,17 @@ fn read_at<S: Alter>(
     conn: &mut Connection<S>,
     at: i64,
 ) -> Result<Register, StoreFault>
-    requires land { HasRegisterTables S.Store conn.old }
+    requires has_tables { HasRegisterTables S.Store conn.old }
     requires committed { HasCleanDisk (state S.Store conn.old)
         → (state S.Store conn.old).committed ≡ (state S.Store conn.old).now }
     ensures open { result ≢ Err store.Closed }
     ensures safe { IsSafeRead result (ReadsAt (state S.Store conn.old).now.trees at) (state S.Store conn.old)
         (state S.Store conn.new) }
-    ensures mode { LeavesAutocommit conn.old conn.new }
+    ensures autocommit { LeavesAutocommit conn.old conn.new }
 {
     match read_tables(alloc, conn, at) {
         Ok(register) => Ok(register),
-        Err(fault) => Err(failed(conn, fault)),
+        Err(fault) => Err(fault_after(conn, fault)),
     }
 }
 
@@ -72,11 +72,11 @@ pub(crate) fn register_in<S: Alter>(
     requires { HasCleanDisk (state S.Store conn.old) → HoldsRegister (state S.Store conn.old) }
     ensures open { result ≢ Err store.Closed }
     ensures safe { IsSafeRead result
-        (λ it. it ≡ register_at (timeline_in (state S.Store conn.old).now.trees) at) (state S.Store conn.old)
+        (λ it. it ≡ register_at (decoded_timeline (state S.Store conn.old).now.trees) at) (state S.Store conn.old)
         (state S.Store conn.new) }
-    ensures mode { LeavesAutocommit conn.old conn.new }
+    ensures autocommit { LeavesAutocommit conn.old conn.new }
 {
-    versions_stand_for_one();
+    histories_represent_one_timeline();
     order_does_not_matter();
     reading_is_the_register();
     if at < 0 {

@@ -12,7 +12,7 @@ use land_core::kind::Kind;
 use land_core::object::Object;
 use land_core::sequence::{NumberList, Sequence};
 use land_keep::keeper::Keeper;
-use land_keep::moments::named_moment;
+use land_keep::moments::explicit_moment;
 use land_keep::named::{NamedObject, objects_of};
 use land_keep::store_fault::StoreFault;
 use land_keep::view::{View, view_of};
@@ -56,7 +56,7 @@ impl<S: Alter> Keeper for TableKeeper<S> {
     ghost use Rattle.land_keep.specs.Named.{objects_at};
     ghost use Rattle.land_keep.specs.Sheets.{view_at};
     ghost use Rattle.land_keep.specs.Timeline.{last_stamp};
-    ghost use Rattle.land_tables.specs.Office.{IsHonest, held};
+    ghost use Rattle.land_tables.specs.TablesState.{IsHonest, held};
 
     ghost timeline = { λ keeper. held S.Store keeper.tables };
 
@@ -79,7 +79,7 @@ impl<S: Alter> Keeper for TableKeeper<S> {
         ask: &Ask,
         now: i64,
     ) -> Result<Verdict, StoreFault> {
-        let at = named_moment(ask).unwrap_or(now);
+        let at = explicit_moment(ask).unwrap_or(now);
         let newest = self.tables.last_register(alloc)?;
         if self.tables.last() <= at {
             return Ok(verdict(&newest, &newest, caller, ask, at < now));

@@ -6,24 +6,24 @@ ghost use Rattle.land_keep.specs.Moments.{last_moment};
 ghost use Rattle.land_keep.specs.Timeline.{IsSoundTimeline, last_register, last_stamp, new_timeline};
 ghost use Rattle.land_keep.specs.Timeline.{register_at};
 ghost use Rattle.land_keep.specs.declared.store_fault.StoreFault.TheVariants as store;
-ghost use Rattle.land_tables.specs.Adopting.{HoldsNone, IsAdopted, IsRefused};
-ghost use Rattle.land_tables.specs.Calls.{IsSame};
-ghost use Rattle.land_tables.specs.Migrating.{AreRaised, IsMigrated, LeavesOrRaises, StaysSame};
-ghost use Rattle.land_tables.specs.Registers.{IsRegister, the_first, the_second};
+ghost use Rattle.land_tables.specs.Adopting.{HoldsNoRegister, IsAdopted, IsRefused};
+ghost use Rattle.land_tables.specs.Calls.{StaysOpenAndSame};
+ghost use Rattle.land_tables.specs.Migrating.{IsMigratedFrom, IsMigrated, CrashLeavesOldOrMigrated, StaysSameAfterCrash};
+ghost use Rattle.land_tables.specs.Registers.{IsRegister, version_1, version_2};
 ghost use Rattle.land_tables.specs.Standing.{HoldsTimeline};
 ghost use Rattle.land_tables.specs.declared.fault.AdoptFault.TheVariants as why;
-ghost use Rattle.land_tables_schema.specs.Land.{no_schema};
+ghost use Rattle.land_tables_schema.specs.Schemas.{no_schema};
 ghost use Rattle.sqlite.specs.Held.{state};
 ghost use Rattle.sqlite.specs.State.{HasCleanDisk, Survives};
 
-use crate::adopting::adopt_store;
-use crate::creating::begin_register;
+use crate::opening::open_v2_store;
+use crate::creating::create_tables;
 use crate::fault::AdoptFault;
 use crate::migrating::migrate_store;
 use crate::register::register_in;
-use crate::timelines::laws::{order_does_not_matter, versions_stand_for_one};
-use crate::timelines::writing_laws::writes_stand;
-use crate::writing::record;
+use crate::timelines::laws::{order_does_not_matter, histories_represent_one_timeline};
+use crate::timelines::writing_laws::writes_represent_timelines;
+use crate::committing::record;
 use land_core::change::Change;
 use land_core::register::Register;
 use land_keep::laws::writing_keeps_soundness;
@@ -45,15 +45,15 @@ pub struct Tables<S: Alter> {
 }
 
 impl<S: Alter> Model for Tables<S> {
-    ghost use Rattle.land_tables.specs.Office.{IsWhole, Office, office_code};
+    ghost use Rattle.land_tables.specs.TablesState.{IsTablesState, TablesState, tables_code};
 
-    ghost Value = { Office S };
+    ghost Value = { TablesState S };
 
-    ghost coded = { office_code S.code };
+    ghost coded = { tables_code S.code };
 
     ghost view = { λ t. record { conn = t.conn; last = t.last; next = t.next; is_closed = t.is_closed } };
 
-    ghost invariant = { λ t. IsWhole S.Store (record { conn = t.conn; last = t.last; next = t.next; is_closed = t.is_closed }) };
+    ghost invariant = { λ t. IsTablesState S.Store (record { conn = t.conn; last = t.last; next = t.next; is_closed = t.is_closed }) };
 }
 
 impl<S: Alter + Drop> Drop for Tables<S> {
@@ -68,9 +68,9 @@ impl<S: Alter + Drop> Drop for Tables<S> {
 }
 
 impl<S: Alter> Tables<S> {
-    ghost use Rattle.land_tables.specs.Office.{IsCreated, IsHonest, IsWorking, IsKept, LeavesEither};
-    ghost use Rattle.land_tables.specs.Office.{LeavesOrBegins};
-    ghost use Rattle.land_tables.specs.Office.{Rests, StaysUntouched, held};
+    ghost use Rattle.land_tables.specs.TablesState.{IsCreated, IsHonest, IsWorking, IsOldOrCommitted, CrashLeavesOneOf};
+    ghost use Rattle.land_tables.specs.TablesState.{CrashLeavesOldOrNew};
+    ghost use Rattle.land_tables.specs.TablesState.{CrashKeeps, StaysUntouchedByCrash, held};
 
     /// Creates the tables of a new register in an empty store, in one transaction. Errors: `Store` (502) if
     /// the store has tables or a transaction is active, in which case nothing is done, or on a store error;
@@ -79,23 +79,23 @@ impl<S: Alter> Tables<S> {
         ensures begun { conn.in_transaction ≡ true → result ≡ Err (conn, store.Store) }
         ensures taken { (state S.Store conn).now.schema ≢ no_schema → result ≡ Err (conn, store.Store) }
         ensures created { IfOk result (IsCreated S.Store) }
-        ensures kept { IfErr result (λ e. IsKept (state S.Store conn) (state S.Store e.0)) }
+        ensures kept { IfErr result (λ e. IsOldOrCommitted (state S.Store conn) (state S.Store e.0)) }
         ensures crash_after { IfOk result
             (λ t. Survives (state S.Store conn) (state S.Store t.conn)
             (λ db. HoldsTimeline db new_timeline)) }
         ensures crash { IfErr result
             (λ e. Survives (state S.Store conn) (state S.Store e.0) (λ db. HoldsTimeline db new_timeline)) }
-        ensures rests { IfOk result (Rests S.Store) }
-        ensures either { IfErr result (λ e. LeavesOrBegins (state S.Store conn) (state S.Store e.0)) }
+        ensures rests { IfOk result (CrashKeeps S.Store) }
+        ensures either { IfErr result (λ e. CrashLeavesOldOrNew (state S.Store conn) (state S.Store e.0)) }
         ensures untouched { IfErr result
             (λ e. HasCleanDisk (state S.Store e.0) → e.1 ≢ store.Store
-            → StaysUntouched (state S.Store conn) (state S.Store e.0)) }
+            → StaysUntouchedByCrash (state S.Store conn) (state S.Store e.0)) }
     {
         let mut conn = conn;
         if !conn.is_autocommit() || !is_empty(conn.schema()) {
             return Err((conn, StoreFault::Store));
         }
-        match begin_register(&mut conn) {
+        match create_tables(&mut conn) {
             Ok(()) => Ok(Tables {
                 conn,
                 last: 0,
@@ -121,12 +121,12 @@ impl<S: Alter> Tables<S> {
         ensures begun { conn.in_transaction ≡ true → result ≡ Err (conn, why.Store) }
         ensures adopted { IfOk result (IsAdopted S.Store conn) }
         ensures refused { IfErr result
-            (λ e. HasCleanDisk (state S.Store e.0) → IsRefused the_second e.1 (state S.Store conn).now) }
+            (λ e. HasCleanDisk (state S.Store e.0) → IsRefused version_2 e.1 (state S.Store conn).now) }
         ensures none { IfErr result
-            (λ e. HasCleanDisk (state S.Store e.0) → HoldsNone the_second e.1 (state S.Store conn).now) }
+            (λ e. HasCleanDisk (state S.Store e.0) → HoldsNoRegister version_2 e.1 (state S.Store conn).now) }
         ensures same { IfErr result
             (λ e. HasCleanDisk (state S.Store e.0) → e.1 ≢ why.Store
-            → IsSame (state S.Store conn) (state S.Store e.0)) }
+            → StaysOpenAndSame (state S.Store conn) (state S.Store e.0)) }
         ensures crash_after { IfOk result
             (λ t. Survives (state S.Store conn) (state S.Store t.conn) (λ _. ⊥)) }
         ensures crash { IfErr result (λ e. Survives (state S.Store conn) (state S.Store e.0) (λ _. ⊥)) }
@@ -135,7 +135,7 @@ impl<S: Alter> Tables<S> {
         if !conn.is_autocommit() {
             return Err((conn, AdoptFault::Store));
         }
-        match adopt_store(alloc, &mut conn) {
+        match open_v2_store(alloc, &mut conn) {
             Ok(latest) => Ok(Tables {
                 conn,
                 last: latest.stamp,
@@ -158,22 +158,22 @@ impl<S: Alter> Tables<S> {
         ensures begun { conn.in_transaction ≡ true → result ≡ Err (conn, why.Store) }
         ensures migrated { IfOk result (IsMigrated S.Store conn) }
         ensures refused { IfErr result
-            (λ e. HasCleanDisk (state S.Store e.0) → IsRefused the_first e.1 (state S.Store conn).now) }
+            (λ e. HasCleanDisk (state S.Store e.0) → IsRefused version_1 e.1 (state S.Store conn).now) }
         ensures none { IfErr result
-            (λ e. HasCleanDisk (state S.Store e.0) → HoldsNone the_first e.1 (state S.Store conn).now) }
+            (λ e. HasCleanDisk (state S.Store e.0) → HoldsNoRegister version_1 e.1 (state S.Store conn).now) }
         ensures same { IfErr result
             (λ e. HasCleanDisk (state S.Store e.0) → e.1 ≢ why.Store
-            → StaysSame (state S.Store conn) (state S.Store e.0)) }
+            → StaysSameAfterCrash (state S.Store conn) (state S.Store e.0)) }
         ensures kept { conn.in_transaction ≡ false
             → IfErr result
             (λ e. HasCleanDisk (state S.Store e.0) → IsTrue (state S.Store e.0).is_open
-            → StaysSame (state S.Store conn) (state S.Store e.0)) }
+            → StaysSameAfterCrash (state S.Store conn) (state S.Store e.0)) }
         ensures crash_after { IfOk result
-            (λ t. Survives (state S.Store conn) (state S.Store t.conn) (AreRaised (state S.Store conn).now)) }
+            (λ t. Survives (state S.Store conn) (state S.Store t.conn) (IsMigratedFrom (state S.Store conn).now)) }
         ensures crash { IfErr result
-            (λ e. Survives (state S.Store conn) (state S.Store e.0) (AreRaised (state S.Store conn).now)) }
-        ensures rests { IfOk result (Rests S.Store) }
-        ensures either { IfErr result (λ e. LeavesOrRaises (state S.Store conn) (state S.Store e.0)) }
+            (λ e. Survives (state S.Store conn) (state S.Store e.0) (IsMigratedFrom (state S.Store conn).now)) }
+        ensures rests { IfOk result (CrashKeeps S.Store) }
+        ensures either { IfErr result (λ e. CrashLeavesOldOrMigrated (state S.Store conn) (state S.Store e.0)) }
     {
         let mut conn = conn;
         if conn.is_autocommit() {
@@ -219,7 +219,7 @@ impl<S: Alter> Tables<S> {
     /// Proves that between calls, while none has failed, a crash leaves exactly the timeline in the tables.
     /// Does nothing at run time.
     pub fn rests(&self)
-        ensures { Rests S.Store self.now }
+        ensures { CrashKeeps S.Store self.now }
     {
         let _conn = &self.conn;
     }
@@ -227,7 +227,7 @@ impl<S: Alter> Tables<S> {
     /// Proves that between calls, while none has failed, the tables hold a register that `adopt` accepts, of
     /// schema version 2 and with valid intervals. Does nothing at run time.
     pub fn holds_register(&self)
-        ensures { IsWorking S.Store self.now → IsRegister the_second (state S.Store self.now.conn).now }
+        ensures { IsWorking S.Store self.now → IsRegister version_2 (state S.Store self.now.conn).now }
     {
         let _conn = &self.conn;
     }
@@ -285,16 +285,16 @@ impl<S: Alter> Tables<S> {
         ensures survives { self.old.is_closed ≡ false
             → Survives (state S.Store self.old.conn) (state S.Store self.new.conn)
             (λ db. HoldsTimeline db (written (held S.Store self.old) change.now stamp)) }
-        ensures crash { LeavesEither S.Store self.old self.new (held S.Store self.old)
+        ensures crash { CrashLeavesOneOf S.Store self.old self.new (held S.Store self.old)
             (written (held S.Store self.old) change.now stamp) }
-        ensures rests { Rests S.Store self.new }
+        ensures rests { CrashKeeps S.Store self.new }
     {
         if self.is_closed {
             return Err(StoreFault::Closed);
         }
-        versions_stand_for_one();
+        histories_represent_one_timeline();
         order_does_not_matter();
-        writes_stand();
+        writes_represent_timelines();
         writing_keeps_soundness();
         match record(alloc, &mut self.conn, change, self.next, stamp) {
             Ok(()) => {

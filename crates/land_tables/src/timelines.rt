@@ -1,5 +1,5 @@
 //! The timeline that the versions of a history represent.
 
-pub mod judging_laws;
+pub mod validation_laws;
 pub mod laws;
 pub mod writing_laws;

@@ -8,7 +8,7 @@ use Rattle.std.specs.FinMap.{FinMap}
 use Rattle.std.specs.List.{list_all}
 use Rattle.std.specs.Ordering.{nat_cmp}
 use Rattle.std.specs.Prelude.{ℤ, ◌<ℤ◌, ◌≤ℤ◌, nat_eq}
-use Rattle.land_core.specs.Entries.{are_distinct, updated}
+use Rattle.land_core.specs.Entries.{are_distinct, with_changes}
 use Rattle.land_core.specs.Members.{Members, members_in}
 use Rattle.land_core.specs.declared.member.Member.{Member}
 use Rattle.land_tables_history.proofs.ChangedParts.{numbered_entries, stand_changed}
@@ -70,11 +70,11 @@ passing_members passes (g ∷ groups) =
 pub members_change : (last stamp t : ℤ) → last <ℤ stamp → stamp ≤ℤ t → t <ℤ never
     → (put : List (ℕ × Members)) (ended : List ℕ) (versions : List (Version GroupMember)) (groups : FinMap nat_cmp Members)
     → list_all (has_ended last) versions ≡ true → are_distinct nat_eq (map_list (λ e. e.0) put ++ ended) ≡ true → AreGroupsAt t versions groups
-    → AreGroupsAt t (changed_members put ended stamp versions) (updated groups put ended)
+    → AreGroupsAt t (changed_members put ended stamp versions) (with_changes groups put ended)
 members_change last stamp t less since early put ended versions groups by_then once p =
     let kept : List (ℕ × Members) = filter (λ g. not (is_changed put ended g.0)) (map.entries groups) in
-    IsPermutation-trans (standing t (changed_members put ended stamp versions)) (listed_members (put ++ kept)) (group_members (updated groups put ended))
+    IsPermutation-trans (standing t (changed_members put ended stamp versions)) (listed_members (put ++ kept)) (group_members (with_changes groups put ended))
     (subst (IsPermutation (standing t (changed_members put ended stamp versions)))
     (ap (λ l. listed_members put ++ l) (passing_members (λ number. not (is_changed put ended number)) (map.entries groups)) ∙ sym (flat_map-append (λ g. map_list (λ m. record { group = g.0; member = m }) (members_in g.1)) put kept))
     (stand_changed last stamp t less since early (listed_members put) (λ e. is_changed put ended e.group) versions (group_members groups) by_then p))
-    (joined_permuted (λ g. map_list (λ m. record { group = g.0; member = m }) (members_in g.1)) (put ++ kept) (map.entries (updated groups put ended)) (numbered_entries groups put ended once))
+    (joined_permuted (λ g. map_list (λ m. record { group = g.0; member = m }) (members_in g.1)) (put ++ kept) (map.entries (with_changes groups put ended)) (numbered_entries groups put ended once))

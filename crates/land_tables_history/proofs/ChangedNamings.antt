@@ -11,7 +11,7 @@ use Rattle.std.specs.Ordering.{eq_by_cmp, nat_cmp}
 use Rattle.std.specs.Prelude.{ℤ, ◌<ℤ◌, ◌≤ℤ◌, nat_eq, nat_le}
 use Rattle.std.proofs.lemmas.Bool.{and_parts, not-true, or_parts}
 use Rattle.land_core.proofs.FiniteMaps.{is_equal}
-use Rattle.land_core.specs.Entries.{are_distinct, updated, with_entries}
+use Rattle.land_core.specs.Entries.{are_distinct, with_changes, with_entries}
 use Rattle.land_core.specs.declared.change.Change.{Change}
 use Rattle.land_core.specs.declared.mutation.MutationRecord.{MutationRecord}
 use Rattle.land_core.specs.declared.register.Register.{Register}
@@ -20,7 +20,7 @@ use Rattle.land_tables_history.proofs.ChangedParts.{distinct_before, same_number
 use Rattle.land_tables_history.proofs.Made.{all_pass, beside, inserted, none_beside}
 use Rattle.land_tables_history.specs.Changed.{changed_namings, named_by, new_mutations}
 use Rattle.land_tables_history.specs.History.{named_units, namings_of}
-use Rattle.land_tables_history.specs.Laws.{IsAsItWas, PutsMutations}
+use Rattle.land_tables_history.specs.Laws.{IsUnchangedButState, PutsMutations}
 use Rattle.land_tables_history.specs.Open.{has_ended, never}
 use Rattle.land_tables_history.specs.Standing.{standing}
 use Rattle.land_tables_history.specs.declared.naming.Naming.{Naming}
@@ -113,11 +113,11 @@ module _ (next : ℕ) where
 
 -- each mutation of a change is new, or current with the same units
 fits_from : (r : Register) (used : (number : ℕ) (m : MutationRecord) → map.get r.mutations number ≡ Some m → number < r.next) (es : List (ℕ × MutationRecord))
-    → AllByRecursion (λ e. (r.next ≤ e.0) ⊎ IsAsItWas r e.0 e.1) es → AllByRecursion (Fits r.next r.mutations) es
+    → AllByRecursion (λ e. (r.next ≤ e.0) ⊎ IsUnchangedButState r e.0 e.1) es → AllByRecursion (Fits r.next r.mutations) es
 fits_from r used [] h = tt
 fits_from r used (e ∷ es) h = (one h.0, fits_from r used es h.1)
   where
-    one : (r.next ≤ e.0) ⊎ IsAsItWas r e.0 e.1 → Fits r.next r.mutations e
+    one : (r.next ≤ e.0) ⊎ IsUnchangedButState r e.0 e.1 → Fits r.next r.mutations e
     one (inl le) = new le (nothing (map.get r.mutations e.0) refl)
       where
         nothing : (o : Option MutationRecord) → map.get r.mutations e.0 ≡ o → map.get r.mutations e.0 ≡ None
@@ -128,13 +128,13 @@ fits_from r used (e ∷ es) h = (one h.0, fits_from r used es h.1)
 pub namings_change : (last stamp t : ℤ) → last <ℤ stamp → stamp ≤ℤ t → t <ℤ never → (r : Register) (change : Change) (versions : List (Version Naming))
     → list_all (has_ended last) versions ≡ true → are_distinct nat_eq (map_list (λ e. e.0) change.put.mutations ++ change.ended.mutations) ≡ true → PutsMutations r change
     → IsPermutation (standing t versions) (namings_of r.mutations)
-    → IsPermutation (standing t (changed_namings r.next change.put.mutations stamp versions)) (namings_of (updated r.mutations change.put.mutations change.ended.mutations))
+    → IsPermutation (standing t (changed_namings r.next change.put.mutations stamp versions)) (namings_of (with_changes r.mutations change.put.mutations change.ended.mutations))
 namings_change last stamp t less since early r change versions by_then once puts p =
     let put = change.put.mutations in
     let later : List Naming = named_by (new_mutations r.next put) in
     let distinct = subst (λ (same : ℕ → ℕ → Bool). are_distinct same (map_list (λ e. e.0) put) ≡ true) (sym same_numbers) (distinct_before nat_eq (map_list (λ e. e.0) put) change.ended.mutations once) in
-    subst (λ (ended : List ℕ). IsPermutation (standing t (changed_namings r.next put stamp versions)) (namings_of (updated r.mutations put ended))) (sym puts.ended)
-    (IsPermutation-trans (standing t (changed_namings r.next put stamp versions)) (later ++ namings_of r.mutations) (namings_of (updated r.mutations put []))
+    subst (λ (ended : List ℕ). IsPermutation (standing t (changed_namings r.next put stamp versions)) (namings_of (with_changes r.mutations put ended))) (sym puts.ended)
+    (IsPermutation-trans (standing t (changed_namings r.next put stamp versions)) (later ++ namings_of r.mutations) (namings_of (with_changes r.mutations put []))
     (subst (λ (l : List Naming). IsPermutation (standing t (changed_namings r.next put stamp versions)) (later ++ l)) (all_pass (namings_of r.mutations))
     (stand_changed last stamp t less since early later (λ naming. false) versions (namings_of r.mutations) by_then p))
     (namings_grow r.next r.mutations put distinct (fits_from r puts.used put puts.put)))

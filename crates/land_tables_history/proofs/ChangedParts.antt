@@ -9,9 +9,9 @@ use Rattle.std.specs.Ordering.{eq_by_cmp, nat_cmp}
 use Rattle.std.specs.Prelude.{ℤ, ◌<ℤ◌, ◌≤ℤ◌, nat_eq}
 use Rattle.std.specs.declared.cmp.Ordering.{Ordering}
 use Rattle.std.proofs.lemmas.Bool.{and_parts}
-use Rattle.land_core.proofs.FiniteSets.{exact_grants, exact_mandates, grants_total, keys-marks, mandates_total}
-use Rattle.land_core.specs.Entries.{are_distinct, updated}
-use Rattle.land_core.specs.Grants.{Grants, grant_cmp, grants_in, marks}
+use Rattle.land_core.proofs.FiniteSets.{exact_grants, exact_mandates, grants_total, keys-set_entries, mandates_total}
+use Rattle.land_core.specs.Entries.{are_distinct, with_changes}
+use Rattle.land_core.specs.Grants.{Grants, grant_cmp, grants_in, set_entries}
 use Rattle.land_core.specs.Mandates.{Mandates, mandate_cmp, mandates_in}
 use Rattle.land_core.specs.declared.mandates.Mandate.{Mandate}
 use Rattle.land_core.specs.declared.roles.Grant.{Grant}
@@ -43,10 +43,10 @@ distinct_before {K} same (x ∷ xs) ys h =
 
 -- the inserted entries, and the others whose numbers are neither inserted nor ended
 pub numbered_entries : {V : Type 0} (m : FinMap nat_cmp V) (put : List (ℕ × V)) (ended : List ℕ) → are_distinct nat_eq (map_list (λ e. e.0) put ++ ended) ≡ true
-    → IsPermutation (put ++ filter (λ e. not (is_changed put ended e.0)) (map.entries m)) (map.entries (updated m put ended))
+    → IsPermutation (put ++ filter (λ e. not (is_changed put ended e.0)) (map.entries m)) (map.entries (with_changes m put ended))
 numbered_entries {V} m put ended once =
     subst (λ (same : ℕ → ℕ → Bool). are_distinct same (map_list (λ e. e.0) put) ≡ true
-    → IsPermutation (put ++ filter (λ e. not (is_among same (map_list (λ e. e.0) put ++ ended) e.0)) (map.entries m)) (map.entries (updated m put ended))) same_numbers
+    → IsPermutation (put ++ filter (λ e. not (is_among same (map_list (λ e. e.0) put ++ ended) e.0)) (map.entries m)) (map.entries (with_changes m put ended))) same_numbers
     (changed_entries nat_cmp_total nat_cmp-IsAntisymmetric m put ended) (distinct_before nat_eq (map_list (λ e. e.0) put) ended once)
 
 module _ (last stamp t : ℤ) (less : last <ℤ stamp) (since : stamp ≤ℤ t) (early : t <ℤ never) where
@@ -61,29 +61,29 @@ module _ (last stamp t : ℤ) (less : last <ℤ stamp) (since : stamp ≤ℤ t) 
 
   pub part_changes : {V : Type 0} (put : List (ℕ × V)) (ended : List ℕ) (versions : List (Version (ℕ × V))) (m : FinMap nat_cmp V)
       → list_all (has_ended last) versions ≡ true → are_distinct nat_eq (map_list (λ e. e.0) put ++ ended) ≡ true → IsPartAt t versions m
-      → IsPartAt t (changed_part put ended stamp versions) (updated m put ended)
+      → IsPartAt t (changed_part put ended stamp versions) (with_changes m put ended)
   part_changes put ended versions m by_then once p =
-      IsPermutation-trans (standing t (changed_part put ended stamp versions)) (put ++ filter (λ e. not (is_changed put ended e.0)) (map.entries m)) (map.entries (updated m put ended))
+      IsPermutation-trans (standing t (changed_part put ended stamp versions)) (put ++ filter (λ e. not (is_changed put ended e.0)) (map.entries m)) (map.entries (with_changes m put ended))
       (stand_changed put (λ e. is_changed put ended e.0) versions (map.entries m) by_then p) (numbered_entries m put ended once)
 
   -- keys of a set, such as roles and mandates
   module _ {K : Type 0} {R : K → K → Ordering} (o : IsTotalOrder R) (exact : IsAntisymmetric R) where
     keys_change : (put ended : List K) (versions : List (Version K)) (set : FinMap R (Unit {0}))
         → list_all (has_ended last) versions ≡ true → are_distinct (eq_by_cmp R) (put ++ ended) ≡ true → IsPermutation (standing t versions) (map.keys set)
-        → IsPermutation (standing t (changed_versions put (λ key. is_among (eq_by_cmp R) (put ++ ended) key) stamp versions)) (map.keys (updated set (marks put) ended))
+        → IsPermutation (standing t (changed_versions put (λ key. is_among (eq_by_cmp R) (put ++ ended) key) stamp versions)) (map.keys (with_changes set (set_entries put) ended))
     keys_change put ended versions set by_then once p =
         let kept : List K = filter (λ key. not (is_among (eq_by_cmp R) (put ++ ended) key)) (map.keys set) in
-        IsPermutation-trans (standing t (changed_versions put (λ key. is_among (eq_by_cmp R) (put ++ ended) key) stamp versions)) (put ++ kept) (map.keys (updated set (marks put) ended))
+        IsPermutation-trans (standing t (changed_versions put (λ key. is_among (eq_by_cmp R) (put ++ ended) key) stamp versions)) (put ++ kept) (map.keys (with_changes set (set_entries put) ended))
         (stand_changed put (λ key. is_among (eq_by_cmp R) (put ++ ended) key) versions (map.keys set) by_then p)
-        (subst (λ l. IsPermutation l (map.keys (updated set (marks put) ended))) (listed (put ++ ended) (map.entries set))
-        (IsPermutation-map (λ e. e.0) (marks put ++ filter (λ e. not (list_any (eq_by_cmp R e.0) (put ++ ended))) (map.entries set)) (map.entries (updated set (marks put) ended)) entries))
+        (subst (λ l. IsPermutation l (map.keys (with_changes set (set_entries put) ended))) (listed (put ++ ended) (map.entries set))
+        (IsPermutation-map (λ e. e.0) (set_entries put ++ filter (λ e. not (list_any (eq_by_cmp R e.0) (put ++ ended))) (map.entries set)) (map.entries (with_changes set (set_entries put) ended)) entries))
       where
-        entries : IsPermutation (marks put ++ filter (λ e. not (list_any (eq_by_cmp R e.0) (put ++ ended))) (map.entries set)) (map.entries (updated set (marks put) ended))
+        entries : IsPermutation (set_entries put ++ filter (λ e. not (list_any (eq_by_cmp R e.0) (put ++ ended))) (map.entries set)) (map.entries (with_changes set (set_entries put) ended))
         entries =
-            subst (λ (ks : List K). IsPermutation (marks put ++ filter (λ e. not (list_any (eq_by_cmp R e.0) (ks ++ ended))) (map.entries set)) (map.entries (updated set (marks put) ended)))
-            (keys-marks put)
-            (changed_entries o exact set (marks put) ended
-            (subst (λ (ks : List K). are_distinct (eq_by_cmp R) ks ≡ true) (sym (keys-marks put)) (distinct_before (eq_by_cmp R) put ended once)))
+            subst (λ (ks : List K). IsPermutation (set_entries put ++ filter (λ e. not (list_any (eq_by_cmp R e.0) (ks ++ ended))) (map.entries set)) (map.entries (with_changes set (set_entries put) ended)))
+            (keys-set_entries put)
+            (changed_entries o exact set (set_entries put) ended
+            (subst (λ (ks : List K). are_distinct (eq_by_cmp R) ks ≡ true) (sym (keys-set_entries put)) (distinct_before (eq_by_cmp R) put ended once)))
 
         keys_kept : (ks : List K) (es : List (K × Unit {0})) → map_list (λ e. e.0) (filter (λ e. not (list_any (eq_by_cmp R e.0) ks)) es)
             ≡ filter (λ key. not (is_among (eq_by_cmp R) ks key)) (map_list (λ e. e.0) es)
@@ -96,22 +96,22 @@ module _ (last stamp t : ℤ) (less : last <ℤ stamp) (since : stamp ≤ℤ t) 
             go true h = ap (λ l. e.0 ∷ l) h
             go false h = h
 
-        put_before : (gs : List K) (es : List (K × Unit {0})) → map_list (λ e. e.0) (marks gs ++ es) ≡ gs ++ map_list (λ e. e.0) es
+        put_before : (gs : List K) (es : List (K × Unit {0})) → map_list (λ e. e.0) (set_entries gs ++ es) ≡ gs ++ map_list (λ e. e.0) es
         put_before [] es = refl
         put_before (g ∷ gs) es = ap (λ l. g ∷ l) (put_before gs es)
 
-        listed : (ks : List K) (es : List (K × Unit {0})) → map_list (λ e. e.0) (marks put ++ filter (λ e. not (list_any (eq_by_cmp R e.0) ks)) es)
+        listed : (ks : List K) (es : List (K × Unit {0})) → map_list (λ e. e.0) (set_entries put ++ filter (λ e. not (list_any (eq_by_cmp R e.0) ks)) es)
             ≡ put ++ filter (λ key. not (is_among (eq_by_cmp R) ks key)) (map_list (λ e. e.0) es)
         listed ks es = put_before put (filter (λ e. not (list_any (eq_by_cmp R e.0) ks)) es) ∙ ap (λ l. put ++ l) (keys_kept ks es)
 
   pub roles_change : (put ended : List Grant) (versions : List (Version Grant)) (grants : Grants)
       → list_all (has_ended last) versions ≡ true → are_distinct (eq_by_cmp grant_cmp) (put ++ ended) ≡ true → AreRolesAt t versions grants
-      → AreRolesAt t (changed_roles put ended stamp versions) (updated grants (marks put) ended)
+      → AreRolesAt t (changed_roles put ended stamp versions) (with_changes grants (set_entries put) ended)
   unfolding grants_in
   roles_change put ended versions grants by_then once p = keys_change grants_total exact_grants put ended versions grants by_then once p
 
   pub mandates_change : (put ended : List Mandate) (versions : List (Version Mandate)) (mandates : Mandates)
       → list_all (has_ended last) versions ≡ true → are_distinct (eq_by_cmp mandate_cmp) (put ++ ended) ≡ true → AreMandatesAt t versions mandates
-      → AreMandatesAt t (changed_mandates put ended stamp versions) (updated mandates (marks put) ended)
+      → AreMandatesAt t (changed_mandates put ended stamp versions) (with_changes mandates (set_entries put) ended)
   unfolding mandates_in
   mandates_change put ended versions mandates by_then once p = keys_change mandates_total exact_mandates put ended versions mandates by_then once p

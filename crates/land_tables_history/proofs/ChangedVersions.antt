@@ -10,7 +10,7 @@ use Rattle.std.proofs.lemmas.Bool.{and_parts}
 use Rattle.std.proofs.lemmas.Cmp.{int_eq_equiv}
 use Rattle.land_core.proofs.Booleans.{and_false, or_true}
 use Rattle.land_tables_history.proofs.MomentOrder.{le_from, le_true}
-use Rattle.land_tables_history.specs.Changed.{begun, changed_versions, closed}
+use Rattle.land_tables_history.specs.Changed.{opened_version, changed_versions, closed_version}
 use Rattle.land_tables_history.specs.Open.{has_ended, never}
 use Rattle.land_tables_history.specs.Standing.{standing, stands}
 use Rattle.land_tables_history.specs.declared.version.Version.{Version}
@@ -51,17 +51,17 @@ module _ {X : Type 0} where
   module _ (put : List X) (meant : X → Bool) (stamp : ℤ) where
     -- ---- before the stamp
 
-    none_begun : (t : ℤ) → t <ℤ stamp → (xs : List X) → standing t (map_list (λ x. begun x stamp) xs) ≡ []
+    none_begun : (t : ℤ) → t <ℤ stamp → (xs : List X) → standing t (map_list (λ x. opened_version x stamp) xs) ≡ []
     none_begun t less [] = refl
     none_begun t less (x ∷ xs) =
-        one_stands t (begun x stamp) (map_list (λ x. begun x stamp) xs)
-        ∙ ap (λ b. cond (b && int_lt t never) (x ∷ standing t (map_list (λ x. begun x stamp) xs)) (standing t (map_list (λ x. begun x stamp) xs))) (le_false stamp t less)
+        one_stands t (opened_version x stamp) (map_list (λ x. opened_version x stamp) xs)
+        ∙ ap (λ b. cond (b && int_lt t never) (x ∷ standing t (map_list (λ x. opened_version x stamp) xs)) (standing t (map_list (λ x. opened_version x stamp) xs))) (le_false stamp t less)
         ∙ none_begun t less xs
 
-    closed_what : (v : Version X) → (closed meant stamp v).what ≡ v.what
+    closed_what : (v : Version X) → (closed_version meant stamp v).what ≡ v.what
     closed_what v = elim (meant v.what && int_eq v.until never) as (λ b. (cond b (record v { until = stamp }) v).what ≡ v.what) [ true ↦ refl | false ↦ refl ]
 
-    closed_stood : (t : ℤ) → t <ℤ stamp → t <ℤ never → (v : Version X) → stands t (closed meant stamp v) ≡ stands t v
+    closed_stood : (t : ℤ) → t <ℤ stamp → t <ℤ never → (v : Version X) → stands t (closed_version meant stamp v) ≡ stands t v
     closed_stood t less early v = go (meant v.what && int_eq v.until never) refl
       where
         go : (b : Bool) → (meant v.what && int_eq v.until never) ≡ b → stands t (cond b (record v { until = stamp }) v) ≡ stands t v
@@ -70,36 +70,36 @@ module _ {X : Type 0} where
             ap (λ b. int_le v.since t && b) (lt_true t stamp less ∙ sym (lt_true t never early) ∙ ap (int_lt t) (sym ends))
         go false e = refl
 
-    closed_past : (t : ℤ) → t <ℤ stamp → t <ℤ never → (vs : List (Version X)) → standing t (map_list (closed meant stamp) vs) ≡ standing t vs
+    closed_past : (t : ℤ) → t <ℤ stamp → t <ℤ never → (vs : List (Version X)) → standing t (map_list (closed_version meant stamp) vs) ≡ standing t vs
     closed_past t less early [] = refl
     closed_past t less early (v ∷ vs) =
-        one_stands t (closed meant stamp v) (map_list (closed meant stamp) vs)
-        ∙ ap (λ b. cond b ((closed meant stamp v).what ∷ standing t (map_list (closed meant stamp) vs)) (standing t (map_list (closed meant stamp) vs))) (closed_stood t less early v)
-        ∙ ap (λ x. cond (stands t v) (x ∷ standing t (map_list (closed meant stamp) vs)) (standing t (map_list (closed meant stamp) vs))) (closed_what v)
+        one_stands t (closed_version meant stamp v) (map_list (closed_version meant stamp) vs)
+        ∙ ap (λ b. cond b ((closed_version meant stamp v).what ∷ standing t (map_list (closed_version meant stamp) vs)) (standing t (map_list (closed_version meant stamp) vs))) (closed_stood t less early v)
+        ∙ ap (λ x. cond (stands t v) (x ∷ standing t (map_list (closed_version meant stamp) vs)) (standing t (map_list (closed_version meant stamp) vs))) (closed_what v)
         ∙ ap (λ l. cond (stands t v) (v.what ∷ l) l) (closed_past t less early vs)
         ∙ sym (one_stands t v vs)
 
     pub past_versions : (t : ℤ) → t <ℤ stamp → t <ℤ never → (vs : List (Version X)) → standing t (changed_versions put meant stamp vs) ≡ standing t vs
     past_versions t less early vs =
-        standing-append t (map_list (λ x. begun x stamp) put) (map_list (closed meant stamp) vs)
-        ∙ ap (λ l. l ++ standing t (map_list (closed meant stamp) vs)) (none_begun t less put) ∙ closed_past t less early vs
+        standing-append t (map_list (λ x. opened_version x stamp) put) (map_list (closed_version meant stamp) vs)
+        ∙ ap (λ l. l ++ standing t (map_list (closed_version meant stamp) vs)) (none_begun t less put) ∙ closed_past t less early vs
 
     -- ---- from the stamp on
 
-    all_begun : (t : ℤ) → stamp ≤ℤ t → t <ℤ never → (xs : List X) → standing t (map_list (λ x. begun x stamp) xs) ≡ xs
+    all_begun : (t : ℤ) → stamp ≤ℤ t → t <ℤ never → (xs : List X) → standing t (map_list (λ x. opened_version x stamp) xs) ≡ xs
     all_begun t since early [] = refl
     all_begun t since early (x ∷ xs) =
-        one_stands t (begun x stamp) (map_list (λ x. begun x stamp) xs)
-        ∙ ap (λ b. cond (b && int_lt t never) (x ∷ standing t (map_list (λ x. begun x stamp) xs)) (standing t (map_list (λ x. begun x stamp) xs))) (le_true stamp t since)
-        ∙ ap (λ b. cond b (x ∷ standing t (map_list (λ x. begun x stamp) xs)) (standing t (map_list (λ x. begun x stamp) xs))) (lt_true t never early)
+        one_stands t (opened_version x stamp) (map_list (λ x. opened_version x stamp) xs)
+        ∙ ap (λ b. cond (b && int_lt t never) (x ∷ standing t (map_list (λ x. opened_version x stamp) xs)) (standing t (map_list (λ x. opened_version x stamp) xs))) (le_true stamp t since)
+        ∙ ap (λ b. cond b (x ∷ standing t (map_list (λ x. opened_version x stamp) xs)) (standing t (map_list (λ x. opened_version x stamp) xs))) (lt_true t never early)
         ∙ ap (λ l. x ∷ l) (all_begun t since early xs)
 
     module _ (last t : ℤ) (less : last <ℤ stamp) (since : stamp ≤ℤ t) where
       -- an ended version is not current any more
-      none_meant : (v : Version X) → has_ended last v ≡ true → meant v.what ≡ true → stands t (closed meant stamp v) ≡ false
+      none_meant : (v : Version X) → has_ended last v ≡ true → meant v.what ≡ true → stands t (closed_version meant stamp v) ≡ false
       none_meant v ended is = go (int_eq v.until never) refl
         where
-          go : (b : Bool) → int_eq v.until never ≡ b → stands t (closed meant stamp v) ≡ false
+          go : (b : Bool) → int_eq v.until never ≡ b → stands t (closed_version meant stamp v) ≡ false
           go true e =
               ap (λ b. stands t (cond (b && int_eq v.until never) (record v { until = stamp }) v)) is
               ∙ ap (λ b. stands t (cond b (record v { until = stamp }) v)) e
@@ -110,19 +110,19 @@ module _ {X : Type 0} where
               ∙ ap (λ b. stands t (cond b (record v { until = stamp }) v)) e
               ∙ ap (λ b. int_le v.since t && b) (lt_false t v.until (before v.until last stamp t by_last less since)) ∙ and_false (int_le v.since t)
 
-      closed_on : (vs : List (Version X)) → list_all (has_ended last) vs ≡ true → standing t (map_list (closed meant stamp) vs) ≡ filter (λ x. not (meant x)) (standing t vs)
+      closed_on : (vs : List (Version X)) → list_all (has_ended last) vs ≡ true → standing t (map_list (closed_version meant stamp) vs) ≡ filter (λ x. not (meant x)) (standing t vs)
       closed_on [] ended = refl
       closed_on (v ∷ vs) ended =
           let both = and_parts (has_ended last v) (list_all (has_ended last) vs) ended in
-          one_stands t (closed meant stamp v) (map_list (closed meant stamp) vs)
+          one_stands t (closed_version meant stamp v) (map_list (closed_version meant stamp) vs)
           ∙ go (meant v.what) refl both.0 (closed_on vs both.1)
           ∙ ap (filter (λ x. not (meant x))) (sym (one_stands t v vs))
         where
-          go : (b : Bool) → meant v.what ≡ b → has_ended last v ≡ true → standing t (map_list (closed meant stamp) vs) ≡ filter (λ x. not (meant x)) (standing t vs)
-              → cond (stands t (closed meant stamp v)) ((closed meant stamp v).what ∷ standing t (map_list (closed meant stamp) vs)) (standing t (map_list (closed meant stamp) vs))
+          go : (b : Bool) → meant v.what ≡ b → has_ended last v ≡ true → standing t (map_list (closed_version meant stamp) vs) ≡ filter (λ x. not (meant x)) (standing t vs)
+              → cond (stands t (closed_version meant stamp v)) ((closed_version meant stamp v).what ∷ standing t (map_list (closed_version meant stamp) vs)) (standing t (map_list (closed_version meant stamp) vs))
               ≡ filter (λ x. not (meant x)) (cond (stands t v) (v.what ∷ standing t vs) (standing t vs))
           go true is one rest =
-              ap (λ b. cond b ((closed meant stamp v).what ∷ standing t (map_list (closed meant stamp) vs)) (standing t (map_list (closed meant stamp) vs))) (none_meant v one is)
+              ap (λ b. cond b ((closed_version meant stamp v).what ∷ standing t (map_list (closed_version meant stamp) vs)) (standing t (map_list (closed_version meant stamp) vs))) (none_meant v one is)
               ∙ rest ∙ dropped (stands t v)
             where
               dropped : (b : Bool) → filter (λ x. not (meant x)) (standing t vs) ≡ filter (λ x. not (meant x)) (cond b (v.what ∷ standing t vs) (standing t vs))
@@ -130,7 +130,7 @@ module _ {X : Type 0} where
               dropped false = refl
           go false is one rest =
               ap (λ b. let w : Version X = cond (b && int_eq v.until never) (record v { until = stamp }) v in
-              cond (stands t w) (w.what ∷ standing t (map_list (closed meant stamp) vs)) (standing t (map_list (closed meant stamp) vs))) is
+              cond (stands t w) (w.what ∷ standing t (map_list (closed_version meant stamp) vs)) (standing t (map_list (closed_version meant stamp) vs))) is
               ∙ ap (λ l. cond (stands t v) (v.what ∷ l) l) rest ∙ kept (stands t v)
             where
               kept : (b : Bool) → cond b (v.what ∷ filter (λ x. not (meant x)) (standing t vs)) (filter (λ x. not (meant x)) (standing t vs))
@@ -141,8 +141,8 @@ module _ {X : Type 0} where
       pub changed_stand : t <ℤ never → (vs : List (Version X)) → list_all (has_ended last) vs ≡ true
           → standing t (changed_versions put meant stamp vs) ≡ put ++ filter (λ x. not (meant x)) (standing t vs)
       changed_stand early vs ended =
-          standing-append t (map_list (λ x. begun x stamp) put) (map_list (closed meant stamp) vs)
-          ∙ ap (λ l. l ++ standing t (map_list (closed meant stamp) vs)) (all_begun t since early put)
+          standing-append t (map_list (λ x. opened_version x stamp) put) (map_list (closed_version meant stamp) vs)
+          ∙ ap (λ l. l ++ standing t (map_list (closed_version meant stamp) vs)) (all_begun t since early put)
           ∙ ap (λ l. put ++ l) (closed_on vs ended)
 
     -- ---- the ends
@@ -151,11 +151,11 @@ module _ {X : Type 0} where
     list_all-append p [] ys h k = k
     list_all-append p (x ∷ xs) ys h k = let both = and_parts (p x) (list_all p xs) h in ap (λ b. b && list_all p (xs ++ ys)) both.0 ∙ list_all-append p xs ys both.1 k
 
-    begun_end : (xs : List X) → list_all (has_ended stamp) (map_list (λ x. begun x stamp) xs) ≡ true
+    begun_end : (xs : List X) → list_all (has_ended stamp) (map_list (λ x. opened_version x stamp) xs) ≡ true
     begun_end [] = refl
-    begun_end (x ∷ xs) = ap (λ b. (b || int_le never stamp) && list_all (has_ended stamp) (map_list (λ x. begun x stamp) xs)) (int_eq_equiv.refl never) ∙ begun_end xs
+    begun_end (x ∷ xs) = ap (λ b. (b || int_le never stamp) && list_all (has_ended stamp) (map_list (λ x. opened_version x stamp) xs)) (int_eq_equiv.refl never) ∙ begun_end xs
 
-    one_ends : (last : ℤ) → last <ℤ stamp → (v : Version X) → has_ended last v ≡ true → has_ended stamp (closed meant stamp v) ≡ true
+    one_ends : (last : ℤ) → last <ℤ stamp → (v : Version X) → has_ended last v ≡ true → has_ended stamp (closed_version meant stamp v) ≡ true
     one_ends last less v ended = go (meant v.what && int_eq v.until never) (int_eq v.until never) refl
       where
         go : (b c : Bool) → int_eq v.until never ≡ c → has_ended stamp (cond b (record v { until = stamp }) v) ≡ true
@@ -165,11 +165,11 @@ module _ {X : Type 0} where
             let by_last : v.until ≤ℤ last = le_from v.until last (sym (ap (λ b. b || int_le v.until last) e) ∙ ended) in
             ap (λ b. int_eq v.until never || b) (le_true v.until stamp (later v.until last stamp by_last less)) ∙ or_true (int_eq v.until never)
 
-    closed_end : (last : ℤ) → last <ℤ stamp → (vs : List (Version X)) → list_all (has_ended last) vs ≡ true → list_all (has_ended stamp) (map_list (closed meant stamp) vs) ≡ true
+    closed_end : (last : ℤ) → last <ℤ stamp → (vs : List (Version X)) → list_all (has_ended last) vs ≡ true → list_all (has_ended stamp) (map_list (closed_version meant stamp) vs) ≡ true
     closed_end last less [] ended = refl
     closed_end last less (v ∷ vs) ended =
         let both = and_parts (has_ended last v) (list_all (has_ended last) vs) ended in
-        ap (λ b. b && list_all (has_ended stamp) (map_list (closed meant stamp) vs)) (one_ends last less v both.0) ∙ closed_end last less vs both.1
+        ap (λ b. b && list_all (has_ended stamp) (map_list (closed_version meant stamp) vs)) (one_ends last less v both.0) ∙ closed_end last less vs both.1
 
     pub changed_end : (last : ℤ) → last <ℤ stamp → (vs : List (Version X)) → list_all (has_ended last) vs ≡ true → list_all (has_ended stamp) (changed_versions put meant stamp vs) ≡ true
-    changed_end last less vs ended = list_all-append (has_ended stamp) (map_list (λ x. begun x stamp) put) (map_list (closed meant stamp) vs) (begun_end put) (closed_end last less vs ended)
+    changed_end last less vs ended = list_all-append (has_ended stamp) (map_list (λ x. opened_version x stamp) put) (map_list (closed_version meant stamp) vs) (begun_end put) (closed_end last less vs ended)

@@ -11,7 +11,7 @@ use Rattle.land_tables_history.proofs.ChangedNamings.{namings_change}
 use Rattle.land_tables_history.proofs.ChangedParts.{mandates_change, part_changes, roles_change}
 use Rattle.land_tables_history.proofs.ChangedVersions.{changed_end, past_versions}
 use Rattle.land_tables_history.specs.Changed.{changed_part, changed_versions, is_among, is_changed, listed_members, named_by, new_mutations}
-use Rattle.land_tables_history.specs.Laws.{ChangeStands, ChangedHaveEnded, PastStands}
+use Rattle.land_tables_history.specs.Laws.{ChangesTakeEffect, ChangedHaveEnded, ChangesKeepThePast}
 use Rattle.land_tables_history.specs.Open.{has_ended, have_ended, never}
 use Rattle.land_tables_history.specs.Standing.{standing}
 use Rattle.land_tables_history.specs.declared.history.History.{History}
@@ -22,7 +22,7 @@ still : {X : Type 0} (put : List X) (meant : X → Bool) (stamp t : ℤ) (versio
     → IsPermutation (standing t versions) them → IsPermutation (standing t (changed_versions put meant stamp versions)) them
 still put meant stamp t versions them less early p = subst (λ l. IsPermutation l them) (sym (past_versions put meant stamp t less early versions)) p
 
-pub past_stands : PastStands
+pub past_stands : ChangesKeepThePast
 past_stands next change stamp t h r less early stands = record {
   parties = still _ _ stamp t h.parties _ less early stands.parties;
   roles = still _ _ stamp t h.roles _ less early stands.roles;
@@ -90,7 +90,7 @@ changed_have_ended next change last stamp h all less =
 
 -- ---- from the stamp on
 
-pub change_stands : ChangeStands
+pub change_stands : ChangesTakeEffect
 change_stands change last stamp t h r all less since early once puts stands =
     let ended = each_ended last h all in
     let put = change.put in

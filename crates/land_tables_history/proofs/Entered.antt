@@ -12,9 +12,9 @@ use Rattle.std.specs.declared.cmp.Ordering.{Ordering}
 use Rattle.std.specs.declared.cmp.Ordering.TheVariants.{Less, Equal, Greater}
 use Rattle.std.proofs.lemmas.Bool.{and_parts, not-true, or_parts}
 use Rattle.land_core.proofs.FiniteMaps.{none_is_not_some, nothing_from_length}
-use Rattle.land_core.proofs.FiniteSets.{grants_total, keys-marks, mandates_total}
+use Rattle.land_core.proofs.FiniteSets.{grants_total, keys-set_entries, mandates_total}
 use Rattle.land_core.specs.Entries.{are_distinct, with_entries}
-use Rattle.land_core.specs.Grants.{grants_in, marks}
+use Rattle.land_core.specs.Grants.{grants_in, set_entries}
 use Rattle.land_core.specs.Mandates.{mandates_in}
 use Rattle.land_core.specs.declared.mandates.Mandate.{Mandate}
 use Rattle.land_core.specs.declared.roles.Grant.{Grant}
@@ -103,18 +103,18 @@ made_part es distinct = made nat_cmp_total es (distinct_alike (is_same_key nat_c
 
 -- distinct keys are the elements of the set built from them
 made_keys : {K : Type 0} {R : K → K → Ordering} (o : IsTotalOrder R) (ks : List K) → are_distinct (eq_by_cmp R) ks ≡ true
-    → IsPermutation ks (map.keys (with_entries (map.empty {X = Unit {0}} {R = R}) (marks ks)))
+    → IsPermutation ks (map.keys (with_entries (map.empty {X = Unit {0}} {R = R}) (set_entries ks)))
 made_keys {K} {R} o ks distinct =
-    subst (λ l. IsPermutation l (map.keys (with_entries (map.empty {X = Unit {0}} {R = R}) (marks ks)))) (keys-marks ks)
-    (IsPermutation-map (λ (e : K × Unit {0}). e.0) (marks ks) (map.entries (with_entries map.empty (marks ks)))
-    (made o (marks ks) (distinct-map {Y = K × Unit {0}} (is_same_key o) (λ k. (k, tt)) ks ∙ distinct)))
+    subst (λ l. IsPermutation l (map.keys (with_entries (map.empty {X = Unit {0}} {R = R}) (set_entries ks)))) (keys-set_entries ks)
+    (IsPermutation-map (λ (e : K × Unit {0}). e.0) (set_entries ks) (map.entries (with_entries map.empty (set_entries ks)))
+    (made o (set_entries ks) (distinct-map {Y = K × Unit {0}} (is_same_key o) (λ k. (k, tt)) ks ∙ distinct)))
 
 -- distinct grants are the grants of the roles built from them
-pub made_roles : (gs : List Grant) → are_distinct is_same_grant gs ≡ true → IsPermutation gs (grants_in (with_entries map.empty (marks gs)))
+pub made_roles : (gs : List Grant) → are_distinct is_same_grant gs ≡ true → IsPermutation gs (grants_in (with_entries map.empty (set_entries gs)))
 unfolding grants_in
 made_roles gs distinct = made_keys grants_total gs distinct
 
 -- and likewise for mandates
-pub made_mandates : (ms : List Mandate) → are_distinct is_same_mandate ms ≡ true → IsPermutation ms (mandates_in (with_entries map.empty (marks ms)))
+pub made_mandates : (ms : List Mandate) → are_distinct is_same_mandate ms ≡ true → IsPermutation ms (mandates_in (with_entries map.empty (set_entries ms)))
 unfolding mandates_in
 made_mandates ms distinct = made_keys mandates_total ms distinct

@@ -20,7 +20,7 @@ use Rattle.land_tables_history.proofs.Keys.{grants_flip, mandates_flip, members_
 use Rattle.land_tables_history.proofs.NamingLists.{namings_distinct}
 use Rattle.land_tables_history.proofs.Proper.{AllProper, Proper, all_proper}
 use Rattle.land_tables_history.specs.Changed.{changed, changed_part, changed_versions, is_among, is_changed, listed_members, named_by, new_mutations}
-use Rattle.land_tables_history.specs.History.{StandsAt}
+use Rattle.land_tables_history.specs.History.{IsRegisterAt}
 use Rattle.land_tables_history.specs.Intervals.{are_intervals, has_intervals, is_same_grant, is_same_mandate, is_same_member, is_same_naming, is_same_number}
 use Rattle.land_tables_history.specs.Laws.{ChangesKeepIntervals, PutsMutations}
 use Rattle.land_tables_history.specs.Open.{have_ended, never}
@@ -79,7 +79,7 @@ module _ (moments : List Moment) (last stamp : ℤ) (by : AllByRecursion (λ (m 
         (all_end_by moments last by h.namings proper.namings.intervals)
         (all_end_by moments last by h.mandates proper.mandates.intervals)
 
-    stands_still : (r : Register) → StandsAt last h r → StandsAt stamp h r
+    stands_still : (r : Register) → IsRegisterAt last h r → IsRegisterAt stamp h r
     stands_still r stands = record {
       parties = still h.parties _ proper.parties stands.parties;
       roles = still h.roles _ proper.roles stands.roles;
@@ -94,8 +94,8 @@ module _ (moments : List Moment) (last stamp : ℤ) (by : AllByRecursion (λ (m 
     }
 
     module _ (change : Change) (r : Register) (once : NamesKeysOnce change) (puts : PutsMutations r change)
-        (stands : StandsAt last h r) (sound : IsSound (after change r)) where
-      stands_now : StandsAt stamp (changed r.next change stamp h) (after change r)
+        (stands : IsRegisterAt last h r) (sound : IsSound (after change r)) where
+      stands_now : IsRegisterAt stamp (changed r.next change stamp h) (after change r)
       stands_now = change_stands change last stamp stamp h r all_ended less (omega (arith, ints)) early once puts (stands_still r stands)
 
       are_kept : has_intervals (more change.next) (changed r.next change stamp h) ≡ true

@@ -15,7 +15,7 @@ use Rattle.land_tables_history.proofs.KeptLists.{distinct_fewer, none_fewer}
 use Rattle.land_tables_history.proofs.MomentOrder.{le_then_lt, le_true, lt_is_le, lt_through}
 use Rattle.land_tables_history.proofs.NamingTests.{any_standing}
 use Rattle.land_tables_history.proofs.Proper.{Proper}
-use Rattle.land_tables_history.specs.Changed.{begun, changed_versions, closed}
+use Rattle.land_tables_history.specs.Changed.{opened_version, changed_versions, closed_version}
 use Rattle.land_tables_history.specs.Intervals.{are_intervals, is_interval, is_stamp, overlap}
 use Rattle.land_tables_history.specs.Open.{has_ended, never}
 use Rattle.land_tables_history.specs.Standing.{standing, stands}
@@ -133,7 +133,7 @@ module _ (moments : List Moment) (last : ℤ) (by : AllByRecursion (λ (m : Mome
           go true e h = least stamp t (equal stamp t e)
           go false e h = lt_is_le t stamp (le_then_lt t last stamp (stamp_by last t moments by h) less)
 
-      begun_fits : {X : Type 0} (x : X) → is_interval more (begun x stamp) ≡ true
+      begun_fits : {X : Type 0} (x : X) → is_interval more (opened_version x stamp) ≡ true
       begun_fits x =
           and_from (int_lt stamp never && is_stamp more stamp) (int_eq never never || is_stamp more never)
           (and_from (int_lt stamp never) (is_stamp more stamp) (lt_true stamp never early) the_stamp)
@@ -150,7 +150,7 @@ module _ (moments : List Moment) (last : ℤ) (by : AllByRecursion (λ (m : Mome
           go false h = one_more v.until h
 
       closed_fits : {X : Type 0} (meant : X → Bool) (v : Version X) → is_interval moments v ≡ true
-          → is_interval more (closed meant stamp v) ≡ true
+          → is_interval more (closed_version meant stamp v) ≡ true
       closed_fits {X} meant v h = go (meant v.what && int_eq v.until never)
         where
           ended : Version X
@@ -166,19 +166,19 @@ module _ (moments : List Moment) (last : ℤ) (by : AllByRecursion (λ (m : Mome
           go false = still_fits v h
 
       all_closed_fit : {X : Type 0} (meant : X → Bool) (vs : List (Version X)) → list_all (is_interval moments) vs ≡ true
-          → list_all (is_interval more) (map_list (closed meant stamp) vs) ≡ true
+          → list_all (is_interval more) (map_list (closed_version meant stamp) vs) ≡ true
       all_closed_fit meant [] h = refl
       all_closed_fit meant (v ∷ vs) h =
           let parts = and_parts (is_interval moments v) (list_all (is_interval moments) vs) h in
-          and_from (is_interval more (closed meant stamp v)) (list_all (is_interval more) (map_list (closed meant stamp) vs))
+          and_from (is_interval more (closed_version meant stamp v)) (list_all (is_interval more) (map_list (closed_version meant stamp) vs))
           (closed_fits meant v parts.0) (all_closed_fit meant vs parts.1)
 
       -- a new version fits before others that fit
       all_fit : {X : Type 0} (put : List X) (vs : List (Version X)) → list_all (is_interval more) vs ≡ true
-          → list_all (is_interval more) (map_list (λ x. begun x stamp) put ++ vs) ≡ true
+          → list_all (is_interval more) (map_list (λ x. opened_version x stamp) put ++ vs) ≡ true
       all_fit [] vs h = h
       all_fit (x ∷ put) vs h =
-          and_from (is_interval more (begun x stamp)) (list_all (is_interval more) (map_list (λ x. begun x stamp) put ++ vs))
+          and_from (is_interval more (opened_version x stamp)) (list_all (is_interval more) (map_list (λ x. opened_version x stamp) put ++ vs))
           (begun_fits x) (all_fit put vs h)
 
       -- ---- two lifespans
@@ -186,13 +186,13 @@ module _ (moments : List Moment) (last : ℤ) (by : AllByRecursion (λ (m : Mome
       module _ {X : Type 0} (same : X → X → Bool) where
         -- a lifespan that overlaps a new one is current at the stamp
         meets : (x : X) (vs : List (Version X)) → list_all (is_interval more) vs ≡ true
-            → AllByRecursion (λ v. overlap same (begun x stamp) v ≡ true → (stands stamp v && same x v.what) ≡ true) vs
+            → AllByRecursion (λ v. overlap same (opened_version x stamp) v ≡ true → (stands stamp v && same x v.what) ≡ true) vs
         meets x [] h = tt
         meets x (v ∷ vs) h =
             let parts = and_parts (is_interval more v) (list_all (is_interval more) vs) h in
             (one parts.0, meets x vs parts.1)
           where
-            one : is_interval more v ≡ true → overlap same (begun x stamp) v ≡ true → (stands stamp v && same x v.what) ≡ true
+            one : is_interval more v ≡ true → overlap same (opened_version x stamp) v ≡ true → (stands stamp v && same x v.what) ≡ true
             one fits meet =
                 let two = and_parts (same x v.what && int_lt stamp v.until) (int_lt v.since never) meet in
                 let of_key = and_parts (same x v.what) (int_lt stamp v.until) two.0 in
@@ -200,34 +200,34 @@ module _ (moments : List Moment) (last : ℤ) (by : AllByRecursion (λ (m : Mome
                 (and_from (int_le v.since stamp) (int_lt stamp v.until) (le_true v.since stamp (by_now v.since (fit more v fits).begins)) of_key.1)
                 of_key.0
 
-        begun_stands : (x : X) (vs : List (Version X)) → standing stamp (begun x stamp ∷ vs) ≡ x ∷ standing stamp vs
+        begun_stands : (x : X) (vs : List (Version X)) → standing stamp (opened_version x stamp ∷ vs) ≡ x ∷ standing stamp vs
         begun_stands x vs =
-            one_stands stamp (begun x stamp) vs
+            one_stands stamp (opened_version x stamp) vs
             ∙ ap (λ b. cond b (x ∷ standing stamp vs) (standing stamp vs))
             (and_from (int_le stamp stamp) (int_lt stamp never) (le_true stamp stamp (least stamp stamp refl)) (lt_true stamp never early))
 
         -- if no key is current twice, a new version is disjoint from all others
         begun_apart : (put : List X) (vs : List (Version X)) → list_all (is_interval more) vs ≡ true → are_distinct (overlap same) vs ≡ true
-            → are_distinct same (standing stamp (map_list (λ x. begun x stamp) put ++ vs)) ≡ true
-            → are_distinct (overlap same) (map_list (λ x. begun x stamp) put ++ vs) ≡ true
+            → are_distinct same (standing stamp (map_list (λ x. opened_version x stamp) put ++ vs)) ≡ true
+            → are_distinct (overlap same) (map_list (λ x. opened_version x stamp) put ++ vs) ≡ true
         begun_apart [] vs fits apart once = apart
         begun_apart (x ∷ put) vs fits apart once =
-            let others : List (Version X) = map_list (λ x. begun x stamp) put ++ vs in
+            let others : List (Version X) = map_list (λ x. opened_version x stamp) put ++ vs in
             let parts =
             and_parts (not (list_any (same x) (standing stamp others))) (are_distinct same (standing stamp others))
             (sym (ap (are_distinct same) (begun_stands x others)) ∙ once) in
-            and_from (not (list_any (overlap same (begun x stamp)) others)) (are_distinct (overlap same) others)
+            and_from (not (list_any (overlap same (opened_version x stamp)) others)) (are_distinct (overlap same) others)
             (ap not
-            (none_fewer (overlap same (begun x stamp)) (λ v. stands stamp v && same x v.what) others (meets x others (all_fit put vs fits))
+            (none_fewer (overlap same (opened_version x stamp)) (λ v. stands stamp v && same x v.what) others (meets x others (all_fit put vs fits))
             (any_standing stamp (same x) others ∙ not-true (list_any (same x) (standing stamp others)) parts.0)))
             (begun_apart put vs fits apart parts.1)
 
         module _ (meant : X → Bool) where
-          closed_what : (v : Version X) → (closed meant stamp v).what ≡ v.what
+          closed_what : (v : Version X) → (closed_version meant stamp v).what ≡ v.what
           closed_what v =
               elim (meant v.what && int_eq v.until never) as (λ b. (cond b (record v { until = stamp }) v).what ≡ v.what) [ true ↦ refl | false ↦ refl ]
 
-          closed_since : (v : Version X) → (closed meant stamp v).since ≡ v.since
+          closed_since : (v : Version X) → (closed_version meant stamp v).since ≡ v.since
           closed_since v =
               elim (meant v.what && int_eq v.until never) as (λ b. (cond b (record v { until = stamp }) v).since ≡ v.since) [
                 | true ↦ refl
@@ -235,7 +235,7 @@ module _ (moments : List Moment) (last : ℤ) (by : AllByRecursion (λ (m : Mome
               ]
 
           -- a closed version ends no later than before
-          sooner : (t : ℤ) (v : Version X) → int_lt t (closed meant stamp v).until ≡ true → int_lt t v.until ≡ true
+          sooner : (t : ℤ) (v : Version X) → int_lt t (closed_version meant stamp v).until ≡ true → int_lt t v.until ≡ true
           sooner t v h = go (meant v.what && int_eq v.until never) refl h
             where
               go : (b : Bool) → (meant v.what && int_eq v.until never) ≡ b
@@ -245,10 +245,10 @@ module _ (moments : List Moment) (last : ℤ) (by : AllByRecursion (λ (m : Mome
                   ∙ lt_true t never (lt_through t stamp never (lt_from t stamp h) early)
               go false e h = h
 
-          overlapped : (v w : Version X) → overlap same (closed meant stamp v) (closed meant stamp w) ≡ true → overlap same v w ≡ true
+          overlapped : (v w : Version X) → overlap same (closed_version meant stamp v) (closed_version meant stamp w) ≡ true → overlap same v w ≡ true
           overlapped v w h =
-              let a = closed meant stamp v in
-              let b = closed meant stamp w in
+              let a = closed_version meant stamp v in
+              let b = closed_version meant stamp w in
               let two = and_parts (same a.what b.what && int_lt a.since b.until) (int_lt b.since a.until) h in
               let one = and_parts (same a.what b.what) (int_lt a.since b.until) two.0 in
               and_from (same v.what w.what && int_lt v.since w.until) (int_lt w.since v.until)
@@ -257,17 +257,17 @@ module _ (moments : List Moment) (last : ℤ) (by : AllByRecursion (λ (m : Mome
               (sooner w.since v (sym (ap (λ t. int_lt t a.until) (closed_since w)) ∙ two.1))
 
           closed_apart : (vs : List (Version X)) → are_distinct (overlap same) vs ≡ true
-              → are_distinct (overlap same) (map_list (closed meant stamp) vs) ≡ true
+              → are_distinct (overlap same) (map_list (closed_version meant stamp) vs) ≡ true
           closed_apart vs apart =
-              distinct-map (overlap same) (closed meant stamp) vs
-              ∙ distinct_fewer (λ v w. overlap same (closed meant stamp v) (closed meant stamp w)) (overlap same) overlapped vs apart
+              distinct-map (overlap same) (closed_version meant stamp) vs
+              ∙ distinct_fewer (λ v w. overlap same (closed_version meant stamp v) (closed_version meant stamp w)) (overlap same) overlapped vs apart
 
           -- intervals stay valid if no key is current twice at the stamp of the change
           pub kept : (put : List X) (vs : List (Version X)) → Proper same moments vs
               → are_distinct same (standing stamp (changed_versions put meant stamp vs)) ≡ true
               → are_intervals same more (changed_versions put meant stamp vs) ≡ true
           kept put vs proper once =
-              let closed_ones : List (Version X) = map_list (closed meant stamp) vs in
+              let closed_ones : List (Version X) = map_list (closed_version meant stamp) vs in
               let fits = all_closed_fit meant vs proper.intervals in
               and_from (list_all (is_interval more) (changed_versions put meant stamp vs))
               (are_distinct (overlap same) (changed_versions put meant stamp vs))

@@ -14,7 +14,7 @@ use Rattle.std.specs.FinMap.Entries.{below_all, by_order, find-where_key, is_sor
 use Rattle.land_core.proofs.Booleans.{T_true}
 use Rattle.land_core.proofs.FiniteMaps.{none_is_not_some, nothing_from_length}
 use Rattle.land_core.proofs.Orders.{less_apart}
-use Rattle.land_core.specs.Entries.{are_distinct, updated, with_entries, without}
+use Rattle.land_core.specs.Entries.{are_distinct, with_changes, with_entries, without}
 use Rattle.land_tables_history.proofs.Permutations.{filter_permuted}
 
 filter_filter : {X : Type 0} (p q : X → Bool) (xs : List X) → filter p (filter q xs) ≡ filter (λ x. q x && p x) xs
@@ -172,8 +172,8 @@ module _ {K : Type 0} {R : K → K → Ordering} (o : IsTotalOrder R) (same : Is
   -- after a change the entries are the inserted ones, and the others under keys that are neither inserted nor
   -- ended
   pub changed_entries : (m : FinMap R V) (es : List (K × V)) (ended : List K) → are_distinct (eq_by_cmp R) (map_list (λ e. e.0) es) ≡ true
-      → IsPermutation (es ++ outside (map_list (λ e. e.0) es ++ ended) (map.entries m)) (map.entries (updated m es ended))
+      → IsPermutation (es ++ outside (map_list (λ e. e.0) es ++ ended) (map.entries m)) (map.entries (with_changes m es ended))
   changed_entries m es ended once =
-      subst (λ l. IsPermutation (es ++ l) (map.entries (updated m es ended)))
+      subst (λ l. IsPermutation (es ++ l) (map.entries (with_changes m es ended)))
       (ap (outside (map_list (λ e. e.0) es)) (entries-without m ended) ∙ outside_both (map_list (λ e. e.0) es) ended (map.entries m))
       (made (without m ended) es once)

@@ -14,9 +14,9 @@ use Rattle.land_core.proofs.Booleans.{T_true}
 use Rattle.land_core.proofs.SoundRegisters.{refers}
 use Rattle.land_core.specs.Contents.{is_well_formed_content}
 use Rattle.land_core.specs.Entries.{are_distinct, has}
-use Rattle.land_core.specs.Mergers.{are_merged, are_others, are_rising, lists_number, rise_above}
+use Rattle.land_core.specs.Mergers.{are_merged_parcels, are_other_units, are_ascending_numbers, lists_number, all_above}
 use Rattle.land_core.specs.Numbers.{is_number}
-use Rattle.land_core.specs.Soundness.{IsSound, is_loose_mutation}
+use Rattle.land_core.specs.Soundness.{IsSound, is_dangling_mutation}
 use Rattle.land_core.specs.Texts.{is_label}
 use Rattle.land_core.specs.declared.content.Content.{Content}
 use Rattle.land_core.specs.declared.content.Content.TheVariants as content
@@ -28,7 +28,7 @@ use Rattle.land_tables_history.proofs.Entered.{distinct-map, distinct_alike}
 use Rattle.land_tables_history.proofs.NamingTests.{told_all}
 use Rattle.land_tables_history.specs.History.{named_units, namings_of}
 use Rattle.land_tables_history.specs.Intervals.{AreApart, is_same_naming}
-use Rattle.land_tables_history.specs.Lawful.{are_same_namings, is_told}
+use Rattle.land_tables_history.specs.ValidHistory.{are_same_namings, is_told}
 use Rattle.land_tables_history.specs.Standing.{standing, stands}
 use Rattle.land_tables_history.specs.declared.naming.Naming.{Naming}
 use Rattle.land_tables_history.specs.declared.version.Version.{Version}
@@ -42,23 +42,23 @@ below_more : (k last n : ℕ) → nat_lt k last ≡ true → nat_lt last n ≡ t
 below_more k last n less more = grind (arith, nat_tests)
 
 -- a number below the last one is not among later, increasing ones
-none_above : (k last : ℕ) (ns : List ℕ) → nat_lt k last ≡ true → rise_above last ns ≡ true → list_any (nat_eq k) ns ≡ false
+none_above : (k last : ℕ) (ns : List ℕ) → nat_lt k last ≡ true → all_above last ns ≡ true → list_any (nat_eq k) ns ≡ false
 none_above k last [] less rises = refl
 none_above k last (n ∷ ns) less rises =
-    let parts = and_parts (nat_lt last n) (rise_above n ns) rises in
+    let parts = and_parts (nat_lt last n) (all_above n ns) rises in
     let below = below_more k last n less parts.0 in
     ap (λ b. b || list_any (nat_eq k) ns) (below_differs k n below) ∙ none_above k n ns below parts.1
 
-none_above_last : (last : ℕ) (ns : List ℕ) → rise_above last ns ≡ true → list_any (nat_eq last) ns ≡ false
+none_above_last : (last : ℕ) (ns : List ℕ) → all_above last ns ≡ true → list_any (nat_eq last) ns ≡ false
 none_above_last last [] rises = refl
 none_above_last last (n ∷ ns) rises =
-    let parts = and_parts (nat_lt last n) (rise_above n ns) rises in
+    let parts = and_parts (nat_lt last n) (all_above n ns) rises in
     ap (λ b. b || list_any (nat_eq last) ns) (below_differs last n parts.0) ∙ none_above last n ns parts.0 parts.1
 
-rising_distinct : (last : ℕ) (ns : List ℕ) → rise_above last ns ≡ true → are_distinct nat_eq ns ≡ true
+rising_distinct : (last : ℕ) (ns : List ℕ) → all_above last ns ≡ true → are_distinct nat_eq ns ≡ true
 rising_distinct last [] rises = refl
 rising_distinct last (n ∷ ns) rises =
-    let parts = and_parts (nat_lt last n) (rise_above n ns) rises in
+    let parts = and_parts (nat_lt last n) (all_above n ns) rises in
     ap (λ b. not b && are_distinct nat_eq ns) (none_above_last n ns parts.1) ∙ rising_distinct n ns parts.1
 
 not_listed : (unit : ℕ) (ns : List ℕ) → list_any (nat_eq unit) ns ≡ lists_number ns unit
@@ -69,12 +69,12 @@ distinct_units : (c : Content) → is_well_formed_content c ≡ true → are_dis
 distinct_units (content.Transfer it) well = refl
 distinct_units (content.Subdivision it) well = refl
 distinct_units (content.Merger it) well =
-    let three = and_parts (is_number it.unit && are_others it.unit it.others && are_merged it.parcels) (is_label it.label) well in
-    let two = and_parts (is_number it.unit && are_others it.unit it.others) (are_merged it.parcels) three.0 in
-    let one = and_parts (is_number it.unit) (are_others it.unit it.others) two.0 in
+    let three = and_parts (is_number it.unit && are_other_units it.unit it.others && are_merged_parcels it.parcels) (is_label it.label) well in
+    let two = and_parts (is_number it.unit && are_other_units it.unit it.others) (are_merged_parcels it.parcels) three.0 in
+    let one = and_parts (is_number it.unit) (are_other_units it.unit it.others) two.0 in
     let apart = and_parts _ (not (lists_number it.others it.unit)) one.1 in
-    let rising = and_parts _ (are_rising it.others) apart.0 in
-    let rises = and_parts (rise_above 0 it.others) (list_all is_number it.others) rising.1 in
+    let rising = and_parts _ (are_ascending_numbers it.others) apart.0 in
+    let rises = and_parts (all_above 0 it.others) (list_all is_number it.others) rising.1 in
     ap (λ b. not b && are_distinct nat_eq it.others) (not_listed it.unit it.others ∙ not-true (lists_number it.others it.unit) apart.1) ∙ rising_distinct 0 it.others rises.0
 distinct_units (content.Mortgage it) well = refl
 distinct_units (content.Discharge it) well = refl
@@ -129,10 +129,10 @@ named_distinct (e ∷ es) sorted well =
 
 -- ---- the contents of a sound register
 
-well_formed : (r : Register) (es : List (ℕ × MutationRecord)) → list_any (λ e. is_loose_mutation r e.1) es ≡ false → AllByRecursion (λ e. is_well_formed_content e.1.content ≡ true) es
+well_formed : (r : Register) (es : List (ℕ × MutationRecord)) → list_any (λ e. is_dangling_mutation r e.1) es ≡ false → AllByRecursion (λ e. is_well_formed_content e.1.content ≡ true) es
 well_formed r [] none = tt
 well_formed r (e ∷ es) none =
-    let parts = or_parts (is_loose_mutation r e.1) (list_any (λ e. is_loose_mutation r e.1) es) none in
+    let parts = or_parts (is_dangling_mutation r e.1) (list_any (λ e. is_dangling_mutation r e.1) es) none in
     ((and_parts (has r.parties e.1.lodger && has r.sources e.1.source) (is_well_formed_content e.1.content) (not-false _ parts.0)).1, well_formed r es parts.1)
 
 pub namings_distinct : (r : Register) → IsSound r → are_distinct is_same_naming (namings_of r.mutations) ≡ true

@@ -18,7 +18,7 @@ use Rattle.land_core.specs.declared.content.Content.TheVariants as content
 use Rattle.land_core.specs.declared.mutation.MutationRecord.{MutationRecord}
 use Rattle.land_tables_history.specs.History.{named_units, namings_of}
 use Rattle.land_tables_history.specs.Intervals.{is_same_naming}
-use Rattle.land_tables_history.specs.Lawful.{are_same_namings, is_among, is_told}
+use Rattle.land_tables_history.specs.ValidHistory.{are_same_namings, is_among, is_told}
 use Rattle.land_tables_history.specs.Standing.{standing, stands}
 use Rattle.land_tables_history.specs.declared.naming.Naming.{Naming}
 use Rattle.land_tables_history.specs.declared.version.Version.{Version}

@@ -9,9 +9,9 @@ use Rattle.std.specs.Cmp.{IsTotalOrder, nat_cmp_total}
 use Rattle.std.specs.FinMap as map
 use Rattle.std.specs.FinMap.{FinMap, find, IsAntisymmetric, nat_cmp-IsAntisymmetric}
 use Rattle.std.specs.FinMap.Entries.{length_without, where_key}
-use Rattle.land_core.proofs.FiniteSets.{exact_grants, exact_mandates, grants_total, mandates_total, marks-keys}
+use Rattle.land_core.proofs.FiniteSets.{exact_grants, exact_mandates, grants_total, mandates_total, set_entries-keys}
 use Rattle.land_core.specs.Entries.{with_entries}
-use Rattle.land_core.specs.Grants.{Grants, grants_in, marks}
+use Rattle.land_core.specs.Grants.{Grants, grants_in, set_entries}
 use Rattle.land_core.specs.Mandates.{Mandates, mandates_in}
 use Rattle.land_core.specs.declared.mandates.Mandate.{Mandate}
 use Rattle.land_core.specs.declared.roles.Grant.{Grant}
@@ -98,14 +98,14 @@ given t versions m p = in_any_order nat_cmp_total nat_cmp-IsAntisymmetric m (sta
 pub granted : (t : ℤ) (versions : List (Version Grant)) (grants : Grants) → AreRolesAt t versions grants → roles_at t versions ≡ grants
 unfolding grants_in
 granted t versions grants p =
-    in_any_order grants_total exact_grants grants (marks (standing t versions))
-    (subst (λ l. IsPermutation (marks (standing t versions)) l) (marks-keys (map.entries grants))
+    in_any_order grants_total exact_grants grants (set_entries (standing t versions))
+    (subst (λ l. IsPermutation (set_entries (standing t versions)) l) (set_entries-keys (map.entries grants))
     (IsPermutation-map (λ k. (k, tt)) (standing t versions) (map.keys grants) p))
 
 -- if the current values of versions are these mandates, they build them
 pub mandated : (t : ℤ) (versions : List (Version Mandate)) (mandates : Mandates) → AreMandatesAt t versions mandates → mandates_at t versions ≡ mandates
 unfolding mandates_in
 mandated t versions mandates p =
-    in_any_order mandates_total exact_mandates mandates (marks (standing t versions))
-    (subst (λ l. IsPermutation (marks (standing t versions)) l) (marks-keys (map.entries mandates))
+    in_any_order mandates_total exact_mandates mandates (set_entries (standing t versions))
+    (subst (λ l. IsPermutation (set_entries (standing t versions)) l) (set_entries-keys (map.entries mandates))
     (IsPermutation-map (λ k. (k, tt)) (standing t versions) (map.keys mandates) p))

@@ -27,7 +27,7 @@ not_before Greater s h e = ap is_gt e
 
 no_later : (since until since' until' since'' until'' : ℤ) → since ≤ℤ since' → since' ≤ℤ since'' → int_lt since' until' ≡ true
     → (int_lt since until' && int_lt since' until) ≡ false → (int_lt since until'' && int_lt since'' until) ≡ false
-no_later since until since' until' since'' until'' p q begun apart = grind (arith, ints)
+no_later since until since' until' since'' until'' p q opened_version apart = grind (arith, ints)
 
 module _ {K : Type 0} (R : K → K → Ordering) (o : IsTotalOrder R) where
   span_total : IsTotalOrder (span_cmp R)
@@ -60,7 +60,7 @@ module _ {K : Type 0} (R : K → K → Ordering) (o : IsTotalOrder R) where
       go Less Greater f g = absurd (false≢true (sym q ∙ ap is_gt g))
 
   far : (x y z : Span K) → Follows x y → Follows y z → int_lt y.since y.until ≡ true → overlap R x y ≡ false → overlap R x z ≡ false
-  far x y z p q begun apart = go (R x.key z.key) refl
+  far x y z p q opened_version apart = go (R x.key z.key) refl
     where
       inner : (a b c : Bool) → a ≡ true → (a && b && c) ≡ false → (b && c) ≡ false
       inner a b c e h = sym (ap (λ d. d && b && c) e) ∙ h
@@ -71,7 +71,7 @@ module _ {K : Type 0} (R : K → K → Ordering) (o : IsTotalOrder R) where
       go Equal e =
           let one : R x.key y.key ≡ Equal = between x.key y.key z.key p.key q.key e in
           let other : R y.key z.key ≡ Equal = sym (o.congr x.key y.key z.key one) ∙ e in
-          no_later x.since x.until y.since y.until z.since z.until (p.since one) (q.since other) begun
+          no_later x.since x.until y.since y.until z.since z.until (p.since one) (q.since other) opened_version
           (inner (eq_by_cmp R x.key y.key) (int_lt x.since y.until) (int_lt y.since x.until) (ap is_eq one) apart)
 
   -- ---- a list in order
@@ -80,21 +80,21 @@ module _ {K : Type 0} (R : K → K → Ordering) (o : IsTotalOrder R) where
   is_begun s = int_lt s.since s.until
 
   none_far : (x y : Span K) (zs : List (Span K)) → Follows x y → is_begun y ≡ true → overlap R x y ≡ false → AllByRecursion (Follows y) zs → list_any (overlap R x) zs ≡ false
-  none_far x y [] p begun apart all = refl
-  none_far x y (z ∷ zs) p begun apart all = ap (λ b. b || list_any (overlap R x) zs) (far x y z p all.0 begun apart) ∙ none_far x y zs p begun apart all.1
+  none_far x y [] p opened_version apart all = refl
+  none_far x y (z ∷ zs) p opened_version apart all = ap (λ b. b || list_any (overlap R x) zs) (far x y z p all.0 opened_version apart) ∙ none_far x y zs p opened_version apart all.1
 
   first_only : (x : Span K) (ys : List (Span K)) → AllByRecursion (Follows x) ys → Rising Follows ys → list_all is_begun ys ≡ true → list_any (overlap R x) ys ≡ overlaps_first R x ys
-  first_only x [] all in_order begun = refl
-  first_only x (y ∷ zs) all in_order begun = go (overlap R x y) refl
+  first_only x [] all in_order opened_version = refl
+  first_only x (y ∷ zs) all in_order opened_version = go (overlap R x y) refl
     where
       go : (b : Bool) → overlap R x y ≡ b → (b || list_any (overlap R x) zs) ≡ b
       go true e = refl
-      go false e = none_far x y zs all.0 (and_parts (is_begun y) (list_all is_begun zs) begun).0 e in_order.0
+      go false e = none_far x y zs all.0 (and_parts (is_begun y) (list_all is_begun zs) opened_version).0 e in_order.0
 
   neighbours : (xs : List (Span K)) → Rising Follows xs → list_all is_begun xs ≡ true → are_neighbours_apart R xs ≡ are_apart R xs
-  neighbours [] in_order begun = refl
-  neighbours (x ∷ xs) in_order begun =
-      let rest = and_parts (is_begun x) (list_all is_begun xs) begun in
+  neighbours [] in_order opened_version = refl
+  neighbours (x ∷ xs) in_order opened_version =
+      let rest = and_parts (is_begun x) (list_all is_begun xs) opened_version in
       ap₂ (λ a b. not a && b) (sym (first_only x xs in_order.0 in_order.1 rest.1)) (neighbours xs in_order.1 rest.1)
 
   -- ---- in any order
@@ -138,8 +138,8 @@ module _ {K : Type 0} (R : K → K → Ordering) (o : IsTotalOrder R) where
   -- spans after sorting
   pub apart_in_order : (spans sorted : List (Span K)) → list_all is_begun spans ≡ true → IsPermutation spans sorted → IsSorted (span_cmp R) sorted
       → are_neighbours_apart R sorted ≡ are_apart R spans
-  apart_in_order spans sorted begun p in_order =
-      neighbours sorted (rising_in_order (span_cmp R) span_total Follows follows sorted in_order) (all_permuted is_begun spans sorted p ∙ begun) ∙ apart_permuted spans sorted p
+  apart_in_order spans sorted opened_version p in_order =
+      neighbours sorted (rising_in_order (span_cmp R) span_total Follows follows sorted in_order) (all_permuted is_begun spans sorted p ∙ opened_version) ∙ apart_permuted spans sorted p
 
 -- ---- pairs and moments
 
@@ -188,8 +188,8 @@ module _ {K : Type 0} (R : K → K → Ordering) (o : IsTotalOrder R) where
   -- if no other span shares a moment with this one, it overlaps none
   overlaps_none : (x : Span K) (ys : List (Span K)) → int_lt x.since x.until ≡ true → list_all (λ s. int_lt s.since s.until) ys ≡ true
       → ((t : ℤ) → is_at R x.key t x ≡ true → length (filter (is_at R x.key t) ys) ≤ 0) → list_any (overlap R x) ys ≡ false
-  overlaps_none x [] begun all alone = refl
-  overlaps_none x (y ∷ ys) begun all alone = go (overlap R x y) refl (overlaps_none x ys begun parts.1 (λ t here. fewer t (is_at R x.key t y) (alone t here)))
+  overlaps_none x [] opened_version all alone = refl
+  overlaps_none x (y ∷ ys) opened_version all alone = go (overlap R x y) refl (overlaps_none x ys opened_version parts.1 (λ t here. fewer t (is_at R x.key t y) (alone t here)))
     where
       parts : (int_lt y.since y.until ≡ true) × (list_all (λ s. int_lt s.since s.until) ys ≡ true)
       parts = and_parts (int_lt y.since y.until) (list_all (λ s. int_lt s.since s.until) ys) all
@@ -205,9 +205,9 @@ module _ {K : Type 0} (R : K → K → Ordering) (o : IsTotalOrder R) where
       go : (b : Bool) → overlap R x y ≡ b → list_any (overlap R x) ys ≡ false → (b || list_any (overlap R x) ys) ≡ false
       go false e rest = rest
       go true e rest = absurd (some (later x.since y.since) (is_at R x.key (later x.since y.since) y)
-          (second_there (eq_by_cmp R y.key x.key) (eq_by_cmp R x.key y.key) x.since x.until y.since y.until begun parts.0 (λ same. (eq_by_cmp_equiv o).symm y.key x.key ∙ same) e)
+          (second_there (eq_by_cmp R y.key x.key) (eq_by_cmp R x.key y.key) x.since x.until y.since y.until opened_version parts.0 (λ same. (eq_by_cmp_equiv o).symm y.key x.key ∙ same) e)
           (alone (later x.since y.since)
-          (first_there (eq_by_cmp R x.key x.key) (eq_by_cmp R x.key y.key) x.since x.until y.since y.until begun parts.0 ((eq_by_cmp_equiv o).refl x.key) e)))
+          (first_there (eq_by_cmp R x.key x.key) (eq_by_cmp R x.key y.key) x.since x.until y.since y.until opened_version parts.0 ((eq_by_cmp_equiv o).refl x.key) e)))
 
   apart_from_moments : (xs : List (Span K)) → list_all (λ s. int_lt s.since s.until) xs ≡ true → AreApart R xs → are_apart R xs ≡ true
   apart_from_moments [] all h = refl

@@ -17,8 +17,8 @@ use Rattle.land_tables_history.proofs.MomentOrder.{le_itself, le_through}
 use Rattle.land_tables_history.proofs.SweepOrders.{Rising, no_earlier, no_less, rising_in_order, then_not, tie}
 use Rattle.land_tables_history.proofs.Permutations.{all_permuted, filter_permuted}
 use Rattle.land_tables_history.specs.Sweeps.Sweep.{AreSound, is_at, standing}
-use Rattle.land_tables_history.specs.Sweeps.SweepSteps.{beginning, begun_by, end, is_begun_by, left_by, lived_cmp, sound_from, tick_cmp, ticks_of}
-use Rattle.land_tables_history.specs.declared.sweeps.sweep.Lived.{Lived}
+use Rattle.land_tables_history.specs.Sweeps.SweepSteps.{beginning, begun_by, end, is_begun_by, left_by, live_span_cmp, sound_from, tick_cmp, all_ticks}
+use Rattle.land_tables_history.specs.declared.sweeps.sweep.LiveSpan.{LiveSpan}
 use Rattle.land_tables_history.specs.declared.sweeps.sweep.Tick.{Tick}
 
 -- ---- in plain numbers
@@ -58,13 +58,13 @@ record TickFollows (a b : Tick) : Type 0 where
   at : nat_eq a.key b.key ≡ true → a.at ≤ℤ b.at
 
 module _ {T : Type 0} where
-  record Follows (x y : Lived T) : Type 0 where
+  record Follows (x y : LiveSpan T) : Type 0 where
     key : x.key ≤ y.key
     since : nat_eq x.key y.key ≡ true → x.since ≤ℤ y.since
 
   -- ---- started values, and the remaining ones
 
-  parted : (tick : Tick) (xs : List (Lived T)) → begun_by tick xs ++ left_by tick xs ≡ xs
+  parted : (tick : Tick) (xs : List (LiveSpan T)) → begun_by tick xs ++ left_by tick xs ≡ xs
   parted tick [] = refl
   parted tick (x ∷ xs) = go (is_begun_by tick x) (parted tick xs)
     where
@@ -72,10 +72,10 @@ module _ {T : Type 0} where
       go true h = ap (λ l. x ∷ l) h
       go false h = refl
 
-  abbrev Begun : Tick → Lived T → Type 0
+  abbrev Begun : Tick → LiveSpan T → Type 0
   Begun tick x = is_begun_by tick x ≡ true
 
-  all_begun : (tick : Tick) (xs : List (Lived T)) → AllByRecursion (Begun tick) (begun_by tick xs)
+  all_begun : (tick : Tick) (xs : List (LiveSpan T)) → AllByRecursion (Begun tick) (begun_by tick xs)
   all_begun tick [] = tt
   all_begun tick (x ∷ xs) = go (is_begun_by tick x) refl (all_begun tick xs)
     where
@@ -83,7 +83,7 @@ module _ {T : Type 0} where
       go true e h = (e, h)
       go false e h = tt
 
-  none_begun : (tick : Tick) (x : Lived T) (ys : List (Lived T)) → is_begun_by tick x ≡ false → AllByRecursion (Follows x) ys → AllByRecursion (λ y. is_begun_by tick y ≡ false) ys
+  none_begun : (tick : Tick) (x : LiveSpan T) (ys : List (LiveSpan T)) → is_begun_by tick x ≡ false → AllByRecursion (Follows x) ys → AllByRecursion (λ y. is_begun_by tick y ≡ false) ys
   none_begun tick x [] e all = tt
   none_begun tick x (y ∷ ys) e all = (go (is_begun_by tick y) refl, none_begun tick x ys e all.1)
     where
@@ -91,7 +91,7 @@ module _ {T : Type 0} where
       go true f = sym (earlier x.key y.key tick.key x.since y.since tick.at all.0.key all.0.since f) ∙ e
       go false f = refl
 
-  all_left : (tick : Tick) (xs : List (Lived T)) → Rising Follows xs → AllByRecursion (λ y. is_begun_by tick y ≡ false) (left_by tick xs)
+  all_left : (tick : Tick) (xs : List (LiveSpan T)) → Rising Follows xs → AllByRecursion (λ y. is_begun_by tick y ≡ false) (left_by tick xs)
   all_left tick [] rising = tt
   all_left tick (x ∷ xs) rising = go (is_begun_by tick x) refl (all_left tick xs rising.1)
     where
@@ -99,7 +99,7 @@ module _ {T : Type 0} where
       go true e h = h
       go false e h = (e, none_begun tick x xs e rising.0)
 
-  rising_left : (tick : Tick) (xs : List (Lived T)) → Rising Follows xs → Rising Follows (left_by tick xs)
+  rising_left : (tick : Tick) (xs : List (LiveSpan T)) → Rising Follows xs → Rising Follows (left_by tick xs)
   rising_left tick [] rising = tt
   rising_left tick (x ∷ xs) rising = go (is_begun_by tick x) (rising_left tick xs rising.1)
     where
@@ -107,17 +107,17 @@ module _ {T : Type 0} where
       go true h = h
       go false h = rising
 
-  none_stand : (tick : Tick) (xs : List (Lived T)) → AllByRecursion (λ y. is_begun_by tick y ≡ false) xs → filter (is_at tick.key tick.at) xs ≡ []
+  none_stand : (tick : Tick) (xs : List (LiveSpan T)) → AllByRecursion (λ y. is_begun_by tick y ≡ false) xs → filter (is_at tick.key tick.at) xs ≡ []
   none_stand tick [] all = refl
   none_stand tick (x ∷ xs) all =
       ap (λ b. cond b (x ∷ filter (is_at tick.key tick.at) xs) (filter (is_at tick.key tick.at) xs)) (not_yet x.key tick.key x.since x.until tick.at all.0) ∙ none_stand tick xs all.1
 
-  both_parts : (P : Lived T → Type 0) (xs ys : List (Lived T)) → AllByRecursion P xs → AllByRecursion P ys → AllByRecursion P (xs ++ ys)
+  both_parts : (P : LiveSpan T → Type 0) (xs ys : List (LiveSpan T)) → AllByRecursion P xs → AllByRecursion P ys → AllByRecursion P (xs ++ ys)
   both_parts P [] ys a b = b
   both_parts P (x ∷ xs) ys a b = (a.0, both_parts P xs ys a.1 b)
 
   -- a value that is current at a later tick was current at this one, if it had started
-  stood : (a u : Tick) → TickFollows a u → (xs : List (Lived T)) → AllByRecursion (Begun a) xs → filter (is_at u.key u.at) (filter (is_at a.key a.at) xs) ≡ filter (is_at u.key u.at) xs
+  stood : (a u : Tick) → TickFollows a u → (xs : List (LiveSpan T)) → AllByRecursion (Begun a) xs → filter (is_at u.key u.at) (filter (is_at a.key a.at) xs) ≡ filter (is_at u.key u.at) xs
   stood a u f [] all = refl
   stood a u f (x ∷ xs) all = go (is_at a.key a.at x) (is_at u.key u.at x) refl refl (stood a u f xs all.1)
     where
@@ -130,7 +130,7 @@ module _ {T : Type 0} where
       go false true e g h = absurd (false≢true (sym e ∙ one g))
       go false false e g h = h
 
-  kept : (a : Tick) (xs : List (Lived T)) (P : Lived T → Type 0) → AllByRecursion P xs → AllByRecursion P (filter (is_at a.key a.at) xs)
+  kept : (a : Tick) (xs : List (LiveSpan T)) (P : LiveSpan T → Type 0) → AllByRecursion P xs → AllByRecursion P (filter (is_at a.key a.at) xs)
   kept a [] P all = tt
   kept a (x ∷ xs) P all = go (is_at a.key a.at x) (kept a xs P all.1)
     where
@@ -138,54 +138,54 @@ module _ {T : Type 0} where
       go true h = (all.0, h)
       go false h = h
 
-  later_begun : (a u : Tick) → TickFollows a u → (xs : List (Lived T)) → AllByRecursion (Begun a) xs → AllByRecursion (Begun u) xs
+  later_begun : (a u : Tick) → TickFollows a u → (xs : List (LiveSpan T)) → AllByRecursion (Begun a) xs → AllByRecursion (Begun u) xs
   later_begun a u f [] all = tt
   later_begun a u f (x ∷ xs) all = (still_begun x.key a.key u.key x.since a.at u.at f.key f.at all.0, later_begun a u f xs all.1)
 
-  all_later : (a : Tick) (us : List Tick) → AllByRecursion (TickFollows a) us → (xs : List (Lived T)) → AllByRecursion (Begun a) xs → AllByRecursion (λ u. AllByRecursion (Begun u) xs) us
+  all_later : (a : Tick) (us : List Tick) → AllByRecursion (TickFollows a) us → (xs : List (LiveSpan T)) → AllByRecursion (Begun a) xs → AllByRecursion (λ u. AllByRecursion (Begun u) xs) us
   all_later a [] fs xs all = tt
   all_later a (u ∷ us) fs xs all = (later_begun a u fs.0 xs all, all_later a us fs.1 xs all)
 
   -- ---- from tick to tick
 
   module _ (is_sound : List T → Bool) where
-    abbrev judged : List (Lived T) → Tick → Bool
+    abbrev judged : List (LiveSpan T) → Tick → Bool
     judged xs u = is_sound (standing xs u.key u.at)
 
     alike : (p q : Tick → Bool) (us : List Tick) → AllByRecursion (λ u. p u ≡ q u) us → list_all p us ≡ list_all q us
     alike p q [] all = refl
     alike p q (u ∷ us) all = ap₂ (λ b c. b && c) all.0 (alike p q us all.1)
 
-    swept : (there later : List (Lived T)) (ticks : List Tick) → Rising Follows later → Rising TickFollows ticks → AllByRecursion (λ u. AllByRecursion (Begun u) there) ticks
+    swept : (there later : List (LiveSpan T)) (ticks : List Tick) → Rising Follows later → Rising TickFollows ticks → AllByRecursion (λ u. AllByRecursion (Begun u) there) ticks
         → sound_from is_sound there later ticks ≡ list_all (judged (there ++ later)) ticks
     swept there later [] rising ticks ready = refl
     swept there later (a ∷ us) rising ticks ready =
         ap₂ (λ b c. b && c) (ap (λ l. is_sound (map_list (λ x. x.what) l)) (sym now))
-        (swept gone left us (rising_left a later rising) ticks.1 (all_later a us ticks.0 gone (kept a come (Begun a) begun))
+        (swept gone left us (rising_left a later rising) ticks.1 (all_later a us ticks.0 gone (kept a add_started (Begun a) opened_version))
         ∙ alike (judged (gone ++ left)) (judged (there ++ later)) us (each us ticks.0))
       where
-        come : List (Lived T)
-        come = there ++ begun_by a later
+        add_started : List (LiveSpan T)
+        add_started = there ++ begun_by a later
 
-        left : List (Lived T)
+        left : List (LiveSpan T)
         left = left_by a later
 
-        gone : List (Lived T)
-        gone = filter (is_at a.key a.at) come
+        gone : List (LiveSpan T)
+        gone = filter (is_at a.key a.at) add_started
 
-        begun : AllByRecursion (Begun a) come
-        begun = both_parts (Begun a) there (begun_by a later) ready.0 (all_begun a later)
+        opened_version : AllByRecursion (Begun a) add_started
+        opened_version = both_parts (Begun a) there (begun_by a later) ready.0 (all_begun a later)
 
-        whole : come ++ left ≡ there ++ later
+        whole : add_started ++ left ≡ there ++ later
         whole = append_assoc there (begun_by a later) left ∙ ap (λ l. there ++ l) (parted a later)
 
         now : filter (is_at a.key a.at) (there ++ later) ≡ gone
-        now = ap (filter (is_at a.key a.at)) (sym whole) ∙ filter-append (is_at a.key a.at) come left ∙ ap (λ l. gone ++ l) (none_stand a left (all_left a later rising)) ∙ append-nil gone
+        now = ap (filter (is_at a.key a.at)) (sym whole) ∙ filter-append (is_at a.key a.at) add_started left ∙ ap (λ l. gone ++ l) (none_stand a left (all_left a later rising)) ∙ append-nil gone
 
         then : (u : Tick) → TickFollows a u → filter (is_at u.key u.at) (gone ++ left) ≡ filter (is_at u.key u.at) (there ++ later)
         then u f =
-            filter-append (is_at u.key u.at) gone left ∙ ap (λ l. l ++ filter (is_at u.key u.at) left) (stood a u f come begun)
-            ∙ sym (filter-append (is_at u.key u.at) come left) ∙ ap (filter (is_at u.key u.at)) whole
+            filter-append (is_at u.key u.at) gone left ∙ ap (λ l. l ++ filter (is_at u.key u.at) left) (stood a u f add_started opened_version)
+            ∙ sym (filter-append (is_at u.key u.at) add_started left) ∙ ap (filter (is_at u.key u.at)) whole
 
         each : (vs : List Tick) → AllByRecursion (TickFollows a) vs → AllByRecursion (λ u. judged (gone ++ left) u ≡ judged (there ++ later) u) vs
         each [] fs = tt
@@ -254,48 +254,48 @@ split_list P [] ys all = (tt, all)
 split_list P (x ∷ xs) ys all = let rest = split_list P xs ys all.1 in ((all.0, rest.0), rest.1)
 
 module _ {T : Type 0} (is_sound : List T → Bool) (empty_is_sound : is_sound [] ≡ true) where
-  each_sound : (lived : List (Lived T)) → list_all (judged is_sound lived) (ticks_of lived) ≡ true → AreSound is_sound lived
-  each_sound lived all key t = elim (latest (judged is_sound lived) key t (ticks_of lived) all) [
+  each_sound : (live_spans : List (LiveSpan T)) → list_all (judged is_sound live_spans) (all_ticks live_spans) ≡ true → AreSound is_sound live_spans
+  each_sound live_spans all key t = elim (latest (judged is_sound live_spans) key t (all_ticks live_spans) all) [
     | inl l ↦
-        let parts = split_list (λ u. nat_eq u.key key ≡ true → u.at ≤ℤ t → u.at ≤ℤ l.best) (map_list beginning lived) (map_list end lived) l.least in
-        ap (λ xs. is_sound (map_list (λ x. x.what) xs)) (alike_at l.best l.before lived parts.0 parts.1) ∙ l.holds
+        let parts = split_list (λ u. nat_eq u.key key ≡ true → u.at ≤ℤ t → u.at ≤ℤ l.best) (map_list beginning live_spans) (map_list end live_spans) l.least in
+        ap (λ xs. is_sound (map_list (λ x. x.what) xs)) (alike_at l.best l.before live_spans parts.0 parts.1) ∙ l.holds
     | inr n ↦
-        let parts = split_list (λ u. nat_eq u.key key ≡ true → u.at ≤ℤ t → ⊥) (map_list beginning lived) (map_list end lived) n in
-        ap (λ xs. is_sound (map_list (λ x. x.what) xs)) (nothing_at lived parts.0) ∙ empty_is_sound
+        let parts = split_list (λ u. nat_eq u.key key ≡ true → u.at ≤ℤ t → ⊥) (map_list beginning live_spans) (map_list end live_spans) n in
+        ap (λ xs. is_sound (map_list (λ x. x.what) xs)) (nothing_at live_spans parts.0) ∙ empty_is_sound
   ]
     where
-      alike_at : (best : ℤ) → best ≤ℤ t → (xs : List (Lived T)) → AllByRecursion (λ u. nat_eq u.key key ≡ true → u.at ≤ℤ t → u.at ≤ℤ best) (map_list beginning xs)
+      alike_at : (best : ℤ) → best ≤ℤ t → (xs : List (LiveSpan T)) → AllByRecursion (λ u. nat_eq u.key key ≡ true → u.at ≤ℤ t → u.at ≤ℤ best) (map_list beginning xs)
           → AllByRecursion (λ u. nat_eq u.key key ≡ true → u.at ≤ℤ t → u.at ≤ℤ best) (map_list end xs) → filter (is_at key t) xs ≡ filter (is_at key best) xs
       alike_at best p [] b e = refl
       alike_at best p (x ∷ xs) b e =
           ap (λ c. cond c (x ∷ filter (is_at key t) xs) (filter (is_at key t) xs)) (same_since x.key key x.since x.until t best p b.0 e.0)
           ∙ ap (λ l. cond (is_at key best x) (x ∷ l) l) (alike_at best p xs b.1 e.1)
 
-      nothing_at : (xs : List (Lived T)) → AllByRecursion (λ u. nat_eq u.key key ≡ true → u.at ≤ℤ t → ⊥) (map_list beginning xs) → filter (is_at key t) xs ≡ []
+      nothing_at : (xs : List (LiveSpan T)) → AllByRecursion (λ u. nat_eq u.key key ≡ true → u.at ≤ℤ t → ⊥) (map_list beginning xs) → filter (is_at key t) xs ≡ []
       nothing_at [] b = refl
       nothing_at (x ∷ xs) b = ap (λ c. cond c (x ∷ filter (is_at key t) xs) (filter (is_at key t) xs)) (never_since x.key key x.since x.until t b.0) ∙ nothing_at xs b.1
 
-  at_ticks : (lived : List (Lived T)) (us : List Tick) → AreSound is_sound lived → list_all (judged is_sound lived) us ≡ true
-  at_ticks lived [] h = refl
-  at_ticks lived (u ∷ us) h = ap (λ c. c && list_all (judged is_sound lived) us) (h u.key u.at) ∙ at_ticks lived us h
+  at_ticks : (live_spans : List (LiveSpan T)) (us : List Tick) → AreSound is_sound live_spans → list_all (judged is_sound live_spans) us ≡ true
+  at_ticks live_spans [] h = refl
+  at_ticks live_spans (u ∷ us) h = ap (λ c. c && list_all (judged is_sound live_spans) us) (h u.key u.at) ∙ at_ticks live_spans us h
 
   module _ (in_any_order : (xs ys : List T) → IsPermutation xs ys → is_sound xs ≡ is_sound ys) where
-    same_judged : (lived sorted : List (Lived T)) → IsPermutation lived sorted → (us : List Tick) → list_all (judged is_sound sorted) us ≡ list_all (judged is_sound lived) us
-    same_judged lived sorted p [] = refl
-    same_judged lived sorted p (u ∷ us) =
+    same_judged : (live_spans sorted : List (LiveSpan T)) → IsPermutation live_spans sorted → (us : List Tick) → list_all (judged is_sound sorted) us ≡ list_all (judged is_sound live_spans) us
+    same_judged live_spans sorted p [] = refl
+    same_judged live_spans sorted p (u ∷ us) =
         ap₂ (λ b c. b && c)
-        (sym (in_any_order (standing lived u.key u.at) (standing sorted u.key u.at)
-        (IsPermutation-map (λ (x : Lived T). x.what) (filter (is_at u.key u.at) lived) (filter (is_at u.key u.at) sorted) (filter_permuted (is_at u.key u.at) lived sorted p))))
-        (same_judged lived sorted p us)
+        (sym (in_any_order (standing live_spans u.key u.at) (standing sorted u.key u.at)
+        (IsPermutation-map (λ (x : LiveSpan T). x.what) (filter (is_at u.key u.at) live_spans) (filter (is_at u.key u.at) sorted) (filter_permuted (is_at u.key u.at) live_spans sorted p))))
+        (same_judged live_spans sorted p us)
 
-    in_order_sound : (lived sorted : List (Lived T)) (ticks : List Tick) → IsPermutation lived sorted → Rising Follows sorted → IsPermutation (ticks_of lived) ticks → Rising TickFollows ticks
-        → (sound_from is_sound [] sorted ticks ≡ true) ↔ AreSound is_sound lived
-    in_order_sound lived sorted ticks p rising q in_order =
-        let same : sound_from is_sound [] sorted ticks ≡ list_all (judged is_sound lived) (ticks_of lived) =
-        swept is_sound [] sorted ticks rising in_order (ready ticks) ∙ same_judged lived sorted p ticks ∙ all_permuted (judged is_sound lived) (ticks_of lived) ticks q in
-        (λ h. each_sound lived (sym same ∙ h), λ h. same ∙ at_ticks lived (ticks_of lived) h)
+    in_order_sound : (live_spans sorted : List (LiveSpan T)) (ticks : List Tick) → IsPermutation live_spans sorted → Rising Follows sorted → IsPermutation (all_ticks live_spans) ticks → Rising TickFollows ticks
+        → (sound_from is_sound [] sorted ticks ≡ true) ↔ AreSound is_sound live_spans
+    in_order_sound live_spans sorted ticks p rising q in_order =
+        let same : sound_from is_sound [] sorted ticks ≡ list_all (judged is_sound live_spans) (all_ticks live_spans) =
+        swept is_sound [] sorted ticks rising in_order (ready ticks) ∙ same_judged live_spans sorted p ticks ∙ all_permuted (judged is_sound live_spans) (all_ticks live_spans) ticks q in
+        (λ h. each_sound live_spans (sym same ∙ h), λ h. same ∙ at_ticks live_spans (all_ticks live_spans) h)
       where
-        ready : (us : List Tick) → AllByRecursion (λ u. AllByRecursion (λ (x : Lived T). is_begun_by u x ≡ true) []) us
+        ready : (us : List Tick) → AllByRecursion (λ u. AllByRecursion (λ (x : LiveSpan T). is_begun_by u x ≡ true) []) us
         ready [] = tt
         ready (u ∷ us) = (tt, ready us)
 
@@ -310,12 +310,12 @@ tick_follows a b h =
     record { key = no_less a.key b.key one.0; at = λ same. no_earlier a.at b.at (one.1 (tie a.key b.key same)) }
 
 module _ {T : Type 0} (R : T → T → Ordering) (o : IsTotalOrder R) where
-  lived_total : IsTotalOrder (lived_cmp R)
+  lived_total : IsTotalOrder (live_span_cmp R)
   lived_total =
-      then_total (on_total (λ (x : Lived T). x.key) nat_cmp_total)
-      (then_total (on_total (λ (x : Lived T). x.since) int_cmp_total) (then_total (on_total (λ (x : Lived T). x.until) int_cmp_total) (on_total (λ (x : Lived T). x.what) o)))
+      then_total (on_total (λ (x : LiveSpan T). x.key) nat_cmp_total)
+      (then_total (on_total (λ (x : LiveSpan T). x.since) int_cmp_total) (then_total (on_total (λ (x : LiveSpan T). x.until) int_cmp_total) (on_total (λ (x : LiveSpan T). x.what) o)))
 
-  lived_follows : (x y : Lived T) → is_lt (lived_cmp R y x) ≡ false → Follows x y
+  lived_follows : (x y : LiveSpan T) → is_lt (live_span_cmp R y x) ≡ false → Follows x y
   lived_follows x y h =
       let ends : Ordering = ordering_then (int_cmp y.until x.until) (R y.what x.what) in
       let one = then_not (nat_cmp y.key x.key) (ordering_then (int_cmp y.since x.since) ends) h in
@@ -323,7 +323,7 @@ module _ {T : Type 0} (R : T → T → Ordering) (o : IsTotalOrder R) where
 
   -- sorting does not change the result
   pub sound_in_order : (is_sound : List T → Bool) → is_sound [] ≡ true → ((xs ys : List T) → IsPermutation xs ys → is_sound xs ≡ is_sound ys)
-      → (lived sorted : List (Lived T)) (ticks : List Tick) → IsPermutation lived sorted → IsSorted (lived_cmp R) sorted → IsPermutation (ticks_of lived) ticks → IsSorted tick_cmp ticks
-      → (sound_from is_sound [] sorted ticks ≡ true) ↔ AreSound is_sound lived
-  sound_in_order is_sound empty_is_sound in_any_order lived sorted ticks p s q r =
-      in_order_sound is_sound empty_is_sound in_any_order lived sorted ticks p (rising_in_order (lived_cmp R) lived_total Follows lived_follows sorted s) q (rising_in_order tick_cmp tick_total TickFollows tick_follows ticks r)
+      → (live_spans sorted : List (LiveSpan T)) (ticks : List Tick) → IsPermutation live_spans sorted → IsSorted (live_span_cmp R) sorted → IsPermutation (all_ticks live_spans) ticks → IsSorted tick_cmp ticks
+      → (sound_from is_sound [] sorted ticks ≡ true) ↔ AreSound is_sound live_spans
+  sound_in_order is_sound empty_is_sound in_any_order live_spans sorted ticks p s q r =
+      in_order_sound is_sound empty_is_sound in_any_order live_spans sorted ticks p (rising_in_order (live_span_cmp R) lived_total Follows lived_follows sorted s) q (rising_in_order tick_cmp tick_total TickFollows tick_follows ticks r)

@@ -19,18 +19,18 @@ use Rattle.land_tables_history.specs.declared.naming.Naming.{Naming}
 use Rattle.land_tables_history.specs.declared.version.Version.{Version}
 
 -- a new version, which is current from `since`
-abbrev pub begun : {X : Type 0} → X → (since : ℤ) → Version X
-begun x since = record { what = x; since = since; until = never }
+abbrev pub opened_version : {X : Type 0} → X → (since : ℤ) → Version X
+opened_version x since = record { what = x; since = since; until = never }
 
 -- ends a version at `stamp` if it is current and meant; leaves other versions unchanged
-abbrev pub closed : {X : Type 0} → (meant : X → Bool) → (stamp : ℤ) → Version X → Version X
-closed meant stamp v = if meant v.what && int_eq v.until never then record v { until = stamp } else v
+abbrev pub closed_version : {X : Type 0} → (meant : X → Bool) → (stamp : ℤ) → Version X → Version X
+closed_version meant stamp v = if meant v.what && int_eq v.until never then record v { until = stamp } else v
 
 -- inserted values start at the stamp, and meant versions end there
 abbrev pub changed_versions : {X : Type 0} → (put : List X) → (meant : X → Bool) → (stamp : ℤ)
     → List (Version X) → List (Version X)
 changed_versions put meant stamp versions =
-    map_list (λ x. begun x stamp) put ++ map_list (closed meant stamp) versions
+    map_list (λ x. opened_version x stamp) put ++ map_list (closed_version meant stamp) versions
 
 -- whether a key is among these
 abbrev pub is_among : {K : Type 0} → (same : K → K → Bool) → List K → K → Bool

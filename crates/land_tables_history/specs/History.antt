@@ -30,7 +30,7 @@ namings_of mutations =
 
 -- The current versions are exactly the register's records, roles, members and mandates, and the units that
 -- its mutations refer to.
-pub record StandsAt (t : ℤ) (history : History) (register : Register) : Type 0 where
+pub record IsRegisterAt (t : ℤ) (history : History) (register : Register) : Type 0 where
   pub parties : IsPartAt t history.parties register.parties
   pub roles : AreRolesAt t history.roles register.roles
   pub members : AreGroupsAt t history.members register.members

@@ -8,14 +8,14 @@ use Rattle.land_core.specs.declared.change.Change.{Change}
 use Rattle.land_core.specs.declared.mutation.MutationRecord.{MutationRecord}
 use Rattle.land_core.specs.declared.register.Register.{Register}
 use Rattle.land_tables_history.specs.Changed.{changed}
-use Rattle.land_tables_history.specs.History.{StandsAt, named_units}
+use Rattle.land_tables_history.specs.History.{IsRegisterAt, named_units}
 use Rattle.land_tables_history.specs.Intervals.{has_intervals}
 use Rattle.land_tables_history.specs.Open.{have_ended, never}
 use Rattle.land_tables_history.specs.declared.history.History.{History}
 use Rattle.land_tables_history.specs.declared.moment.Moment.{Moment}
 
 -- an inserted mutation exists already, and refers to the same units
-pub record IsAsItWas (r : Register) (number : ℕ) (m : MutationRecord) : Type 0 where
+pub record IsUnchangedButState (r : Register) (number : ℕ) (m : MutationRecord) : Type 0 where
   pub old : MutationRecord
   pub there : map.get r.mutations number ≡ Some old
   pub units : named_units m.content ≡ named_units old.content
@@ -23,20 +23,20 @@ pub record IsAsItWas (r : Register) (number : ℕ) (m : MutationRecord) : Type 0
 -- the mutations of a change are new, or exist with the same units, and none is ended
 pub record PutsMutations (r : Register) (change : Change) : Type 0 where
   pub used : (number : ℕ) (m : MutationRecord) → map.get r.mutations number ≡ Some m → number < r.next
-  pub put : AllByRecursion (λ e. (r.next ≤ e.0) ⊎ IsAsItWas r e.0 e.1) change.put.mutations
+  pub put : AllByRecursion (λ e. (r.next ≤ e.0) ⊎ IsUnchangedButState r e.0 e.1) change.put.mutations
   pub ended : change.ended.mutations ≡ []
 
 -- a change leaves the register at all earlier moments unchanged
-abbrev pub PastStands : Type 0
-PastStands = (next : ℕ) (change : Change) (stamp t : ℤ) (history : History) (r : Register)
-    → t <ℤ stamp → t <ℤ never → StandsAt t history r → StandsAt t (changed next change stamp history) r
+abbrev pub ChangesKeepThePast : Type 0
+ChangesKeepThePast = (next : ℕ) (change : Change) (stamp t : ℤ) (history : History) (r : Register)
+    → t <ℤ stamp → t <ℤ never → IsRegisterAt t history r → IsRegisterAt t (changed next change stamp history) r
 
 -- from its stamp on, the register is the one after the change, if the last change was before that
-abbrev pub ChangeStands : Type 0
-ChangeStands = (change : Change) (last stamp t : ℤ) (history : History) (r : Register)
+abbrev pub ChangesTakeEffect : Type 0
+ChangesTakeEffect = (change : Change) (last stamp t : ℤ) (history : History) (r : Register)
     → have_ended last history ≡ true → last <ℤ stamp → stamp ≤ℤ t → t <ℤ never → NamesKeysOnce change
     → PutsMutations r change
-    → StandsAt t history r → StandsAt t (changed r.next change stamp history) (after change r)
+    → IsRegisterAt t history r → IsRegisterAt t (changed r.next change stamp history) (after change r)
 
 -- then each lifespan is open, or has ended by the stamp
 abbrev pub ChangedHaveEnded : Type 0
@@ -51,6 +51,6 @@ ChangesKeepIntervals =
     (moments : List Moment) (change : Change) (last stamp : ℤ) (history : History) (r : Register)
     → has_intervals moments history ≡ true → AllByRecursion (λ (m : Moment). m.stamp ≤ℤ last) moments
     → last <ℤ stamp → stamp <ℤ never
-    → NamesKeysOnce change → PutsMutations r change → StandsAt last history r → IsSound (after change r)
+    → NamesKeysOnce change → PutsMutations r change → IsRegisterAt last history r → IsSound (after change r)
     → has_intervals (record { stamp = stamp; next = change.next } ∷ moments)
     (changed r.next change stamp history) ≡ true

@@ -3,7 +3,7 @@ pub mod Changed
 pub mod Groups
 pub mod History
 pub mod Intervals
-pub mod Lawful
+pub mod ValidHistory
 pub mod Laws
 pub mod Moments
 pub mod Open

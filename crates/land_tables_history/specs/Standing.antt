@@ -5,7 +5,7 @@ use Rattle.std.specs.Ordering.{nat_cmp}
 use Rattle.std.specs.FinMap as map
 use Rattle.std.specs.FinMap.{FinMap}
 use Rattle.land_core.specs.Entries.{with_entries}
-use Rattle.land_core.specs.Grants.{Grants, grants_in, marks}
+use Rattle.land_core.specs.Grants.{Grants, grants_in, set_entries}
 use Rattle.land_core.specs.Mandates.{Mandates, mandates_in}
 use Rattle.land_core.specs.declared.mandates.Mandate.{Mandate}
 use Rattle.land_core.specs.declared.roles.Grant.{Grant}
@@ -33,7 +33,7 @@ AreRolesAt t versions grants = IsPermutation (standing t versions) (grants_in gr
 
 -- the current grants, inserted in order
 abbrev pub roles_at : ℤ → List (Version Grant) → Grants
-roles_at t versions = with_entries map.empty (marks (standing t versions))
+roles_at t versions = with_entries map.empty (set_entries (standing t versions))
 
 -- the current versions are exactly these mandates
 abbrev pub AreMandatesAt : ℤ → List (Version Mandate) → Mandates → Type 0
@@ -41,4 +41,4 @@ AreMandatesAt t versions mandates = IsPermutation (standing t versions) (mandate
 
 -- the current mandates, inserted in order
 abbrev pub mandates_at : ℤ → List (Version Mandate) → Mandates
-mandates_at t versions = with_entries map.empty (marks (standing t versions))
+mandates_at t versions = with_entries map.empty (set_entries (standing t versions))

@@ -1,15 +1,15 @@
 //! Laws, each on definitions only.
-ghost use Rattle.land_tables_history.specs.Laws.{ChangeStands, ChangedHaveEnded, ChangesKeepIntervals};
-ghost use Rattle.land_tables_history.specs.Laws.{PastStands};
+ghost use Rattle.land_tables_history.specs.Laws.{ChangesTakeEffect, ChangedHaveEnded, ChangesKeepIntervals};
+ghost use Rattle.land_tables_history.specs.Laws.{ChangesKeepThePast};
 
 /// A change leaves the register at all earlier moments unchanged.
-pub fn the_past_stands()
-    ensures { PastStands }
+pub fn changes_keep_the_past()
+    ensures { ChangesKeepThePast }
 {}
 
 /// From the stamp of a change on, the register is the one after the change.
-pub fn a_change_stands()
-    ensures { ChangeStands }
+pub fn changes_take_effect()
+    ensures { ChangesTakeEffect }
 {}
 
 /// After a change each lifespan is open, or has ended by its stamp.

@@ -34,7 +34,7 @@ fn latest_at(moments: &[Moment], at: i64) -> Option<Moment>
 {
     let mut found = None;
     for moment in moments {
-        if goes_on_to(found, moment, at) {
+        if is_later_until(found, moment, at) {
             found = Some(*moment);
         }
     }
@@ -42,7 +42,7 @@ fn latest_at(moments: &[Moment], at: i64) -> Option<Moment>
 }
 
 /// Returns whether a commit is at or before a moment, and not earlier than the one found until now, if any.
-fn goes_on_to(found: Option<Moment>, moment: &Moment, at: i64) -> bool
+fn is_later_until(found: Option<Moment>, moment: &Moment, at: i64) -> bool
     ensures { result ≡ (int_le moment.now.stamp at && follows found moment.now) }
 {
     moment.stamp <= at && follows(found, moment)

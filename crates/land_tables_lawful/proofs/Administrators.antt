@@ -17,14 +17,14 @@ use Rattle.land_tables_history.specs.Standing.{stands}
 use Rattle.land_tables_history.specs.declared.history.History.{History}
 use Rattle.land_tables_history.specs.declared.moment.Moment.{Moment}
 use Rattle.land_tables_history.specs.declared.version.Version.{Version}
-use Rattle.land_tables_lawful.specs.Administrator.{administrators, asked_instants, instant, is_of_administrator, offered_administrators}
+use Rattle.land_tables_lawful.specs.Administrator.{administrators, required_instants, instant, is_of_administrator, provided_administrators}
 use Rattle.land_tables_lawful.proofs.Covers.{covered_iff, pieces_begin, stood_by}
 use Rattle.land_tables_lawful.proofs.Passing.{intervals_among, stood_among}
 use Rattle.land_tables_lawful.proofs.References.{by_way_of}
 use Rattle.land_tables_lawful.proofs.RoleHolders.{some_role}
 use Rattle.land_tables_lawful.specs.Never.{Never}
 use Rattle.land_tables_history.specs.Sweeps.Cover.{IsCovered}
-use Rattle.land_tables_history.specs.declared.sweeps.cover.Piece.{Piece}
+use Rattle.land_tables_history.specs.declared.sweeps.cover.CoverageSpan.{CoverageSpan}
 
 -- ---- one stamp
 
@@ -64,13 +64,13 @@ module _ (roles : List (Version Grant)) where
   ]
 
 -- state administrators are provided, and each commit requires one
-abbrev pub administrator_pieces : List (Version Grant) → List Moment → List Piece
-administrator_pieces roles moments = offered_administrators roles ++ asked_instants moments
+abbrev pub administrator_pieces : List (Version Grant) → List Moment → List CoverageSpan
+administrator_pieces roles moments = provided_administrators roles ++ required_instants moments
 
-instants_begin : (ms : List Moment) → list_all (λ x. int_lt x.since x.until) (asked_instants ms) ≡ true
+instants_begin : (ms : List Moment) → list_all (λ x. int_lt x.since x.until) (required_instants ms) ≡ true
 instants_begin [] = refl
 instants_begin (m ∷ ms) =
-    and_from (int_lt m.stamp (m.stamp +ℤ pos 1)) (list_all (λ x. int_lt x.since x.until) (asked_instants ms)) (ends_later m.stamp)
+    and_from (int_lt m.stamp (m.stamp +ℤ pos 1)) (list_all (λ x. int_lt x.since x.until) (required_instants ms)) (ends_later m.stamp)
     (instants_begin ms)
 
 module _ (moments : List Moment) (h : History) (intervals : has_intervals moments h ≡ true) where
@@ -99,9 +99,9 @@ module _ (moments : List Moment) (h : History) (intervals : has_intervals moment
 
   pub administrators_begin : list_all (λ x. int_lt x.since x.until) (administrator_pieces h.roles moments) ≡ true
   administrators_begin =
-      let offers = offered_administrators h.roles in
+      let offers = provided_administrators h.roles in
       let roles = intervals_among moments is_of_administrator h.roles (all_proper moments h intervals).roles.intervals in
-      let begun = pieces_begin moments (λ r. 0) (administrators h.roles) (λ (m : Moment). 0) [] roles refl in
-      list_all-append (λ (x : Piece). int_lt x.since x.until) offers (asked_instants moments)
-      ∙ and_from (list_all (λ x. int_lt x.since x.until) offers) (list_all (λ x. int_lt x.since x.until) (asked_instants moments))
-      (subst (λ (l : List Piece). list_all (λ x. int_lt x.since x.until) l ≡ true) (append-nil offers) begun) (instants_begin moments)
+      let nonempty = pieces_begin moments (λ r. 0) (administrators h.roles) (λ (m : Moment). 0) [] roles refl in
+      list_all-append (λ (x : CoverageSpan). int_lt x.since x.until) offers (required_instants moments)
+      ∙ and_from (list_all (λ x. int_lt x.since x.until) offers) (list_all (λ x. int_lt x.since x.until) (required_instants moments))
+      (subst (λ (l : List CoverageSpan). list_all (λ x. int_lt x.since x.until) l ≡ true) (append-nil offers) nonempty) (instants_begin moments)

@@ -19,7 +19,7 @@ use Rattle.land_tables_lawful.proofs.Covers.{some_by, stood_by}
 use Rattle.land_tables_lawful.proofs.References.{also, both_pass, both_true, by_way_of, covered_at_stamps, failing_at, fails, is_there, never_by, side_by_side}
 use Rattle.land_tables_lawful.specs.BareUnits.{entry_unit, number_of, ownerships, owns, parcel_unit}
 use Rattle.land_tables_lawful.specs.Never.{Never}
-use Rattle.land_tables_lawful.specs.Pieces.{are_in_time, pieces}
+use Rattle.land_tables_lawful.specs.CoverageSpans.{are_in_range, coverage_spans}
 use Rattle.land_tables_history.specs.Sweeps.Cover.{IsCovered}
 
 -- ---- owners
@@ -62,7 +62,7 @@ module _ (unit : ℕ) (t : ℤ) where
 
 -- ---- units
 
-module _ (moments : List Moment) (h : History) (p : AllProper moments h) (in_time : are_in_time moments ≡ true) where
+module _ (moments : List Moment) (h : History) (p : AllProper moments h) (in_time : are_in_range moments ≡ true) where
   abbrev with_parcel : ℤ → ℕ × UnitRecord → Bool
   with_parcel t u = is_there parcel_unit h.parcels number_of t u
 
@@ -77,8 +77,8 @@ module _ (moments : List Moment) (h : History) (p : AllProper moments h) (in_tim
       (some_by (λ e. nat_eq e.1.unit u.0) m.stamp h.parcels p.parcels.apart)
       (some_by (λ e. is_right_in u.0 Ownership e.1) m.stamp h.rrrs p.rrrs.apart ∙ owned_by u.0 m.stamp h.rrrs))
 
-  never_bare : (IsCovered (pieces parcel_unit h.parcels number_of h.units)
-      × IsCovered (pieces entry_unit (ownerships h.rrrs) number_of h.units))
+  never_bare : (IsCovered (coverage_spans parcel_unit h.parcels number_of h.units)
+      × IsCovered (coverage_spans entry_unit (ownerships h.rrrs) number_of h.units))
       ↔ Never has_bare_unit moments h
   never_bare =
       by_way_of
@@ -90,9 +90,9 @@ module _ (moments : List Moment) (h : History) (p : AllProper moments h) (in_tim
       (never_by has_bare_unit h (also with_parcel with_owner) h.units bare_at moments))
 
 -- both results together
-pub have_both : (moments : List Moment) (h : History) → has_intervals moments h ≡ true → are_in_time moments ≡ true → (a b : Bool)
-    → (a ≡ true) ↔ IsCovered (pieces parcel_unit h.parcels number_of h.units)
-    → (b ≡ true) ↔ IsCovered (pieces entry_unit (ownerships h.rrrs) number_of h.units)
+pub have_both : (moments : List Moment) (h : History) → has_intervals moments h ≡ true → are_in_range moments ≡ true → (a b : Bool)
+    → (a ≡ true) ↔ IsCovered (coverage_spans parcel_unit h.parcels number_of h.units)
+    → (b ≡ true) ↔ IsCovered (coverage_spans entry_unit (ownerships h.rrrs) number_of h.units)
     → ((a && b) ≡ true) ↔ Never has_bare_unit moments h
 have_both moments h intervals in_time a b parcels owners =
     by_way_of (both_true a b) (by_way_of (side_by_side parcels owners) (never_bare moments h (all_proper moments h intervals) in_time))

@@ -4,8 +4,8 @@ use Rattle.std.specs.Prelude.{nat_lt}
 use Rattle.std.proofs.lemmas.Bool.Decides.{nat_tests}
 use Rattle.std.specs.List.{list_any}
 use Rattle.land_tables_lawful.specs.Holdings.{are_few, is_entry, is_parcel, is_unit}
-use Rattle.land_tables_lawful.specs.Lived.{where_marked}
-use Rattle.land_tables_lawful.specs.declared.holdings.Holding.{Holding}
+use Rattle.land_tables_lawful.specs.LiveSpan.{if_any_marked}
+use Rattle.land_tables_lawful.specs.declared.share_sums.Holding.{Holding}
 
 -- not more items pass a test than there are
 count_within : {X : Type 0} (p : X → Bool) (xs : List X) → length (filter p xs) ≤ length xs
@@ -33,5 +33,5 @@ module _ {X : Type 0} (f : X → Holding) (xs : List X) (few : length xs ≤ 256
       no_more (length xs) (length (filter p (map_list f xs))) within few
 
   -- at most 256 of all are within limits
-  pub few_of_all : true ≡ where_marked is_unit are_few (map_list f xs)
+  pub few_of_all : true ≡ if_any_marked is_unit are_few (map_list f xs)
   few_of_all = many_or_few (list_any is_unit (map_list f xs)) _ _ (counted is_parcel) (counted is_entry)

@@ -20,9 +20,9 @@ use Rattle.land_tables_history.specs.Intervals.{AreApart, is_interval, is_same_n
 use Rattle.land_tables_history.specs.Standing.{part_at, standing, stands}
 use Rattle.land_tables_history.specs.declared.moment.Moment.{Moment}
 use Rattle.land_tables_history.specs.declared.version.Version.{Version}
-use Rattle.land_tables_lawful.specs.Pieces.{are_in_time, asked_piece, offered_piece, pieces}
+use Rattle.land_tables_lawful.specs.CoverageSpans.{are_in_range, required_span, provided_span, coverage_spans}
 use Rattle.land_tables_lawful.proofs.Latest.{Empty, Matched, matched}
-use Rattle.land_tables_history.specs.Sweeps.Cover.{IsCovered, is_asked, is_offered}
+use Rattle.land_tables_history.specs.Sweeps.Cover.{IsCovered, is_required, is_provided}
 
 -- ---- current values under a key
 
@@ -40,43 +40,43 @@ gathered : (q y z : Bool) → ((q && y) || (q && z)) ≡ (q && (y || z))
 gathered q y z = grind arith
 
 module _ {X : Type 0} (key : X → ℕ) (a b : ℕ) (t : ℤ) where
-  offered_by : (vs : List (Version X)) → is_offered (map_list (offered_piece key) vs) a b t ≡ ((0 == b) && stood_by key vs a t)
+  offered_by : (vs : List (Version X)) → is_provided (map_list (provided_span key) vs) a b t ≡ ((0 == b) && stood_by key vs a t)
   offered_by [] = and_nothing (0 == b)
   offered_by (v ∷ vs) =
       ap₂ (λ c d. c || d) (shuffled (key v.what == a) (0 == b) (int_le v.since t) (int_lt t v.until)) (offered_by vs)
       ∙ gathered (0 == b) (stands t v && (key v.what == a)) (stood_by key vs a t)
 
-  asked_by : (vs : List (Version X)) → is_asked (map_list (asked_piece key) vs) a b t ≡ ((0 == b) && stood_by key vs a t)
+  asked_by : (vs : List (Version X)) → is_required (map_list (required_span key) vs) a b t ≡ ((0 == b) && stood_by key vs a t)
   asked_by [] = and_nothing (0 == b)
   asked_by (v ∷ vs) =
       ap₂ (λ c d. c || d) (shuffled (key v.what == a) (0 == b) (int_le v.since t) (int_lt t v.until)) (asked_by vs)
       ∙ gathered (0 == b) (stands t v && (key v.what == a)) (stood_by key vs a t)
 
-  none_offered : (vs : List (Version X)) → is_offered (map_list (asked_piece key) vs) a b t ≡ false
+  none_offered : (vs : List (Version X)) → is_provided (map_list (required_span key) vs) a b t ≡ false
   none_offered [] = refl
   none_offered (v ∷ vs) = none_offered vs
 
-  none_asked : (vs : List (Version X)) → is_asked (map_list (offered_piece key) vs) a b t ≡ false
+  none_asked : (vs : List (Version X)) → is_required (map_list (provided_span key) vs) a b t ≡ false
   none_asked [] = refl
   none_asked (v ∷ vs) = none_asked vs
 
-module _ {X Y : Type 0} (offered : X → ℕ) (xs : List (Version X)) (asked : Y → ℕ) (ys : List (Version Y)) where
-  offers_are : (a b : ℕ) (t : ℤ) → is_offered (pieces offered xs asked ys) a b t ≡ ((0 == b) && stood_by offered xs a t)
+module _ {X Y : Type 0} (provided : X → ℕ) (xs : List (Version X)) (required : Y → ℕ) (ys : List (Version Y)) where
+  offers_are : (a b : ℕ) (t : ℤ) → is_provided (coverage_spans provided xs required ys) a b t ≡ ((0 == b) && stood_by provided xs a t)
   offers_are a b t =
-      list_any-append _ (map_list (offered_piece offered) xs) (map_list (asked_piece asked) ys)
-      ∙ ap₂ (λ c d. c || d) (offered_by offered a b t xs) (none_offered asked a b t ys) ∙ or_nothing ((0 == b) && stood_by offered xs a t)
+      list_any-append _ (map_list (provided_span provided) xs) (map_list (required_span required) ys)
+      ∙ ap₂ (λ c d. c || d) (offered_by provided a b t xs) (none_offered required a b t ys) ∙ or_nothing ((0 == b) && stood_by provided xs a t)
 
-  asks_are : (a b : ℕ) (t : ℤ) → is_asked (pieces offered xs asked ys) a b t ≡ ((0 == b) && stood_by asked ys a t)
+  asks_are : (a b : ℕ) (t : ℤ) → is_required (coverage_spans provided xs required ys) a b t ≡ ((0 == b) && stood_by required ys a t)
   asks_are a b t =
-      list_any-append _ (map_list (offered_piece offered) xs) (map_list (asked_piece asked) ys)
-      ∙ ap₂ (λ c d. c || d) (none_asked offered a b t xs) (asked_by asked a b t ys)
+      list_any-append _ (map_list (provided_span provided) xs) (map_list (required_span required) ys)
+      ∙ ap₂ (λ c d. c || d) (none_asked provided a b t xs) (asked_by required a b t ys)
 
-  pub covered_iff : IsCovered (pieces offered xs asked ys) ↔ ((a : ℕ) (t : ℤ) → stood_by asked ys a t ≡ true → stood_by offered xs a t ≡ true)
+  pub covered_iff : IsCovered (coverage_spans provided xs required ys) ↔ ((a : ℕ) (t : ℤ) → stood_by required ys a t ≡ true → stood_by provided xs a t ≡ true)
   covered_iff = (
     λ h a t s. sym (offers_are a 0 t) ∙ h a 0 t (asks_are a 0 t ∙ s),
     λ h a b t asks.
-        let parts = and_parts (0 == b) (stood_by asked ys a t) (sym (asks_are a b t) ∙ asks) in
-        offers_are a b t ∙ and_from (0 == b) (stood_by offered xs a t) parts.0 (h a t parts.1),
+        let parts = and_parts (0 == b) (stood_by required ys a t) (sym (asks_are a b t) ∙ asks) in
+        offers_are a b t ∙ and_from (0 == b) (stood_by provided xs a t) parts.0 (h a t parts.1),
   )
 
 -- ---- the register
@@ -123,32 +123,32 @@ stood_never moments key a t none (v ∷ vs) h =
     ap₂ (λ b c. b && (key v.what == a) || c) (none v parts.0) (stood_never moments key a t none vs parts.1)
 
 -- a key that is provided at each stamp at which it is required is always provided
-pub at_all_moments : {X Y : Type 0} (moments : List Moment) → are_in_time moments ≡ true → (offered : X → ℕ) (xs : List (Version X)) (asked : Y → ℕ) (ys : List (Version Y))
+pub at_all_moments : {X Y : Type 0} (moments : List Moment) → are_in_range moments ≡ true → (provided : X → ℕ) (xs : List (Version X)) (required : Y → ℕ) (ys : List (Version Y))
     → list_all (is_interval moments) xs ≡ true → list_all (is_interval moments) ys ≡ true
-    → AllByRecursion (λ m. (a : ℕ) → stood_by asked ys a m.stamp ≡ true → stood_by offered xs a m.stamp ≡ true) moments
-    → (a : ℕ) (t : ℤ) → stood_by asked ys a t ≡ true → stood_by offered xs a t ≡ true
-at_all_moments {X} {Y} moments in_time offered xs asked ys p q all a t s = go (matched moments t in_time)
+    → AllByRecursion (λ m. (a : ℕ) → stood_by required ys a m.stamp ≡ true → stood_by provided xs a m.stamp ≡ true) moments
+    → (a : ℕ) (t : ℤ) → stood_by required ys a t ≡ true → stood_by provided xs a t ≡ true
+at_all_moments {X} {Y} moments in_time provided xs required ys p q all a t s = go (matched moments t in_time)
   where
-    go : Matched moments t ⊎ Empty moments t → stood_by offered xs a t ≡ true
-    go (inr e) = absurd (conflict s (stood_never moments asked a t (λ v. e.none v) ys q))
+    go : Matched moments t ⊎ Empty moments t → stood_by provided xs a t ≡ true
+    go (inr e) = absurd (conflict s (stood_never moments required a t (λ v. e.none v) ys q))
     go (inl m) =
-        stood_same moments offered a t m.moment.stamp (λ v. m.same v) xs p
-        ∙ m.among (λ m. (a : ℕ) → stood_by asked ys a m.stamp ≡ true → stood_by offered xs a m.stamp ≡ true) all a
-        (sym (stood_same moments asked a t m.moment.stamp (λ v. m.same v) ys q) ∙ s)
+        stood_same moments provided a t m.moment.stamp (λ v. m.same v) xs p
+        ∙ m.among (λ m. (a : ℕ) → stood_by required ys a m.stamp ≡ true → stood_by provided xs a m.stamp ≡ true) all a
+        (sym (stood_same moments required a t m.moment.stamp (λ v. m.same v) ys q) ∙ s)
 
 -- intervals give coverage spans that are not empty
-pub begun : {X : Type 0} (moments : List Moment) (v : Version X) → is_interval moments v ≡ true → int_lt v.since v.until ≡ true
-begun moments v h = (and_parts (int_lt v.since v.until) _ (and_parts (int_lt v.since v.until && _) _ h).0).0
+pub nonempty : {X : Type 0} (moments : List Moment) (v : Version X) → is_interval moments v ≡ true → int_lt v.since v.until ≡ true
+nonempty moments v h = (and_parts (int_lt v.since v.until) _ (and_parts (int_lt v.since v.until && _) _ h).0).0
 
-all_asked : {Y : Type 0} (moments : List Moment) (asked : Y → ℕ) (ys : List (Version Y)) → list_all (is_interval moments) ys ≡ true → list_all (λ x. int_lt x.since x.until) (map_list (asked_piece asked) ys) ≡ true
-all_asked moments asked [] q = refl
-all_asked moments asked (w ∷ ws) q =
+all_asked : {Y : Type 0} (moments : List Moment) (required : Y → ℕ) (ys : List (Version Y)) → list_all (is_interval moments) ys ≡ true → list_all (λ x. int_lt x.since x.until) (map_list (required_span required) ys) ≡ true
+all_asked moments required [] q = refl
+all_asked moments required (w ∷ ws) q =
     let parts = and_parts (is_interval moments w) (list_all (is_interval moments) ws) q in
-    and_from (int_lt w.since w.until) (list_all (λ x. int_lt x.since x.until) (map_list (asked_piece asked) ws)) (begun moments w parts.0) (all_asked moments asked ws parts.1)
+    and_from (int_lt w.since w.until) (list_all (λ x. int_lt x.since x.until) (map_list (required_span required) ws)) (nonempty moments w parts.0) (all_asked moments required ws parts.1)
 
-pub pieces_begin : {X Y : Type 0} (moments : List Moment) (offered : X → ℕ) (xs : List (Version X)) (asked : Y → ℕ) (ys : List (Version Y))
-    → list_all (is_interval moments) xs ≡ true → list_all (is_interval moments) ys ≡ true → list_all (λ x. int_lt x.since x.until) (pieces offered xs asked ys) ≡ true
-pieces_begin moments offered [] asked ys p q = all_asked moments asked ys q
-pieces_begin moments offered (v ∷ vs) asked ys p q =
+pub pieces_begin : {X Y : Type 0} (moments : List Moment) (provided : X → ℕ) (xs : List (Version X)) (required : Y → ℕ) (ys : List (Version Y))
+    → list_all (is_interval moments) xs ≡ true → list_all (is_interval moments) ys ≡ true → list_all (λ x. int_lt x.since x.until) (coverage_spans provided xs required ys) ≡ true
+pieces_begin moments provided [] required ys p q = all_asked moments required ys q
+pieces_begin moments provided (v ∷ vs) required ys p q =
     let parts = and_parts (is_interval moments v) (list_all (is_interval moments) vs) p in
-    and_from (int_lt v.since v.until) (list_all (λ x. int_lt x.since x.until) (pieces offered vs asked ys)) (begun moments v parts.0) (pieces_begin moments offered vs asked ys parts.1 q)
+    and_from (int_lt v.since v.until) (list_all (λ x. int_lt x.since x.until) (coverage_spans provided vs required ys)) (nonempty moments v parts.0) (pieces_begin moments provided vs required ys parts.1 q)

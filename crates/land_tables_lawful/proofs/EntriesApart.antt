@@ -21,7 +21,7 @@ use Rattle.land_tables_lawful.proofs.VersionsApart.{eq_then, is_one, where_apart
 use Rattle.land_tables_lawful.specs.ApartSpans.{spans_where}
 use Rattle.land_tables_lawful.specs.Never.{Never}
 use Rattle.land_tables_lawful.specs.Places.{kind_of, place_in, place_of}
-use Rattle.land_tables_lawful.specs.declared.clashes.Place.{Place}
+use Rattle.land_tables_lawful.specs.declared.duplicate_rights.Place.{Place}
 use Rattle.land_tables_history.specs.Sweeps.Apart.{are_apart}
 use Rattle.land_tables_history.specs.declared.sweeps.apart.Span.{Span}
 

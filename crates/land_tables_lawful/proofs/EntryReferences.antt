@@ -2,7 +2,7 @@
 use Rattle.std.proofs.Common.{◌≡◌, ◌↔◌, ℕ, Bool, true, ◌&&◌, List, ap₂}
 use Rattle.std.specs.Prelude.{ℤ}
 use Rattle.land_core.specs.Entries.{has}
-use Rattle.land_core.specs.Soundness.{has_loose_rrr}
+use Rattle.land_core.specs.Soundness.{has_dangling_rrr}
 use Rattle.land_core.specs.declared.rrr.RrrRecord.{RrrRecord}
 use Rattle.land_tables_history.proofs.Proper.{AllProper, all_proper}
 use Rattle.land_tables_history.specs.History.{register_at}
@@ -14,10 +14,10 @@ use Rattle.land_tables_lawful.proofs.Covers.{has_at}
 use Rattle.land_tables_lawful.proofs.References.{also, both_pass, both_true, by_way_of, covered_at_stamps}
 use Rattle.land_tables_lawful.proofs.References.{failing_at, fails, is_there, never_by, side_by_side}
 use Rattle.land_tables_lawful.specs.Never.{Never}
-use Rattle.land_tables_lawful.specs.Pieces.{are_in_time, pieces}
+use Rattle.land_tables_lawful.specs.CoverageSpans.{are_in_range, coverage_spans}
 use Rattle.land_tables_history.specs.Sweeps.Cover.{IsCovered}
 
-module _ (moments : List Moment) (h : History) (p : AllProper moments h) (in_time : are_in_time moments ≡ true) where
+module _ (moments : List Moment) (h : History) (p : AllProper moments h) (in_time : are_in_range moments ≡ true) where
   abbrev unit_of : ℕ × RrrRecord → ℕ
   unit_of e = e.1.unit
 
@@ -36,7 +36,7 @@ module _ (moments : List Moment) (h : History) (p : AllProper moments h) (in_tim
   abbrev from_source : ℤ → ℕ × RrrRecord → Bool
   from_source t e = is_there (λ s. s.0) h.sources source_of t e
 
-  loose_at : (m : Moment) → has_loose_rrr (register_at m.stamp h m.next) ≡ fails (also (also in_unit of_party) from_source) h.rrrs m.stamp
+  loose_at : (m : Moment) → has_dangling_rrr (register_at m.stamp h m.next) ≡ fails (also (also in_unit of_party) from_source) h.rrrs m.stamp
   loose_at m =
       failing_at m.stamp h.rrrs p.rrrs.apart (also (also in_unit of_party) from_source)
       (λ e. has (part_at m.stamp h.units) e.1.unit && has (part_at m.stamp h.parties) e.1.party && has (part_at m.stamp h.sources) e.1.source)
@@ -46,9 +46,9 @@ module _ (moments : List Moment) (h : History) (p : AllProper moments h) (in_tim
       (has_at m.stamp h.sources p.sources.apart e.1.source))
 
   refer :
-      ((IsCovered (pieces (λ u. u.0) h.units unit_of h.rrrs) × IsCovered (pieces (λ p. p.0) h.parties party_of h.rrrs))
-      × IsCovered (pieces (λ s. s.0) h.sources source_of h.rrrs))
-      ↔ Never has_loose_rrr moments h
+      ((IsCovered (coverage_spans (λ u. u.0) h.units unit_of h.rrrs) × IsCovered (coverage_spans (λ p. p.0) h.parties party_of h.rrrs))
+      × IsCovered (coverage_spans (λ s. s.0) h.sources source_of h.rrrs))
+      ↔ Never has_dangling_rrr moments h
   refer =
       by_way_of
       (side_by_side
@@ -60,14 +60,14 @@ module _ (moments : List Moment) (h : History) (p : AllProper moments h) (in_tim
       (covered_at_stamps (λ s. s.0) h.sources source_of moments in_time h.rrrs p.sources.intervals p.rrrs.intervals))
       (by_way_of
       (both_pass (also in_unit of_party) from_source h.rrrs moments)
-      (never_by has_loose_rrr h (also (also in_unit of_party) from_source) h.rrrs loose_at moments))
+      (never_by has_dangling_rrr h (also (also in_unit of_party) from_source) h.rrrs loose_at moments))
 
-pub entries_refer : (moments : List Moment) (h : History) → has_intervals moments h ≡ true → are_in_time moments ≡ true
+pub entries_refer : (moments : List Moment) (h : History) → has_intervals moments h ≡ true → are_in_range moments ≡ true
     → (a b c : Bool)
-    → (a ≡ true) ↔ IsCovered (pieces (λ u. u.0) h.units (λ (e : ℕ × RrrRecord). e.1.unit) h.rrrs)
-    → (b ≡ true) ↔ IsCovered (pieces (λ p. p.0) h.parties (λ (e : ℕ × RrrRecord). e.1.party) h.rrrs)
-    → (c ≡ true) ↔ IsCovered (pieces (λ s. s.0) h.sources (λ (e : ℕ × RrrRecord). e.1.source) h.rrrs)
-    → ((a && b && c) ≡ true) ↔ Never has_loose_rrr moments h
+    → (a ≡ true) ↔ IsCovered (coverage_spans (λ u. u.0) h.units (λ (e : ℕ × RrrRecord). e.1.unit) h.rrrs)
+    → (b ≡ true) ↔ IsCovered (coverage_spans (λ p. p.0) h.parties (λ (e : ℕ × RrrRecord). e.1.party) h.rrrs)
+    → (c ≡ true) ↔ IsCovered (coverage_spans (λ s. s.0) h.sources (λ (e : ℕ × RrrRecord). e.1.source) h.rrrs)
+    → ((a && b && c) ≡ true) ↔ Never has_dangling_rrr moments h
 entries_refer moments h intervals in_time a b c units parties sources =
     by_way_of (both_true (a && b) c)
     (by_way_of (side_by_side (by_way_of (both_true a b) (side_by_side units parties)) sources)

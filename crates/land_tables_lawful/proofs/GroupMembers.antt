@@ -13,7 +13,7 @@ use Rattle.land_core.proofs.FiniteMaps.{none_is_not_some}
 use Rattle.land_core.proofs.Reflection.{each_there}
 use Rattle.land_core.specs.Members.{Members, member_of}
 use Rattle.land_core.specs.Register.{has_group, has_single_party, is_single}
-use Rattle.land_core.specs.Soundness.{has_loose_members}
+use Rattle.land_core.specs.Soundness.{has_dangling_members}
 use Rattle.land_core.specs.declared.member.Member.{Member}
 use Rattle.land_fraction.specs.Ratio.{Ratio}
 use Rattle.land_tables_history.proofs.Distinct.{distinct_standing}
@@ -28,9 +28,9 @@ use Rattle.land_tables_history.specs.declared.group_member.GroupMember.{GroupMem
 use Rattle.land_tables_history.specs.declared.history.History.{History}
 use Rattle.land_tables_history.specs.declared.moment.Moment.{Moment}
 use Rattle.land_tables_history.specs.declared.version.Version.{Version}
-use Rattle.land_tables_lawful.specs.Members.{group_of, group_parties, group_pieces, is_of_group, member_pieces, party_of}
+use Rattle.land_tables_lawful.specs.Members.{group_of, group_parties, group_spans, is_of_group, member_spans, party_of}
 use Rattle.land_tables_lawful.specs.Never.{Never}
-use Rattle.land_tables_lawful.specs.Pieces.{are_in_time}
+use Rattle.land_tables_lawful.specs.CoverageSpans.{are_in_range}
 use Rattle.land_tables_lawful.specs.Roles.{single_parties}
 use Rattle.land_tables_lawful.proofs.Covers.{any_alike, pieces_begin, stood_by}
 use Rattle.land_tables_lawful.proofs.Passing.{intervals_among, passes_at}
@@ -136,7 +136,7 @@ module _ (moments : List Moment) (h : History) (p : AllProper moments h) where
   abbrev is_party_there : ℤ → GroupMember → Bool
   is_party_there = is_there (λ e. e.0) (single_parties h.parties) party_of
 
-  loose_at : (m : Moment) → has_loose_members (register_at m.stamp h m.next) ≡ fails (also is_group_there is_party_there) h.members m.stamp
+  loose_at : (m : Moment) → has_dangling_members (register_at m.stamp h m.next) ≡ fails (also is_group_there is_party_there) h.members m.stamp
   loose_at m =
       let r = register_at m.stamp h m.next in
       loose_groups (has_group r) (has_single_party r) m.stamp h.members p.members.apart
@@ -144,31 +144,31 @@ module _ (moments : List Moment) (h : History) (p : AllProper moments h) where
       (λ v. stands m.stamp v && not (also is_group_there is_party_there m.stamp v.what))
       (λ v. ap₂ (λ b c. stands m.stamp v && not (b && c)) (group_at m v.what.group) (single_at moments h p m v.what.member.party)) h.members
 
-  refer : are_in_time moments ≡ true
-      → (IsCovered (group_pieces h.parties h.members) × IsCovered (member_pieces h.parties h.members)) ↔ Never has_loose_members moments h
+  refer : are_in_range moments ≡ true
+      → (IsCovered (group_spans h.parties h.members) × IsCovered (member_spans h.parties h.members)) ↔ Never has_dangling_members moments h
   refer in_time =
       let singles = singles_are_intervals moments h p in
       let ms = h.members in
       let groups = covered_at_stamps (λ e. e.0) (group_parties h.parties) group_of moments in_time ms groups_are_intervals p.members.intervals in
       let parties = covered_at_stamps (λ e. e.0) (single_parties h.parties) party_of moments in_time ms singles p.members.intervals in
-      let never = never_by has_loose_members h (also is_group_there is_party_there) h.members loose_at moments in
+      let never = never_by has_dangling_members h (also is_group_there is_party_there) h.members loose_at moments in
       by_way_of (side_by_side groups parties) (by_way_of (both_pass is_group_there is_party_there h.members moments) never)
 
 -- groups and single parties exist throughout the lifespans of members if and only if they do at each stamp
-pub members_refer : (moments : List Moment) (h : History) → has_intervals moments h ≡ true → are_in_time moments ≡ true → (a b : Bool)
-    → (a ≡ true) ↔ IsCovered (group_pieces h.parties h.members) → (b ≡ true) ↔ IsCovered (member_pieces h.parties h.members)
-    → ((a && b) ≡ true) ↔ Never has_loose_members moments h
+pub members_refer : (moments : List Moment) (h : History) → has_intervals moments h ≡ true → are_in_range moments ≡ true → (a b : Bool)
+    → (a ≡ true) ↔ IsCovered (group_spans h.parties h.members) → (b ≡ true) ↔ IsCovered (member_spans h.parties h.members)
+    → ((a && b) ≡ true) ↔ Never has_dangling_members moments h
 members_refer moments h intervals in_time a b groups parties =
     by_way_of (both_true a b) (by_way_of (side_by_side groups parties) (refer moments h (all_proper moments h intervals) in_time))
 
 pub groups_begin : (moments : List Moment) (h : History) → has_intervals moments h ≡ true
-    → list_all (λ x. int_lt x.since x.until) (group_pieces h.parties h.members) ≡ true
+    → list_all (λ x. int_lt x.since x.until) (group_spans h.parties h.members) ≡ true
 groups_begin moments h intervals =
     let p = all_proper moments h intervals in
     pieces_begin moments (λ e. e.0) (group_parties h.parties) group_of h.members (groups_are_intervals moments h p) p.members.intervals
 
 pub members_begin : (moments : List Moment) (h : History) → has_intervals moments h ≡ true
-    → list_all (λ x. int_lt x.since x.until) (member_pieces h.parties h.members) ≡ true
+    → list_all (λ x. int_lt x.since x.until) (member_spans h.parties h.members) ≡ true
 members_begin moments h intervals =
     let p = all_proper moments h intervals in
     pieces_begin moments (λ e. e.0) (single_parties h.parties) party_of h.members (singles_are_intervals moments h p) p.members.intervals

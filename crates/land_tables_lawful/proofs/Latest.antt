@@ -11,7 +11,7 @@ use Rattle.land_tables_history.specs.Intervals.{is_interval, is_stamp}
 use Rattle.land_tables_history.specs.Standing.{stands}
 use Rattle.land_tables_history.specs.declared.moment.Moment.{Moment}
 use Rattle.land_tables_history.specs.declared.version.Version.{Version}
-use Rattle.land_tables_lawful.specs.Pieces.{are_in_time}
+use Rattle.land_tables_lawful.specs.CoverageSpans.{are_in_range}
 
 -- a commit of a list, which is the latest up to t
 pub record Latest (moments : List Moment) (t : ℤ) : Type 1 where
@@ -77,9 +77,9 @@ module _ (t : ℤ) where
   early_too : (u s : ℤ) → int_eq s u ≡ true → int_lt s (pos 4102444800000) ≡ true → int_lt u (pos 4102444800000) ≡ true
   early_too u s e p = grind (arith, ints)
 
-  early : (ms : List Moment) → are_in_time ms ≡ true → AllByRecursion (λ m. int_lt m.stamp (pos 4102444800000) ≡ true) ms
+  early : (ms : List Moment) → are_in_range ms ≡ true → AllByRecursion (λ m. int_lt m.stamp (pos 4102444800000) ≡ true) ms
   early [] h = tt
-  early (m ∷ ms) h = let parts = and_parts (int_lt m.stamp (pos 4102444800000)) (are_in_time ms) h in (parts.0, early ms parts.1)
+  early (m ∷ ms) h = let parts = and_parts (int_lt m.stamp (pos 4102444800000)) (are_in_range ms) h in (parts.0, early ms parts.1)
 
   gone_at_the_end : (since until : ℤ) → int_lt t (pos 4102444800000) ≡ false → (int_eq until (pos 4102444800000) ≡ true) ⊎ (int_lt until (pos 4102444800000) ≡ true) → (int_le since t && int_lt t until) ≡ false
   gone_at_the_end since until late (inl e) = grind (arith, ints)
@@ -120,7 +120,7 @@ ends_of moments v h = go (int_lt v.since v.until) (is_stamp moments v.since) (in
     go true false c e f h = absurd (false≢true h)
     go false b c e f h = absurd (false≢true h)
 
-pub matched : (moments : List Moment) (t : ℤ) → are_in_time moments ≡ true → Matched moments t ⊎ Empty moments t
+pub matched : (moments : List Moment) (t : ℤ) → are_in_range moments ≡ true → Matched moments t ⊎ Empty moments t
 matched moments t in_time = go (int_lt t (pos 4102444800000)) refl
   where
     within : (u : ℤ) → is_stamp moments u ≡ true → int_lt u (pos 4102444800000) ≡ true

@@ -12,7 +12,7 @@ use Rattle.std.specs.Str.{bytes_eq}
 use Rattle.std.specs.declared.cmp.Ordering.{Ordering}
 use Rattle.std.proofs.lemmas.Bool.{and_from, and_parts}
 use Rattle.land_core.specs.Entries.{are_distinct}
-use Rattle.land_core.specs.Mutations.{share_a_reference}
+use Rattle.land_core.specs.Mutations.{have_same_reference}
 use Rattle.land_core.specs.Soundness.{has_reused_reference}
 use Rattle.land_core.specs.declared.mutation.MutationRecord.{MutationRecord}
 use Rattle.land_tables_history.proofs.Entered.{distinct-map, distinct_alike, same_numbers}
@@ -21,10 +21,10 @@ use Rattle.land_tables_history.specs.Intervals.{has_intervals, is_interval, over
 use Rattle.land_tables_history.specs.declared.history.History.{History}
 use Rattle.land_tables_history.specs.declared.moment.Moment.{Moment}
 use Rattle.land_tables_history.specs.declared.version.Version.{Version}
-use Rattle.land_tables_lawful.proofs.Covers.{begun}
+use Rattle.land_tables_lawful.proofs.Covers.{nonempty}
 use Rattle.land_tables_lawful.proofs.PairsApart.{never_pair}
 use Rattle.land_tables_lawful.proofs.VersionsApart.{apart_is_distinct, eq_then}
-use Rattle.land_tables_lawful.specs.Lodgings.{lodged, lodging_of, shown}
+use Rattle.land_tables_lawful.specs.Lodgings.{lodged, lodging_of, owned_span}
 use Rattle.land_tables_lawful.specs.Never.{Never}
 use Rattle.land_tables_history.specs.Sweeps.Apart.{are_apart, overlap as overlap_by}
 use Rattle.land_tables_history.specs.declared.sweeps.apart.Span.{Span}
@@ -39,7 +39,7 @@ lodging_cmp a b = ordering_then (nat_cmp a.0 b.0) (slice_cmp nat_cmp a.1 b.1)
 abbrev pub lent_cmp : ℕ × Bor (List ℕ) → ℕ × Bor (List ℕ) → Ordering
 lent_cmp a b = ordering_then (nat_cmp a.0 b.0) (slice_cmp nat_cmp a.1.now b.1.now)
 
-by_lodgings : (a b : MutationRecord) → eq_by_cmp lodging_cmp (lodging_of a) (lodging_of b) ≡ share_a_reference a b
+by_lodgings : (a b : MutationRecord) → eq_by_cmp lodging_cmp (lodging_of a) (lodging_of b) ≡ have_same_reference a b
 by_lodgings a b =
     eq_then (nat_cmp a.lodger b.lodger) (slice_cmp nat_cmp a.reference b.reference)
     ∙ ap₂ (λ x y. x && y) (same_numbers a.lodger b.lodger) (is_eq-slice_cmp a.reference b.reference)
@@ -47,20 +47,20 @@ by_lodgings a b =
 texts_turned : (a b : List ℕ) → bytes_eq a b ≡ bytes_eq b a
 texts_turned a b = sym (is_eq-slice_cmp a b) ∙ (eq_by_cmp_equiv nat_list_cmp_total).symm a b ∙ is_eq-slice_cmp b a
 
-sharing_turned : (a b : MutationRecord) → share_a_reference a b ≡ share_a_reference b a
+sharing_turned : (a b : MutationRecord) → have_same_reference a b ≡ have_same_reference b a
 sharing_turned a b = ap₂ (λ x y. x && y) (nat_eq_equiv.symm a.lodger b.lodger) (texts_turned a.reference b.reference)
 
 -- ---- spans
 
 shown_apart : (spans : List (Span (ℕ × Bor (List ℕ))))
-    → are_apart lent_cmp spans ≡ are_distinct (overlap_by lodging_cmp) (map_list shown spans)
-shown_apart spans = apart_is_distinct lent_cmp spans ∙ sym (distinct-map (overlap_by lodging_cmp) shown spans)
+    → are_apart lent_cmp spans ≡ are_distinct (overlap_by lodging_cmp) (map_list owned_span spans)
+shown_apart spans = apart_is_distinct lent_cmp spans ∙ sym (distinct-map (overlap_by lodging_cmp) owned_span spans)
 
 lodged_apart : (vs : List (Version (ℕ × MutationRecord)))
-    → are_distinct (overlap_by lodging_cmp) (map_list lodged vs) ≡ are_distinct (overlap (λ a b. share_a_reference a.1 b.1)) vs
+    → are_distinct (overlap_by lodging_cmp) (map_list lodged vs) ≡ are_distinct (overlap (λ a b. have_same_reference a.1 b.1)) vs
 lodged_apart vs =
     distinct-map (overlap_by lodging_cmp) lodged vs
-    ∙ distinct_alike (λ v w. overlap_by lodging_cmp (lodged v) (lodged w)) (overlap (λ a b. share_a_reference a.1 b.1))
+    ∙ distinct_alike (λ v w. overlap_by lodging_cmp (lodged v) (lodged w)) (overlap (λ a b. have_same_reference a.1 b.1))
     (λ v w. ap (λ b. b && int_lt v.since w.until && int_lt w.since v.until) (by_lodgings v.what.1 w.what.1)) vs
 
 begun_all : (moments : List Moment) (vs : List (Version (ℕ × MutationRecord))) → list_all (is_interval moments) vs ≡ true
@@ -68,13 +68,13 @@ begun_all : (moments : List Moment) (vs : List (Version (ℕ × MutationRecord))
 begun_all moments [] all = refl
 begun_all moments (v ∷ vs) all =
     let parts = and_parts (is_interval moments v) (list_all (is_interval moments) vs) all in
-    and_from (int_lt v.since v.until) (list_all (λ v. int_lt v.since v.until) vs) (begun moments v parts.0) (begun_all moments vs parts.1)
+    and_from (int_lt v.since v.until) (list_all (λ v. int_lt v.since v.until) vs) (nonempty moments v parts.0) (begun_all moments vs parts.1)
 
 module _ (moments : List Moment) (h : History) (intervals : has_intervals moments h ≡ true) (spans : List (Span (ℕ × Bor (List ℕ))))
-    (made : map_list shown spans ≡ map_list lodged h.mutations) where
+    (made : map_list owned_span spans ≡ map_list lodged h.mutations) where
   pub all_lodged_begin : list_all (λ x. int_lt x.since x.until) spans ≡ true
   all_lodged_begin =
-      sym (list_all-map (λ (x : Span (ℕ × List ℕ)). int_lt x.since x.until) shown spans)
+      sym (list_all-map (λ (x : Span (ℕ × List ℕ)). int_lt x.since x.until) owned_span spans)
       ∙ ap (list_all (λ x. int_lt x.since x.until)) made
       ∙ list_all-map (λ (x : Span (ℕ × List ℕ)). int_lt x.since x.until) lodged h.mutations
       ∙ begun_all moments h.mutations (all_proper moments h intervals).mutations.intervals
@@ -84,4 +84,4 @@ module _ (moments : List Moment) (h : History) (intervals : has_intervals moment
       let p = all_proper moments h intervals in
       subst (λ (b : Bool). (b ≡ true) ↔ Never has_reused_reference moments h)
       (sym (shown_apart spans ∙ ap (are_distinct (overlap_by lodging_cmp)) made ∙ lodged_apart h.mutations))
-      (never_pair share_a_reference sharing_turned h.mutations p.mutations.apart moments p.mutations.intervals)
+      (never_pair have_same_reference sharing_turned h.mutations p.mutations.apart moments p.mutations.intervals)

@@ -4,7 +4,7 @@ use Rattle.std.specs.Prelude.{ℤ, int_lt}
 use Rattle.std.proofs.lemmas.List.Sorted.{list_any-IsPermutation}
 use Rattle.std.specs.List.{list_all, list_any}
 use Rattle.land_core.specs.Mandates.{mandates_in}
-use Rattle.land_core.specs.Soundness.{has_loose_mandate, is_loose_mandate}
+use Rattle.land_core.specs.Soundness.{has_dangling_mandate, is_dangling_mandate}
 use Rattle.land_core.specs.declared.mandates.Mandate.{Mandate}
 use Rattle.land_tables_history.proofs.Distinct.{distinct_standing}
 use Rattle.land_tables_history.proofs.Entered.{made_mandates}
@@ -16,14 +16,14 @@ use Rattle.land_tables_history.specs.Standing.{mandates_at, standing, stands}
 use Rattle.land_tables_history.specs.Sweeps.Cover.{IsCovered}
 use Rattle.land_tables_history.specs.declared.history.History.{History}
 use Rattle.land_tables_history.specs.declared.moment.Moment.{Moment}
-use Rattle.land_tables_history.specs.declared.sweeps.cover.Piece.{Piece}
+use Rattle.land_tables_history.specs.declared.sweeps.cover.CoverageSpan.{CoverageSpan}
 use Rattle.land_tables_history.specs.declared.version.Version.{Version}
 use Rattle.land_tables_lawful.proofs.Covers.{any_alike, pieces_begin}
 use Rattle.land_tables_lawful.proofs.References.{all_alone, alone, also, both_pass, both_true, by_way_of}
 use Rattle.land_tables_lawful.proofs.References.{covered_at_stamps, fails, is_there, never_by, side_by_side}
 use Rattle.land_tables_lawful.proofs.RoleHolders.{single_at, singles_are_intervals}
 use Rattle.land_tables_lawful.specs.Never.{Never}
-use Rattle.land_tables_lawful.specs.Pieces.{are_in_time, pieces}
+use Rattle.land_tables_lawful.specs.CoverageSpans.{are_in_range, coverage_spans}
 use Rattle.land_tables_lawful.specs.Roles.{single_parties}
 
 -- some current mandate passes a test
@@ -40,16 +40,16 @@ abbrev agent_of : Mandate → ℕ
 agent_of m = m.agent
 
 -- single parties are provided, and principals or agents are required
-abbrev principal_pieces : History → List Piece
-principal_pieces h = pieces (λ e. e.0) (single_parties h.parties) principal_of h.mandates
+abbrev principal_pieces : History → List CoverageSpan
+principal_pieces h = coverage_spans (λ e. e.0) (single_parties h.parties) principal_of h.mandates
 
-abbrev agent_pieces : History → List Piece
-agent_pieces h = pieces (λ e. e.0) (single_parties h.parties) agent_of h.mandates
+abbrev agent_pieces : History → List CoverageSpan
+agent_pieces h = coverage_spans (λ e. e.0) (single_parties h.parties) agent_of h.mandates
 
 abbrev is_of_others : Mandate → Bool
 is_of_others m = not (nat_eq m.principal m.agent)
 
-module _ (moments : List Moment) (h : History) (p : AllProper moments h) (in_time : are_in_time moments ≡ true) where
+module _ (moments : List Moment) (h : History) (p : AllProper moments h) (in_time : are_in_range moments ≡ true) where
   abbrev of_principal : ℤ → Mandate → Bool
   of_principal t m = is_there (λ e. e.0) (single_parties h.parties) principal_of t m
 
@@ -59,15 +59,15 @@ module _ (moments : List Moment) (h : History) (p : AllProper moments h) (in_tim
   abbrev of_others : ℤ → Mandate → Bool
   of_others t m = alone is_of_others t m
 
-  loose_at : (at : Moment) → has_loose_mandate (register_at at.stamp h at.next) ≡ fails (also (also of_principal of_agent) of_others) h.mandates at.stamp
+  loose_at : (at : Moment) → has_dangling_mandate (register_at at.stamp h at.next) ≡ fails (also (also of_principal of_agent) of_others) h.mandates at.stamp
   loose_at at =
-      some_mandate (λ m. is_loose_mandate (register_at at.stamp h at.next) m) at.stamp h.mandates p.mandates.apart
-      ∙ any_alike (λ v. stands at.stamp v && is_loose_mandate (register_at at.stamp h at.next) v.what)
+      some_mandate (λ m. is_dangling_mandate (register_at at.stamp h at.next) m) at.stamp h.mandates p.mandates.apart
+      ∙ any_alike (λ v. stands at.stamp v && is_dangling_mandate (register_at at.stamp h at.next) v.what)
       (λ v. stands at.stamp v && not (also (also of_principal of_agent) of_others at.stamp v.what))
       (λ v. ap₂ (λ a b. stands at.stamp v && not (a && b && is_of_others v.what)) (single_at moments h p at v.what.principal) (single_at moments h p at v.what.agent))
       h.mandates
 
-  refer : ((IsCovered (principal_pieces h) × IsCovered (agent_pieces h)) × (list_all (λ v. is_of_others v.what) h.mandates ≡ true)) ↔ Never has_loose_mandate moments h
+  refer : ((IsCovered (principal_pieces h) × IsCovered (agent_pieces h)) × (list_all (λ v. is_of_others v.what) h.mandates ≡ true)) ↔ Never has_dangling_mandate moments h
   refer =
       by_way_of
       (side_by_side
@@ -79,31 +79,31 @@ module _ (moments : List Moment) (h : History) (p : AllProper moments h) (in_tim
       (all_alone is_of_others moments h.mandates p.mandates.intervals))
       (by_way_of
       (both_pass (also of_principal of_agent) of_others h.mandates moments)
-      (never_by has_loose_mandate h (also (also of_principal of_agent) of_others) h.mandates loose_at moments))
+      (never_by has_dangling_mandate h (also (also of_principal of_agent) of_others) h.mandates loose_at moments))
 
 -- principals and agents are single parties throughout their mandates, and differ, if and only if it is so at
 -- each stamp
-pub mandates_refer : (moments : List Moment) (h : History) → has_intervals moments h ≡ true → are_in_time moments ≡ true
+pub mandates_refer : (moments : List Moment) (h : History) → has_intervals moments h ≡ true → are_in_range moments ≡ true
     → (a b c : Bool)
-    → (a ≡ true) ↔ IsCovered (pieces (λ e. e.0) (single_parties h.parties) (λ (m : Mandate). m.principal) h.mandates)
-    → (b ≡ true) ↔ IsCovered (pieces (λ e. e.0) (single_parties h.parties) (λ (m : Mandate). m.agent) h.mandates)
+    → (a ≡ true) ↔ IsCovered (coverage_spans (λ e. e.0) (single_parties h.parties) (λ (m : Mandate). m.principal) h.mandates)
+    → (b ≡ true) ↔ IsCovered (coverage_spans (λ e. e.0) (single_parties h.parties) (λ (m : Mandate). m.agent) h.mandates)
     → c ≡ list_all (λ v. not (nat_eq v.what.principal v.what.agent)) h.mandates
-    → ((a && b && c) ≡ true) ↔ Never has_loose_mandate moments h
+    → ((a && b && c) ≡ true) ↔ Never has_dangling_mandate moments h
 mandates_refer moments h intervals in_time a b c principals agents others =
     by_way_of (both_true (a && b) c)
     (by_way_of (side_by_side (by_way_of (both_true a b) (side_by_side principals agents)) (λ e. sym others ∙ e, λ e. others ∙ e))
     (refer moments h (all_proper moments h intervals) in_time))
 
-begin : (moments : List Moment) (h : History) → has_intervals moments h ≡ true → (asked : Mandate → ℕ)
-    → list_all (λ x. int_lt x.since x.until) (pieces (λ e. e.0) (single_parties h.parties) asked h.mandates) ≡ true
-begin moments h intervals asked =
+begin : (moments : List Moment) (h : History) → has_intervals moments h ≡ true → (required : Mandate → ℕ)
+    → list_all (λ x. int_lt x.since x.until) (coverage_spans (λ e. e.0) (single_parties h.parties) required h.mandates) ≡ true
+begin moments h intervals required =
     let p = all_proper moments h intervals in
-    pieces_begin moments (λ e. e.0) (single_parties h.parties) asked h.mandates (singles_are_intervals moments h p) p.mandates.intervals
+    pieces_begin moments (λ e. e.0) (single_parties h.parties) required h.mandates (singles_are_intervals moments h p) p.mandates.intervals
 
 pub principals_begin : (moments : List Moment) (h : History) → has_intervals moments h ≡ true
-    → list_all (λ x. int_lt x.since x.until) (pieces (λ e. e.0) (single_parties h.parties) (λ (m : Mandate). m.principal) h.mandates) ≡ true
+    → list_all (λ x. int_lt x.since x.until) (coverage_spans (λ e. e.0) (single_parties h.parties) (λ (m : Mandate). m.principal) h.mandates) ≡ true
 principals_begin moments h intervals = begin moments h intervals principal_of
 
 pub agents_begin : (moments : List Moment) (h : History) → has_intervals moments h ≡ true
-    → list_all (λ x. int_lt x.since x.until) (pieces (λ e. e.0) (single_parties h.parties) (λ (m : Mandate). m.agent) h.mandates) ≡ true
+    → list_all (λ x. int_lt x.since x.until) (coverage_spans (λ e. e.0) (single_parties h.parties) (λ (m : Mandate). m.agent) h.mandates) ≡ true
 agents_begin moments h intervals = begin moments h intervals agent_of

@@ -16,9 +16,9 @@ use Rattle.land_tables_history.proofs.Distinct.{distinct_permuted}
 use Rattle.land_tables_history.proofs.MomentOrder.{le_itself}
 use Rattle.land_tables_history.proofs.NamingTests.{all_alike}
 use Rattle.land_tables_history.proofs.Permutations.{all_permuted}
-use Rattle.land_tables_history.specs.Lawful.{are_moments, falls, is_same_stamp, never_falls}
+use Rattle.land_tables_history.specs.ValidHistory.{are_moments, decreases, is_same_stamp, never_decreases}
 use Rattle.land_tables_history.specs.declared.moment.Moment.{Moment}
-use Rattle.land_tables_lawful.specs.Chains.{goes_before, goes_on, goes_up, is_chain, stamp_cmp}
+use Rattle.land_tables_lawful.specs.Chains.{precedes, precedes_first, is_increasing, is_chain, stamp_cmp}
 use Rattle.land_tables_history.proofs.SweepOrders.{Rising, no_earlier, rising_in_order}
 
 -- ---- neighbours determine all pairs
@@ -26,38 +26,38 @@ use Rattle.land_tables_history.proofs.SweepOrders.{Rising, no_earlier, rising_in
 -- each commit may precede all later ones
 abbrev pub all_go_up : List Moment → Bool
 all_go_up [] = true
-all_go_up (m ∷ ms) = list_all (goes_before m) ms && all_go_up ms
+all_go_up (m ∷ ms) = list_all (precedes m) ms && all_go_up ms
 
 through : (a b c : ℤ) (x y z : ℕ) → (int_lt a b && nat_le x y) ≡ true → (int_lt b c && nat_le y z) ≡ true
     → (int_lt a c && nat_le x z) ≡ true
 through a b c x y z p q = grind (arith, ints, nat_tests)
 
-goes_far : (m n : Moment) → goes_before m n ≡ true → (ms : List Moment) → list_all (goes_before n) ms ≡ true
-    → list_all (goes_before m) ms ≡ true
+goes_far : (m n : Moment) → precedes m n ≡ true → (ms : List Moment) → list_all (precedes n) ms ≡ true
+    → list_all (precedes m) ms ≡ true
 goes_far m n p [] h = refl
 goes_far m n p (x ∷ xs) h =
-    let parts = and_parts (goes_before n x) (list_all (goes_before n) xs) h in
-    and_from (goes_before m x) (list_all (goes_before m) xs) (through m.stamp n.stamp x.stamp m.next n.next x.next p parts.0)
+    let parts = and_parts (precedes n x) (list_all (precedes n) xs) h in
+    and_from (precedes m x) (list_all (precedes m) xs) (through m.stamp n.stamp x.stamp m.next n.next x.next p parts.0)
     (goes_far m n p xs parts.1)
 
-first_tells : (m : Moment) (ms : List Moment) → all_go_up ms ≡ true → goes_on m ms ≡ list_all (goes_before m) ms
+first_tells : (m : Moment) (ms : List Moment) → all_go_up ms ≡ true → precedes_first m ms ≡ list_all (precedes m) ms
 first_tells m [] h = refl
-first_tells m (n ∷ ns) h = go (goes_before m n) refl
+first_tells m (n ∷ ns) h = go (precedes m n) refl
   where
-    go : (b : Bool) → goes_before m n ≡ b → b ≡ (b && list_all (goes_before m) ns)
-    go true e = sym (goes_far m n e ns (and_parts (list_all (goes_before n) ns) (all_go_up ns) h).0)
+    go : (b : Bool) → precedes m n ≡ b → b ≡ (b && list_all (precedes m) ns)
+    go true e = sym (goes_far m n e ns (and_parts (list_all (precedes n) ns) (all_go_up ns) h).0)
     go false e = refl
 
-pub neighbours : (ms : List Moment) → goes_up ms ≡ all_go_up ms
+pub neighbours : (ms : List Moment) → is_increasing ms ≡ all_go_up ms
 neighbours [] = refl
 neighbours (m ∷ ms) = go (all_go_up ms) refl (neighbours ms)
   where
-    go : (b : Bool) → all_go_up ms ≡ b → goes_up ms ≡ all_go_up ms
-        → (goes_on m ms && goes_up ms) ≡ (list_all (goes_before m) ms && all_go_up ms)
+    go : (b : Bool) → all_go_up ms ≡ b → is_increasing ms ≡ all_go_up ms
+        → (precedes_first m ms && is_increasing ms) ≡ (list_all (precedes m) ms && all_go_up ms)
     go true e rest = ap₂ (λ a c. a && c) (first_tells m ms e) rest
     go false e rest =
-        ap (λ c. goes_on m ms && c) (rest ∙ e) ∙ and_false (goes_on m ms)
-        ∙ sym (ap (λ c. list_all (goes_before m) ms && c) e ∙ and_false (list_all (goes_before m) ms))
+        ap (λ c. precedes_first m ms && c) (rest ∙ e) ∙ and_false (precedes_first m ms)
+        ∙ sym (ap (λ c. list_all (precedes m) ms && c) e ∙ and_false (list_all (precedes m) ms))
 
 -- ---- pairs of sorted stamps
 
@@ -74,36 +74,36 @@ none_back : (a b : ℤ) (q : Bool) → a ≤ℤ b → not (int_lt b a && q) ≡ 
 none_back a b q p = grind (arith, ints)
 
 head_tells : (m : Moment) (ms : List Moment) → AllByRecursion (NotLater m) ms
-    → list_all (goes_before m) ms ≡ (not (list_any (is_same_stamp m) ms) && list_all (λ b. not (falls m b)) ms)
+    → list_all (precedes m) ms ≡ (not (list_any (is_same_stamp m) ms) && list_all (λ b. not (decreases m b)) ms)
 head_tells m [] all = refl
 head_tells m (n ∷ ns) all =
     ap₂ (λ a b. a && b) (pair_tells m.stamp n.stamp m.next n.next all.0) (head_tells m ns all.1)
-    ∙ spread (is_same_stamp m n) (falls m n) (list_any (is_same_stamp m) ns) (list_all (λ b. not (falls m b)) ns)
+    ∙ spread (is_same_stamp m n) (decreases m n) (list_any (is_same_stamp m) ns) (list_all (λ b. not (decreases m b)) ns)
   where
     spread : (s f t g : Bool) → ((not s && not f) && (not t && g)) ≡ (not (s || t) && (not f && g))
     spread s f t g = grind arith
 
 -- the next number does not decrease from one list to the other
 abbrev none_falls : List Moment → List Moment → Bool
-none_falls ys xs = list_all (λ a. list_all (λ b. not (falls a b)) ys) xs
+none_falls ys xs = list_all (λ a. list_all (λ b. not (decreases a b)) ys) xs
 
 earlier_too : (m : Moment) (ys xs : List Moment) → AllByRecursion (NotLater m) xs → none_falls (m ∷ ys) xs ≡ none_falls ys xs
 earlier_too m ys [] all = refl
 earlier_too m ys (x ∷ xs) all =
-    ap₂ (λ a b. a && list_all (λ b. not (falls x b)) ys && b) (none_back m.stamp x.stamp (nat_lt m.next x.next) all.0)
+    ap₂ (λ a b. a && list_all (λ b. not (decreases x b)) ys && b) (none_back m.stamp x.stamp (nat_lt m.next x.next) all.0)
     (earlier_too m ys xs all.1)
 
 never_first : (m : Moment) (ms : List Moment) → AllByRecursion (NotLater m) ms
-    → never_falls (m ∷ ms) ≡ (list_all (λ b. not (falls m b)) ms && never_falls ms)
+    → never_decreases (m ∷ ms) ≡ (list_all (λ b. not (decreases m b)) ms && never_decreases ms)
 never_first m ms all =
-    ap₂ (λ a b. a && list_all (λ b. not (falls m b)) ms && b) (none_back m.stamp m.stamp (nat_lt m.next m.next) (le_itself m.stamp))
+    ap₂ (λ a b. a && list_all (λ b. not (decreases m b)) ms && b) (none_back m.stamp m.stamp (nat_lt m.next m.next) (le_itself m.stamp))
     (earlier_too m ms ms all)
 
-pairs_tell : (ms : List Moment) → Rising NotLater ms → all_go_up ms ≡ (are_distinct is_same_stamp ms && never_falls ms)
+pairs_tell : (ms : List Moment) → Rising NotLater ms → all_go_up ms ≡ (are_distinct is_same_stamp ms && never_decreases ms)
 pairs_tell [] up = refl
 pairs_tell (m ∷ ms) up =
     ap₂ (λ a b. a && b) (head_tells m ms up.0) (pairs_tell ms up.1)
-    ∙ regrouped (not (list_any (is_same_stamp m) ms)) (list_all (λ b. not (falls m b)) ms) (are_distinct is_same_stamp ms) (never_falls ms)
+    ∙ regrouped (not (list_any (is_same_stamp m) ms)) (list_all (λ b. not (decreases m b)) ms) (are_distinct is_same_stamp ms) (never_decreases ms)
     ∙ ap (λ b. (not (list_any (is_same_stamp m) ms) && are_distinct is_same_stamp ms) && b) (sym (never_first m ms up.0))
   where
     regrouped : (s g d n : Bool) → ((s && g) && (d && n)) ≡ ((s && d) && (g && n))
@@ -116,9 +116,9 @@ same_moments moments sorted p =
     ap₂ (λ a b. a && b)
     (ap₂ (λ n d. nat_lt 0 n && d) (length_permutation moments sorted p)
     (distinct_permuted is_same_stamp (λ a b. int_eq_equiv.symm a.stamp b.stamp) moments sorted p))
-    (all_permuted (λ a. list_all (λ b. not (falls a b)) sorted) moments sorted p
-    ∙ all_alike (λ a. list_all (λ b. not (falls a b)) sorted) (λ a. list_all (λ b. not (falls a b)) moments)
-    (λ a. all_permuted (λ b. not (falls a b)) moments sorted p) moments)
+    (all_permuted (λ a. list_all (λ b. not (decreases a b)) sorted) moments sorted p
+    ∙ all_alike (λ a. list_all (λ b. not (decreases a b)) sorted) (λ a. list_all (λ b. not (decreases a b)) moments)
+    (λ a. all_permuted (λ b. not (decreases a b)) moments sorted p) moments)
 
 -- commits after sorting
 pub chained : (moments sorted : List Moment) → IsPermutation moments sorted → IsSorted stamp_cmp sorted
@@ -127,7 +127,7 @@ chained moments sorted p in_order =
     ap (λ b. nat_lt 0 (length sorted) && b)
     (neighbours sorted ∙ pairs_tell sorted
     (rising_in_order stamp_cmp stamps_total NotLater (λ x y. no_earlier x.stamp y.stamp) sorted in_order))
-    ∙ joined (nat_lt 0 (length sorted)) (are_distinct is_same_stamp sorted) (never_falls sorted)
+    ∙ joined (nat_lt 0 (length sorted)) (are_distinct is_same_stamp sorted) (never_decreases sorted)
     ∙ same_moments moments sorted p
   where
     joined : (a b c : Bool) → (a && (b && c)) ≡ (a && b && c)
@@ -135,6 +135,6 @@ chained moments sorted p in_order =
 
 -- each of them may precede the next one
 pub goes_up_in_order : (moments sorted : List Moment) → IsPermutation moments sorted → IsSorted stamp_cmp sorted
-    → are_moments moments ≡ true → goes_up sorted ≡ true
+    → are_moments moments ≡ true → is_increasing sorted ≡ true
 goes_up_in_order moments sorted p in_order are =
-    (and_parts (nat_lt 0 (length sorted)) (goes_up sorted) (chained moments sorted p in_order ∙ are)).1
+    (and_parts (nat_lt 0 (length sorted)) (is_increasing sorted) (chained moments sorted p in_order ∙ are)).1

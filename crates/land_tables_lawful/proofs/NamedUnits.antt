@@ -12,7 +12,7 @@ use Rattle.land_tables_history.proofs.NamingTests.{any_standing, named_by}
 use Rattle.land_tables_history.proofs.Proper.{AllProper, all_proper}
 use Rattle.land_tables_history.specs.History.{named_units, namings_of, register_at}
 use Rattle.land_tables_history.specs.Intervals.{AreApart, has_intervals, is_same_naming, is_same_number}
-use Rattle.land_tables_history.specs.Lawful.{are_same_namings, is_among}
+use Rattle.land_tables_history.specs.ValidHistory.{are_same_namings, is_among}
 use Rattle.land_tables_history.specs.Standing.{part_at, standing, stands}
 use Rattle.land_tables_history.specs.declared.history.History.{History}
 use Rattle.land_tables_history.specs.declared.moment.Moment.{Moment}
@@ -21,9 +21,9 @@ use Rattle.land_tables_history.specs.declared.version.Version.{Version}
 use Rattle.land_tables_lawful.proofs.Covers.{any_alike, some_by}
 use Rattle.land_tables_lawful.proofs.PairCovers.{AreAmong, any_flat, has_key, is_pair, pairs_covered_at_stamps, stood}
 use Rattle.land_tables_lawful.proofs.References.{both_true, by_way_of, side_by_side}
-use Rattle.land_tables_lawful.specs.KeyPairs.{pairs}
+use Rattle.land_tables_lawful.specs.KeyPairs.{key_pairs}
 use Rattle.land_tables_lawful.specs.NamedUnits.{NamingsAgree, named_pairs, naming_pair, with_units}
-use Rattle.land_tables_lawful.specs.Pieces.{are_in_time}
+use Rattle.land_tables_lawful.specs.CoverageSpans.{are_in_range}
 use Rattle.land_tables_history.specs.Sweeps.Cover.{IsCovered}
 
 abbrev naming_of : ℕ × ℕ → Naming
@@ -94,7 +94,7 @@ mutations_under t vs apart key =
 
 -- ---- namings and mutations
 
-module _ (moments : List Moment) (h : History) (p : AllProper moments h) (in_time : are_in_time moments ≡ true) where
+module _ (moments : List Moment) (h : History) (p : AllProper moments h) (in_time : are_in_range moments ≡ true) where
   -- current mutations have the references of `names`, and `names` has theirs
   abbrev AreTold : Moment → Type 0
   AreTold m = AreAmong named_pairs h.mutations naming_pair h.namings m.stamp
@@ -129,8 +129,8 @@ module _ (moments : List Moment) (h : History) (p : AllProper moments h) (in_tim
         λ h. let here = (same_at m).1 h.0 in let later = rest.1 h.1 in ((here.0, later.0), (here.1, later.1)),
       )
 
-  all_same : (IsCovered (pairs named_pairs h.mutations naming_pair h.namings)
-      × IsCovered (pairs naming_pair h.namings named_pairs h.mutations))
+  all_same : (IsCovered (key_pairs named_pairs h.mutations naming_pair h.namings)
+      × IsCovered (key_pairs naming_pair h.namings named_pairs h.mutations))
       ↔ NamingsAgree moments h
   all_same =
       by_way_of
@@ -141,9 +141,9 @@ module _ (moments : List Moment) (h : History) (p : AllProper moments h) (in_tim
       (All-from_recursion (λ m. is_same_at m ≡ true) moments, recursion_from_All (λ m. is_same_at m ≡ true) moments))
 
 -- both results together
-pub namings_agree : (moments : List Moment) (h : History) → has_intervals moments h ≡ true → are_in_time moments ≡ true → (a b : Bool)
-    → (a ≡ true) ↔ IsCovered (pairs named_pairs h.mutations naming_pair h.namings)
-    → (b ≡ true) ↔ IsCovered (pairs naming_pair h.namings named_pairs h.mutations)
+pub namings_agree : (moments : List Moment) (h : History) → has_intervals moments h ≡ true → are_in_range moments ≡ true → (a b : Bool)
+    → (a ≡ true) ↔ IsCovered (key_pairs named_pairs h.mutations naming_pair h.namings)
+    → (b ≡ true) ↔ IsCovered (key_pairs naming_pair h.namings named_pairs h.mutations)
     → ((a && b) ≡ true) ↔ NamingsAgree moments h
-namings_agree moments h intervals in_time a b told listed =
-    by_way_of (both_true a b) (by_way_of (side_by_side told listed) (all_same moments h (all_proper moments h intervals) in_time))
+namings_agree moments h intervals in_time a b computes listed =
+    by_way_of (both_true a b) (by_way_of (side_by_side computes listed) (all_same moments h (all_proper moments h intervals) in_time))

@@ -11,7 +11,7 @@ use Rattle.std.specs.declared.cmp.Ordering.TheVariants.{Less, Equal, Greater}
 use Rattle.std.proofs.lemmas.Bool.{and_parts}
 use Rattle.land_tables_history.specs.declared.moment.Moment.{Moment}
 use Rattle.land_tables_lawful.proofs.MomentOrders.{all_go_up, neighbours}
-use Rattle.land_tables_lawful.specs.Chains.{goes_before, goes_up, stamp_cmp}
+use Rattle.land_tables_lawful.specs.Chains.{precedes, is_increasing, stamp_cmp}
 use Rattle.land_tables_lawful.specs.NumbersInUse.{next_since}
 
 is_it : (s t : ℤ) → int_cmp s t ≡ Equal → int_eq s t ≡ true
@@ -40,10 +40,10 @@ next_at_place : (ms : List Moment) (t : ℤ) (i : ℕ) (d : Moment) → all_go_u
 next_at_place [] t i d up less e = absurd (omega (arith, less))
 next_at_place (m ∷ ms) t zero d up less e = ap (λ b. if b then m.next else next_since ms t) e
 next_at_place (m ∷ ms) t (suc i) d up less e =
-    let parts = and_parts (list_all (goes_before m) ms) (all_go_up ms) up in
+    let parts = and_parts (list_all (precedes m) ms) (all_go_up ms) up in
     let rest : i < length ms = omega (arith, less) in
     ap (λ b. if b then m.next else next_since ms t)
-    (earlier m.stamp (get_or ms i d).stamp t m.next (get_or ms i d).next (all_at (goes_before m) ms i d parts.0 rest) e)
+    (earlier m.stamp (get_or ms i d).stamp t m.next (get_or ms i d).next (all_at (precedes m) ms i d parts.0 rest) e)
     ∙ next_at_place ms t i d parts.1 rest e
 
 none_there : (ms : List Moment) (t : ℤ) → ((k : ℕ) (d : Moment) → k < length ms → int_eq (get_or ms k d).stamp t ≡ false)
@@ -54,7 +54,7 @@ none_there (m ∷ ms) t none =
     ∙ none_there ms t (λ k d less. none (suc k) d (omega (arith, less)))
 
 module _ (ms : List Moment) (t : ℤ) where
-  pub found_next : goes_up ms ≡ true → (i : ℕ) → i < length ms → HoldsAt (λ m. int_cmp m.stamp t ≡ Equal) ms i → (d : Moment)
+  pub found_next : is_increasing ms ≡ true → (i : ℕ) → i < length ms → HoldsAt (λ m. int_cmp m.stamp t ≡ Equal) ms i → (d : Moment)
       → (get_or ms i d).next ≡ next_since ms t
   found_next up i less found d = sym (next_at_place ms t i d (sym (neighbours ms) ∙ up) less (is_it (get_or ms i d).stamp t (found d)))
 

@@ -15,10 +15,10 @@ use Rattle.land_tables_history.specs.Standing.{part_at, stands}
 use Rattle.land_tables_history.specs.declared.history.History.{History}
 use Rattle.land_tables_history.specs.declared.moment.Moment.{Moment}
 use Rattle.land_tables_history.specs.declared.version.Version.{Version}
-use Rattle.land_tables_lawful.proofs.Covers.{any_alike, at_all_moments, begun, covered_iff, some_by, stood_by}
+use Rattle.land_tables_lawful.proofs.Covers.{any_alike, at_all_moments, nonempty, covered_iff, some_by, stood_by}
 use Rattle.land_tables_lawful.proofs.Latest.{at_stamp, ends_of}
 use Rattle.land_tables_lawful.specs.Never.{Never}
-use Rattle.land_tables_lawful.specs.Pieces.{are_in_time, pieces}
+use Rattle.land_tables_lawful.specs.CoverageSpans.{are_in_range, coverage_spans}
 use Rattle.land_tables_history.specs.Sweeps.Cover.{IsCovered}
 
 -- ---- current values that fail a test
@@ -87,52 +87,52 @@ module _ {Y : Type 0} (p q : ℤ → Y → Bool) where
 
 -- ---- a reference
 
-module _ {X Y : Type 0} (offered : X → ℕ) (xs : List (Version X)) (asked : Y → ℕ) where
+module _ {X Y : Type 0} (provided : X → ℕ) (xs : List (Version X)) (required : Y → ℕ) where
   -- the required record exists
   abbrev pub is_there : ℤ → Y → Bool
-  is_there t y = stood_by offered xs (asked y) t
+  is_there t y = stood_by provided xs (required y) t
 
   asked_are_there : (t : ℤ) (vs : List (Version Y)) → fails is_there vs t ≡ false
-      → (a : ℕ) → stood_by asked vs a t ≡ true → stood_by offered xs a t ≡ true
+      → (a : ℕ) → stood_by required vs a t ≡ true → stood_by provided xs a t ≡ true
   asked_are_there t [] h a s = absurd (false≢true s)
   asked_are_there t (v ∷ vs) h a s =
       let parts = or_parts (stands t v && not (is_there t v.what)) (fails is_there vs t) h in
-      elim (or_cases (stands t v && (asked v.what == a)) (stood_by asked vs a t) s) [
-        | inl here ↦ let it = and_parts (stands t v) (asked v.what == a) here in
-            subst (λ (n : ℕ). stood_by offered xs n t ≡ true) (eqb-true (asked v.what) a it.1)
+      elim (or_cases (stands t v && (required v.what == a)) (stood_by required vs a t) s) [
+        | inl here ↦ let it = and_parts (stands t v) (required v.what == a) here in
+            subst (λ (n : ℕ). stood_by provided xs n t ≡ true) (eqb-true (required v.what) a it.1)
             (passed (stands t v) (is_there t v.what) parts.0 it.0)
         | inr later ↦ asked_are_there t vs parts.1 a later
       ]
 
-  none_fails : (t : ℤ) (vs : List (Version Y)) → ((a : ℕ) → stood_by asked vs a t ≡ true → stood_by offered xs a t ≡ true)
+  none_fails : (t : ℤ) (vs : List (Version Y)) → ((a : ℕ) → stood_by required vs a t ≡ true → stood_by provided xs a t ≡ true)
       → fails is_there vs t ≡ false
   none_fails t [] h = refl
   none_fails t (v ∷ vs) h =
       ap₂ (λ b c. b || c) (go (stands t v) refl)
-      (none_fails t vs (λ a s. h a (or_right (stands t v && (asked v.what == a)) (stood_by asked vs a t) s)))
+      (none_fails t vs (λ a s. h a (or_right (stands t v && (required v.what == a)) (stood_by required vs a t) s)))
     where
       go : (b : Bool) → stands t v ≡ b → (b && not (is_there t v.what)) ≡ false
       go false e = refl
       go true e =
-          let a = asked v.what in
-          ap not (h a (or_left (stands t v && (asked v.what == a)) (stood_by asked vs a t) (and_from (stands t v) (asked v.what == a) e (nat_eq_equiv.refl a))))
+          let a = required v.what in
+          ap not (h a (or_left (stands t v && (required v.what == a)) (stood_by required vs a t) (and_from (stands t v) (required v.what == a) e (nat_eq_equiv.refl a))))
 
   -- required moments are provided if the records exist at the stamps
-  pub covered_at_stamps : (moments : List Moment) → are_in_time moments ≡ true → (ys : List (Version Y))
+  pub covered_at_stamps : (moments : List Moment) → are_in_range moments ≡ true → (ys : List (Version Y))
       → list_all (is_interval moments) xs ≡ true → list_all (is_interval moments) ys ≡ true
-      → IsCovered (pieces offered xs asked ys) ↔ NeverFails is_there ys moments
+      → IsCovered (coverage_spans provided xs required ys) ↔ NeverFails is_there ys moments
   covered_at_stamps moments in_time ys p q = (
-    λ c. there moments ((covered_iff offered xs asked ys).0 c),
-    λ never. (covered_iff offered xs asked ys).1 (at_all_moments moments in_time offered xs asked ys p q (back moments never)),
+    λ c. there moments ((covered_iff provided xs required ys).0 c),
+    λ never. (covered_iff provided xs required ys).1 (at_all_moments moments in_time provided xs required ys p q (back moments never)),
   )
     where
-      there : (ms : List Moment) → ((a : ℕ) (t : ℤ) → stood_by asked ys a t ≡ true → stood_by offered xs a t ≡ true)
+      there : (ms : List Moment) → ((a : ℕ) (t : ℤ) → stood_by required ys a t ≡ true → stood_by provided xs a t ≡ true)
           → NeverFails is_there ys ms
       there [] h = tt
       there (m ∷ ms) h = (none_fails m.stamp ys (λ a s. h a m.stamp s), there ms h)
 
       back : (ms : List Moment) → NeverFails is_there ys ms
-          → AllByRecursion (λ m. (a : ℕ) → stood_by asked ys a m.stamp ≡ true → stood_by offered xs a m.stamp ≡ true) ms
+          → AllByRecursion (λ m. (a : ℕ) → stood_by required ys a m.stamp ≡ true → stood_by provided xs a m.stamp ≡ true) ms
       back [] never = tt
       back (m ∷ ms) never = (asked_are_there m.stamp ys never.0, back ms never.1)
 
@@ -178,7 +178,7 @@ module _ {Y : Type 0} (test : Y → Bool) where
           moments (ends_of moments v parts.0).begins never in
           and_from (test v.what) (list_all (λ w. test w.what) vs)
           (passed (stands v.since v) (test v.what)
-          (or_parts (stands v.since v && not (test v.what)) (fails alone vs v.since) at_first).0 (at_its_beginning v.since v.until (begun moments v parts.0)))
+          (or_parts (stands v.since v && not (test v.what)) (fails alone vs v.since) at_first).0 (at_its_beginning v.since v.until (nonempty moments v parts.0)))
           (back vs parts.1 (later v vs moments never))
 
 -- ---- results

@@ -5,7 +5,7 @@ use Rattle.std.proofs.lemmas.List.Sorted.{list_any-IsPermutation}
 use Rattle.std.specs.List.{list_all, list_any}
 use Rattle.land_core.specs.Grants.{grants_in}
 use Rattle.land_core.specs.Register.{has_single_party, is_single}
-use Rattle.land_core.specs.Soundness.{has_loose_grant}
+use Rattle.land_core.specs.Soundness.{has_dangling_grant}
 use Rattle.land_core.specs.declared.roles.Grant.{Grant}
 use Rattle.land_tables_history.proofs.Distinct.{distinct_standing}
 use Rattle.land_tables_history.proofs.Entered.{made_roles}
@@ -21,10 +21,10 @@ use Rattle.land_tables_lawful.proofs.Covers.{any_alike, pieces_begin, stood_by}
 use Rattle.land_tables_lawful.proofs.Passing.{intervals_among, passes_at}
 use Rattle.land_tables_lawful.proofs.References.{by_way_of, covered_at_stamps, fails, is_there, never_by}
 use Rattle.land_tables_lawful.specs.Never.{Never}
-use Rattle.land_tables_lawful.specs.Pieces.{are_in_time, pieces}
+use Rattle.land_tables_lawful.specs.CoverageSpans.{are_in_range, coverage_spans}
 use Rattle.land_tables_lawful.specs.Roles.{is_of_single, single_parties}
 use Rattle.land_tables_history.specs.Sweeps.Cover.{IsCovered}
-use Rattle.land_tables_history.specs.declared.sweeps.cover.Piece.{Piece}
+use Rattle.land_tables_history.specs.declared.sweeps.cover.CoverageSpan.{CoverageSpan}
 
 -- some current role passes a test
 pub some_role : (p : Grant → Bool) (t : ℤ) (vs : List (Version Grant)) → AreApart is_same_grant vs
@@ -38,8 +38,8 @@ abbrev holder_of : Grant → ℕ
 holder_of grant = grant.party
 
 -- single parties are provided, and holders of roles are required
-abbrev pub role_pieces : History → List Piece
-role_pieces h = pieces (λ e. e.0) (single_parties h.parties) holder_of h.roles
+abbrev pub role_pieces : History → List CoverageSpan
+role_pieces h = coverage_spans (λ e. e.0) (single_parties h.parties) holder_of h.roles
 
 module _ (moments : List Moment) (h : History) (p : AllProper moments h) where
   -- a single party of this number exists
@@ -53,22 +53,22 @@ module _ (moments : List Moment) (h : History) (p : AllProper moments h) where
   abbrev is_single_there : ℤ → Grant → Bool
   is_single_there = is_there (λ e. e.0) (single_parties h.parties) holder_of
 
-  loose_at : (m : Moment) → has_loose_grant (register_at m.stamp h m.next) ≡ fails is_single_there h.roles m.stamp
+  loose_at : (m : Moment) → has_dangling_grant (register_at m.stamp h m.next) ≡ fails is_single_there h.roles m.stamp
   loose_at m =
       some_role (λ grant. not (has_single_party (register_at m.stamp h m.next) grant.party)) m.stamp h.roles p.roles.apart
       ∙ any_alike (λ v. stands m.stamp v && not (has_single_party (register_at m.stamp h m.next) v.what.party))
       (λ v. stands m.stamp v && not (is_single_there m.stamp v.what))
       (λ v. ap (λ b. stands m.stamp v && not b) (single_at m v.what.party)) h.roles
 
-  refer : are_in_time moments ≡ true → IsCovered (role_pieces h) ↔ Never has_loose_grant moments h
+  refer : are_in_range moments ≡ true → IsCovered (role_pieces h) ↔ Never has_dangling_grant moments h
   refer in_time =
       by_way_of
       (covered_at_stamps (λ e. e.0) (single_parties h.parties) holder_of moments in_time h.roles singles_are_intervals p.roles.intervals)
-      (never_by has_loose_grant h is_single_there h.roles loose_at moments)
+      (never_by has_dangling_grant h is_single_there h.roles loose_at moments)
 
 -- single parties exist throughout their roles if and only if they do at each stamp
-pub roles_refer : (moments : List Moment) (h : History) → has_intervals moments h ≡ true → are_in_time moments ≡ true → (a : Bool)
-    → (a ≡ true) ↔ IsCovered (role_pieces h) → (a ≡ true) ↔ Never has_loose_grant moments h
+pub roles_refer : (moments : List Moment) (h : History) → has_intervals moments h ≡ true → are_in_range moments ≡ true → (a : Bool)
+    → (a ≡ true) ↔ IsCovered (role_pieces h) → (a ≡ true) ↔ Never has_dangling_grant moments h
 roles_refer moments h intervals in_time a swept = by_way_of swept (refer moments h (all_proper moments h intervals) in_time)
 
 pub roles_begin : (moments : List Moment) (h : History) → has_intervals moments h ≡ true

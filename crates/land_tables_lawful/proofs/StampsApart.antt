@@ -14,19 +14,19 @@ use Rattle.land_tables_history.specs.Intervals.{is_interval, is_stamp, overlap}
 use Rattle.land_tables_history.specs.Standing.{standing, stands}
 use Rattle.land_tables_history.specs.declared.moment.Moment.{Moment}
 use Rattle.land_tables_history.specs.declared.version.Version.{Version}
-use Rattle.land_tables_lawful.proofs.Covers.{begun}
+use Rattle.land_tables_lawful.proofs.Covers.{nonempty}
 use Rattle.land_tables_lawful.proofs.Latest.{at_stamp, ends_of}
 
 -- if two lifespans overlap, both include the later of their starts
 at_the_later : (since until since' until' : ℤ) → (int_lt since until' && int_lt since' until) ≡ true → int_le since since' ≡ true
     → int_lt since' until' ≡ true
     → ((int_le since since' && int_lt since' until) ≡ true) × ((int_le since' since' && int_lt since' until') ≡ true)
-at_the_later since until since' until' meet order begun = (grind (arith, ints), grind (arith, ints))
+at_the_later since until since' until' meet order nonempty = (grind (arith, ints), grind (arith, ints))
 
 at_the_first : (since until since' until' : ℤ) → (int_lt since until' && int_lt since' until) ≡ true → int_le since since' ≡ false
     → int_lt since until ≡ true
     → ((int_le since since && int_lt since until) ≡ true) × ((int_le since' since && int_lt since until') ≡ true)
-at_the_first since until since' until' meet order begun = (grind (arith, ints), grind (arith, ints))
+at_the_first since until since' until' meet order nonempty = (grind (arith, ints), grind (arith, ints))
 
 module _ {X : Type 0} (same : X → X → Bool) (moments : List Moment) where
   none_beside : (t : ℤ) (v : Version X) (vs : List (Version X)) → stands t v ≡ true → are_distinct same (standing t (v ∷ vs)) ≡ true
@@ -61,7 +61,7 @@ module _ {X : Type 0} (same : X → X → Bool) (moments : List Moment) where
   none_meets v i (w ∷ ws) all h =
       let parts = and_parts (is_interval moments w) (list_all (is_interval moments) ws) all in
       ap₂ (λ b c. b || c) (false_from_ne_true (overlap same v w)
-      (λ meet. apart (begun moments w parts.0) (ends_of moments w parts.0).begins
+      (λ meet. apart (nonempty moments w parts.0) (ends_of moments w parts.0).begins
       (parted (same v.what w.what) (int_lt v.since w.until) (int_lt w.since v.until) meet) (int_le v.since w.since) refl))
       (none_meets v i ws parts.1
       (λ u is here. (or_parts (stands u w && same v.what w.what) (list_any (λ w. stands u w && same v.what w.what) ws) (h u is here)).1))
@@ -75,7 +75,7 @@ module _ {X : Type 0} (same : X → X → Bool) (moments : List Moment) where
           (or_parts (stands w.since w && same v.what w.what) (list_any (λ w2. stands w.since w2 && same v.what w2.what) ws)
           (h w.since stamp it.0)).0
       apart first stamp m false e =
-          let it = at_the_first v.since v.until w.since w.until m.1 e (begun moments v i) in
+          let it = at_the_first v.since v.until w.since w.until m.1 e (nonempty moments v i) in
           conflict (and_from (stands v.since w) (same v.what w.what) it.1 m.0)
           (or_parts (stands v.since w && same v.what w.what) (list_any (λ w2. stands v.since w2 && same v.what w2.what) ws)
           (h v.since (ends_of moments v i).begins it.0)).0

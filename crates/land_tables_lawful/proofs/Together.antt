@@ -9,7 +9,7 @@ use Rattle.std.proofs.lemmas.List.Sorted.{list_any-IsPermutation}
 use Rattle.std.specs.FinMap as map
 use Rattle.std.specs.List.{AllByRecursion, cons_option, filter_map, list_all, list_any}
 use Rattle.std.proofs.lemmas.Cmp.{nat_eq_equiv}
-use Rattle.land_core.specs.ByUnit.{placed}
+use Rattle.land_core.specs.ByUnit.{items_of_unit}
 use Rattle.land_core.specs.declared.register.Register.{Register}
 use Rattle.land_tables_history.proofs.Distinct.{distinct_standing}
 use Rattle.land_tables_history.proofs.Entered.{made_part}
@@ -19,12 +19,12 @@ use Rattle.land_tables_history.specs.Standing.{part_at, standing as standing_at,
 use Rattle.land_tables_history.specs.declared.history.History.{History}
 use Rattle.land_tables_history.specs.declared.moment.Moment.{Moment}
 use Rattle.land_tables_history.specs.declared.version.Version.{Version}
-use Rattle.land_tables_lawful.specs.Lived.{all_lived, lived_by, what_stands, where_marked}
+use Rattle.land_tables_lawful.specs.LiveSpan.{live_spans_of, live_span, span_values, if_any_marked}
 use Rattle.land_tables_lawful.specs.Never.{Never}
-use Rattle.land_tables_lawful.specs.Pieces.{are_in_time}
+use Rattle.land_tables_lawful.specs.CoverageSpans.{are_in_range}
 use Rattle.land_tables_lawful.proofs.Latest.{Empty, Matched, matched}
 use Rattle.land_tables_history.specs.Sweeps.Sweep.{AreSound, is_at, standing}
-use Rattle.land_tables_history.specs.declared.sweeps.sweep.Lived.{Lived}
+use Rattle.land_tables_history.specs.declared.sweeps.sweep.LiveSpan.{LiveSpan}
 
 moved : (a b c : Bool) → (a && b && c) ≡ ((b && c) && a)
 moved a b c = grind arith
@@ -32,21 +32,21 @@ moved a b c = grind arith
 -- ---- between stamps
 
 module _ {T : Type 0} where
-  abbrev version_of : Lived T → Version T
+  abbrev version_of : LiveSpan T → Version T
   version_of x = record { what = x.what; since = x.since; until = x.until }
 
   -- a lifespan starts at a stamp, and ends after that, at a stamp or never
-  abbrev is_life : List Moment → Lived T → Bool
+  abbrev is_life : List Moment → LiveSpan T → Bool
   is_life moments x = is_interval moments (version_of x)
 
-  abbrev pub AreLives : List Moment → List (Lived T) → Type 0
+  abbrev pub AreLives : List Moment → List (LiveSpan T) → Type 0
   AreLives moments xs = list_all (is_life moments) xs ≡ true
 
-  by_key : (key : ℕ) (t : ℤ) (x : Lived T) → is_at key t x ≡ (stands t (version_of x) && (x.key == key))
+  by_key : (key : ℕ) (t : ℤ) (x : LiveSpan T) → is_at key t x ≡ (stands t (version_of x) && (x.key == key))
   by_key key t x = moved (x.key == key) (int_le x.since t) (int_lt t x.until)
 
   same_there : (moments : List Moment) (key : ℕ) (s t : ℤ) → ((v : Version T) → is_interval moments v ≡ true → stands t v ≡ stands s v)
-      → (xs : List (Lived T)) → AreLives moments xs → filter (is_at key t) xs ≡ filter (is_at key s) xs
+      → (xs : List (LiveSpan T)) → AreLives moments xs → filter (is_at key t) xs ≡ filter (is_at key s) xs
   same_there moments key s t same [] all = refl
   same_there moments key s t same (x ∷ xs) all =
       let parts = and_parts (is_life moments x) (list_all (is_life moments) xs) all in
@@ -55,7 +55,7 @@ module _ {T : Type 0} where
       (same_there moments key s t same xs parts.1)
 
   none_there : (moments : List Moment) (key : ℕ) (t : ℤ) → ((v : Version T) → is_interval moments v ≡ true → stands t v ≡ false)
-      → (xs : List (Lived T)) → AreLives moments xs → filter (is_at key t) xs ≡ []
+      → (xs : List (LiveSpan T)) → AreLives moments xs → filter (is_at key t) xs ≡ []
   none_there moments key t none [] all = refl
   none_there moments key t none (x ∷ xs) all =
       let parts = and_parts (is_life moments x) (list_all (is_life moments) xs) all in
@@ -64,24 +64,24 @@ module _ {T : Type 0} where
       ∙ none_there moments key t none xs parts.1
 
   -- the values that are current together at a moment are so at one of the stamps, or there are none
-  at_any_time : (moments : List Moment) → are_in_time moments ≡ true → (xs : List (Lived T)) → AreLives moments xs
+  at_any_time : (moments : List Moment) → are_in_range moments ≡ true → (xs : List (LiveSpan T)) → AreLives moments xs
       → (P : List T → Bool) → P [] ≡ true → (key : ℕ) → AllByRecursion (λ m. P (standing xs key m.stamp) ≡ true) moments
       → (t : ℤ) → P (standing xs key t) ≡ true
   at_any_time moments in_time xs all P empty key stamps t = go (matched moments t in_time)
     where
       go : Matched moments t ⊎ Empty moments t → P (standing xs key t) ≡ true
       go (inl m) =
-          ap (λ l. P (what_stands l)) (same_there moments key m.moment.stamp t (λ v. m.same v) xs all)
+          ap (λ l. P (span_values l)) (same_there moments key m.moment.stamp t (λ v. m.same v) xs all)
           ∙ m.among (λ m. P (standing xs key m.stamp) ≡ true) stamps
-      go (inr e) = ap (λ l. P (what_stands l)) (none_there moments key t (λ v. e.none v) xs all) ∙ empty
+      go (inr e) = ap (λ l. P (span_values l)) (none_there moments key t (λ v. e.none v) xs all) ∙ empty
 
   -- two lists
-  pub standing-append : (xs ys : List (Lived T)) (key : ℕ) (t : ℤ) → standing (xs ++ ys) key t ≡ standing xs key t ++ standing ys key t
+  pub standing-append : (xs ys : List (LiveSpan T)) (key : ℕ) (t : ℤ) → standing (xs ++ ys) key t ≡ standing xs key t ++ standing ys key t
   standing-append xs ys key t =
-      ap what_stands (filter-append (is_at key t) xs ys)
-      ∙ map-append (λ (x : Lived T). x.what) (filter (is_at key t) xs) (filter (is_at key t) ys)
+      ap span_values (filter-append (is_at key t) xs ys)
+      ∙ map-append (λ (x : LiveSpan T). x.what) (filter (is_at key t) xs) (filter (is_at key t) ys)
 
-  pub lives-append : (moments : List Moment) (xs ys : List (Lived T)) → AreLives moments xs → AreLives moments ys
+  pub lives-append : (moments : List Moment) (xs ys : List (LiveSpan T)) → AreLives moments xs → AreLives moments ys
       → AreLives moments (xs ++ ys)
   lives-append moments xs ys p q =
       list_all-append (is_life moments) xs ys ∙ and_from (list_all (is_life moments) xs) (list_all (is_life moments) ys) p q
@@ -90,29 +90,29 @@ module _ {T : Type 0} where
 
 module _ {X T : Type 0} (key : X → ℕ) (what : X → T) where
   pub all_live : (moments : List Moment) (vs : List (Version X)) → list_all (is_interval moments) vs ≡ true
-      → AreLives moments (all_lived key what vs)
+      → AreLives moments (live_spans_of key what vs)
   all_live moments [] all = refl
   all_live moments (v ∷ vs) all =
       let parts = and_parts (is_interval moments v) (list_all (is_interval moments) vs) all in
-      and_from (is_interval moments v) (list_all (is_life moments) (all_lived key what vs)) parts.0 (all_live moments vs parts.1)
+      and_from (is_interval moments v) (list_all (is_life moments) (live_spans_of key what vs)) parts.0 (all_live moments vs parts.1)
 
   module _ (n : ℕ) where
     -- the values of records under a number, with one of them in front
     abbrev under : List X → List T
-    under xs = placed key what n xs
+    under xs = items_of_unit key what n xs
 
     abbrev with : Bool → X → List T → List T
     with b x ts = cons_option (cond b (Some (what x)) None) ts
 
     -- the values that are current under a number at a moment are those of the versions that are current then
-    pub stood : (t : ℤ) (vs : List (Version X)) → standing (all_lived key what vs) n t ≡ under (standing_at t vs)
+    pub stood : (t : ℤ) (vs : List (Version X)) → standing (live_spans_of key what vs) n t ≡ under (standing_at t vs)
     stood t [] = refl
     stood t (v ∷ vs) =
-        go (is_at n t (lived_by key what v)) (stands t v) (nat_eq (key v.what) n) refl
+        go (is_at n t (live_span key what v)) (stands t v) (nat_eq (key v.what) n) refl
         (moved (key v.what == n) (int_le v.since t) (int_lt t v.until)) (stood t vs)
       where
-        go : (b c d : Bool) → nat_eq (key v.what) n ≡ d → b ≡ (c && d) → standing (all_lived key what vs) n t ≡ under (standing_at t vs)
-            → what_stands (cond b (lived_by key what v ∷ filter (is_at n t) (all_lived key what vs)) (filter (is_at n t) (all_lived key what vs)))
+        go : (b c d : Bool) → nat_eq (key v.what) n ≡ d → b ≡ (c && d) → standing (live_spans_of key what vs) n t ≡ under (standing_at t vs)
+            → span_values (cond b (live_span key what v ∷ filter (is_at n t) (live_spans_of key what vs)) (filter (is_at n t) (live_spans_of key what vs)))
             ≡ under (map_list (λ (v : Version X). v.what) (cond c (v ∷ filter (stands t) vs) (filter (stands t) vs)))
         go true true true is e h = ap (λ l. what v.what ∷ l) h ∙ ap (λ k. with k v.what (under (standing_at t vs))) (sym is)
         go false true false is e h = h ∙ ap (λ k. with k v.what (under (standing_at t vs))) (sym is)
@@ -203,8 +203,8 @@ module _ {V : Type 0} (c : V → Bool) (W : ℕ → Bool) where
 
 -- ---- a fault of records, and the current values under their numbers
 
-module _ {T V : Type 0} (moments : List Moment) (h : History) (fault : Register → Bool) (lived : List (Lived T))
-    (marks : T → Bool) (test : List T → Bool) (vs : List (Version (ℕ × V))) (c : V → Bool) (W : Register → ℕ → Bool) where
+module _ {T V : Type 0} (moments : List Moment) (h : History) (fault : Register → Bool) (live_spans : List (LiveSpan T))
+    (set_entries : T → Bool) (test : List T → Bool) (vs : List (Version (ℕ × V))) (c : V → Bool) (W : Register → ℕ → Bool) where
   abbrev register_of : Moment → Register
   register_of m = register_at m.stamp h m.next
 
@@ -212,18 +212,18 @@ module _ {T V : Type 0} (moments : List Moment) (h : History) (fault : Register 
   -- is, and passes if they do.
   pub record Ties : Type 0 where
     pub faulty : (m : Moment) → fault (register_of m) ≡ list_any (is_at_fault c (W (register_of m))) (standing_at m.stamp vs)
-    pub marked : (n : ℕ) (t : ℤ) → list_any marks (standing lived n t) ≡ is_marked c n (standing_at t vs)
-    pub tested : (m : Moment) (n : ℕ) → test (standing lived n m.stamp) ≡ W (register_of m) n
+    pub marked : (n : ℕ) (t : ℤ) → list_any set_entries (standing live_spans n t) ≡ is_marked c n (standing_at t vs)
+    pub tested : (m : Moment) (n : ℕ) → test (standing live_spans n m.stamp) ≡ W (register_of m) n
 
   abbrev AreFaultless : List Moment → Type 0
   AreFaultless ms = AllByRecursion (λ m. fault (register_of m) ≡ false) ms
 
   module _ (tie : Ties) where
     there : (m : Moment) (n : ℕ)
-        → where_marked marks test (standing lived n m.stamp) ≡ (not (is_marked c n (standing_at m.stamp vs)) || W (register_of m) n)
+        → if_any_marked set_entries test (standing live_spans n m.stamp) ≡ (not (is_marked c n (standing_at m.stamp vs)) || W (register_of m) n)
     there m n = ap₂ (λ a b. not a || b) (tie.marked n m.stamp) (tie.tested m n)
 
-    at_stamps : AreSound (where_marked marks test) lived → (ms : List Moment) → AreFaultless ms
+    at_stamps : AreSound (if_any_marked set_entries test) live_spans → (ms : List Moment) → AreFaultless ms
     at_stamps sound [] = tt
     at_stamps sound (m ∷ ms) = (
       tie.faulty m ∙ none_at_fault c (W (register_of m)) (standing_at m.stamp vs) (λ n. sym (there m n) ∙ sound n m.stamp),
@@ -231,7 +231,7 @@ module _ {T V : Type 0} (moments : List Moment) (h : History) (fault : Register 
     )
 
     from_stamps : (n : ℕ) (ms : List Moment) → AreFaultless ms
-        → AllByRecursion (λ m. where_marked marks test (standing lived n m.stamp) ≡ true) ms
+        → AllByRecursion (λ m. if_any_marked set_entries test (standing live_spans n m.stamp) ≡ true) ms
     from_stamps n [] all = tt
     from_stamps n (m ∷ ms) all = (
       there m n ∙ each_passes c (W (register_of m)) (standing_at m.stamp vs) (sym (tie.faulty m) ∙ all.0) n,
@@ -239,28 +239,28 @@ module _ {T V : Type 0} (moments : List Moment) (h : History) (fault : Register 
     )
 
     -- the fault never occurs if and only if the current values always pass
-    pub never : are_in_time moments ≡ true → AreLives moments lived → AreSound (where_marked marks test) lived ↔ Never fault moments h
+    pub never : are_in_range moments ≡ true → AreLives moments live_spans → AreSound (if_any_marked set_entries test) live_spans ↔ Never fault moments h
     never in_time lives = (
       λ sound. All-from_recursion (λ m. fault (register_of m) ≡ false) moments (at_stamps sound moments),
       λ all n t.
           let faultless = recursion_from_All (λ m. fault (register_of m) ≡ false) moments all in
-          at_any_time moments in_time lived lives (where_marked marks test) refl n (from_stamps n moments faultless) t,
+          at_any_time moments in_time live_spans lives (if_any_marked set_entries test) refl n (from_stamps n moments faultless) t,
     )
 
 -- two tests together
-pub both_sound : {T : Type 0} (p q : List T → Bool) (lived : List (Lived T)) {A B : Type 0} → AreSound p lived ↔ A → AreSound q lived ↔ B
-    → AreSound (λ xs. p xs && q xs) lived ↔ (A × B)
-both_sound p q lived one other = (
+pub both_sound : {T : Type 0} (p q : List T → Bool) (live_spans : List (LiveSpan T)) {A B : Type 0} → AreSound p live_spans ↔ A → AreSound q live_spans ↔ B
+    → AreSound (λ xs. p xs && q xs) live_spans ↔ (A × B)
+both_sound p q live_spans one other = (
   λ sound. (
-    one.0 (λ n t. (and_parts (p (standing lived n t)) (q (standing lived n t)) (sound n t)).0),
-    other.0 (λ n t. (and_parts (p (standing lived n t)) (q (standing lived n t)) (sound n t)).1),
+    one.0 (λ n t. (and_parts (p (standing live_spans n t)) (q (standing live_spans n t)) (sound n t)).0),
+    other.0 (λ n t. (and_parts (p (standing live_spans n t)) (q (standing live_spans n t)) (sound n t)).1),
   ),
-  λ h n t. and_from (p (standing lived n t)) (q (standing lived n t)) (one.1 h.0 n t) (other.1 h.1 n t),
+  λ h n t. and_from (p (standing live_spans n t)) (q (standing live_spans n t)) (one.1 h.0 n t) (other.1 h.1 n t),
 )
 
 -- a result for a list that is built is one for its parts
-pub answered : {T : Type 0} (p : List T → Bool) {A : Type 0} (made lived : List (Lived T)) → made ≡ lived → AreSound p lived ↔ A
+pub answered : {T : Type 0} (p : List T → Bool) {A : Type 0} (made live_spans : List (LiveSpan T)) → made ≡ live_spans → AreSound p live_spans ↔ A
     → (b : Bool) → (b ≡ true) ↔ AreSound p made → (b ≡ true) ↔ A
-answered p made lived is law b answer =
+answered p made live_spans is law b answer =
     let it = subst (λ l. (b ≡ true) ↔ AreSound p l) is answer in
     (λ e. law.0 (it.0 e), λ a. it.1 (law.1 a))

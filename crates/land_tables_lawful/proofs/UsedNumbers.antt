@@ -10,7 +10,7 @@ use Rattle.std.specs.FinMap as map
 use Rattle.std.specs.List.{AllByRecursion, list_all, list_any}
 use Rattle.std.specs.List.Sorted.{IsSorted}
 use Rattle.std.specs.Ordering.{int_eq}
-use Rattle.land_core.specs.Soundness.{has_loose_rank, has_unused_number, is_loose_rank, is_past_the_numbers}
+use Rattle.land_core.specs.Soundness.{has_rank_out_of_range, has_unused_number, is_rank_out_of_range, exceeds_last_number}
 use Rattle.land_core.specs.Units.{rank_of}
 use Rattle.land_core.specs.declared.register.Register.{Register}
 use Rattle.land_tables_history.proofs.NamingTests.{all_alike}
@@ -18,17 +18,17 @@ use Rattle.land_tables_history.proofs.Permutations.{any_permuted}
 use Rattle.land_tables_history.proofs.Proper.{Proper, all_proper}
 use Rattle.land_tables_history.specs.History.{register_at}
 use Rattle.land_tables_history.specs.Intervals.{has_intervals, is_interval, is_same_number, is_stamp}
-use Rattle.land_tables_history.specs.Lawful.{are_moments}
+use Rattle.land_tables_history.specs.ValidHistory.{are_moments}
 use Rattle.land_tables_history.specs.Standing.{part_at, stands}
 use Rattle.land_tables_history.specs.declared.history.History.{History}
 use Rattle.land_tables_history.specs.declared.moment.Moment.{Moment}
 use Rattle.land_tables_history.specs.declared.version.Version.{Version}
-use Rattle.land_tables_lawful.proofs.Covers.{any_alike, begun, some_by}
+use Rattle.land_tables_lawful.proofs.Covers.{any_alike, nonempty, some_by}
 use Rattle.land_tables_lawful.proofs.Latest.{ends_of}
 use Rattle.land_tables_lawful.proofs.MomentOrders.{all_go_up, goes_up_in_order, neighbours}
-use Rattle.land_tables_lawful.specs.Chains.{goes_before, stamp_cmp}
+use Rattle.land_tables_lawful.specs.Chains.{precedes, stamp_cmp}
 use Rattle.land_tables_lawful.specs.Never.{Never}
-use Rattle.land_tables_lawful.specs.NumbersInUse.{are_all_used, are_numbers_left, has_used_number, has_used_rank, is_used_rank, next_since, passes_since}
+use Rattle.land_tables_lawful.specs.NumbersInUse.{are_all_in_range, are_numbers_left, has_number_in_range, has_rank_in_range, is_rank_in_range, next_since, passes_since}
 
 -- ---- the next number does not decrease
 
@@ -42,23 +42,23 @@ no_way a b x y h p = grind (arith, ints, nat_tests)
 no_less : (a : ℕ) → nat_le a a ≡ true
 no_less a = grind (arith, nat_tests)
 
-heads : (m : Moment) (ns : List Moment) → list_all (goes_before m) ns ≡ true → AllByRecursion (Grows m) ns
+heads : (m : Moment) (ns : List Moment) → list_all (precedes m) ns ≡ true → AllByRecursion (Grows m) ns
 heads m [] h = tt
 heads m (n ∷ ns) h =
-    let parts = and_parts (goes_before m n) (list_all (goes_before m) ns) h in
+    let parts = and_parts (precedes m n) (list_all (precedes m) ns) h in
     (λ p. no_way m.stamp n.stamp m.next n.next parts.0 p, heads m ns parts.1)
 
-tails : (m : Moment) (ms ns : List Moment) → list_all (goes_before m) ns ≡ true → AllByRecursion (λ b. AllByRecursion (Grows b) ms) ns
+tails : (m : Moment) (ms ns : List Moment) → list_all (precedes m) ns ≡ true → AllByRecursion (λ b. AllByRecursion (Grows b) ms) ns
     → AllByRecursion (λ b. AllByRecursion (Grows b) (m ∷ ms)) ns
 tails m ms [] h all = tt
 tails m ms (n ∷ ns) h all =
-    let parts = and_parts (goes_before m n) (list_all (goes_before m) ns) h in
+    let parts = and_parts (precedes m n) (list_all (precedes m) ns) h in
     ((λ p. (and_parts (int_lt m.stamp n.stamp) (nat_le m.next n.next) parts.0).1, all.0), tails m ms ns parts.1 all.1)
 
 all_grow : (ms : List Moment) → all_go_up ms ≡ true → AllByRecursion (λ b. AllByRecursion (Grows b) ms) ms
 all_grow [] up = tt
 all_grow (m ∷ ms) up =
-    let parts = and_parts (list_all (goes_before m) ms) (all_go_up ms) up in
+    let parts = and_parts (list_all (precedes m) ms) (all_go_up ms) up in
     ((λ p. no_less m.next, heads m ms parts.0), tails m ms ms parts.0 (all_grow ms parts.1))
 
 -- ---- the moment of a stamp
@@ -136,7 +136,7 @@ module _ {X : Type 0} (test : X → ℕ → Bool) (kept : (x : X) (a b : ℕ) �
       let it = found (λ m. fails m v ≡ false) v.since ms (ends_of ms v interval).begins none in
       subst (λ (n : ℕ). test v.what n ≡ true) (sym it.next)
       (must (stands it.moment.stamp v) (test v.what it.moment.next)
-      (at_its_own it.moment.stamp v.since v.until (begun ms v interval) it.stamp) it.holds)
+      (at_its_own it.moment.stamp v.since v.until (nonempty ms v interval) it.stamp) it.holds)
 
   first_of : (v : Version X) (vs : List (Version X)) (ns : List Moment) → None_of (λ m. list_any (fails m) (v ∷ vs)) ns
       → None_of (λ m. fails m v) ns × None_of (λ m. list_any (fails m) vs) ns
@@ -202,7 +202,7 @@ all_both p q (x ∷ xs) = ap (λ c. (p x && q x) && c) (all_both p q xs) ∙ mix
 number_kept : (n a b : ℕ) → nat_le a b ≡ true → (nat_lt 0 n && nat_lt n a) ≡ true → (nat_lt 0 n && nat_lt n b) ≡ true
 number_kept n a b p h = grind (arith, nat_tests)
 
-rank_kept : (o : Option ℕ) (a b : ℕ) → nat_le a b ≡ true → is_used_rank o a ≡ true → is_used_rank o b ≡ true
+rank_kept : (o : Option ℕ) (a b : ℕ) → nat_le a b ≡ true → is_rank_in_range o a ≡ true → is_rank_in_range o b ≡ true
 rank_kept None a b p h = refl
 rank_kept (Some rank) a b p h = number_kept rank a b p h
 
@@ -217,31 +217,31 @@ intervals_too moments ms p vs intervals =
 module _ (moments ms : List Moment) (p : IsPermutation moments ms) (up : all_go_up ms ≡ true) where
   -- a record has a number that is not in range
   abbrev is_unused : {V : Type 0} → List (Version (ℕ × V)) → Moment → Bool
-  is_unused vs m = list_any (λ e. not (has_used_number e m.next)) (map.entries (part_at m.stamp vs))
+  is_unused vs m = list_any (λ e. not (has_number_in_range e m.next)) (map.entries (part_at m.stamp vs))
 
-  numbers : {V : Type 0} (vs : List (Version (ℕ × V))) → Proper is_same_number moments vs
-      → (list_all (passes_since has_used_number ms) vs ≡ true) ↔ None_of (is_unused vs) ms
-  numbers {V} vs proper =
-      let law = since_and_at (has_used_number {V = V}) (λ e. number_kept e.0) ms up vs (intervals_too moments ms p vs proper.intervals) in
-      let same = none_alike (is_unused vs) (λ m. list_any (fails (has_used_number {V = V}) (λ e. number_kept e.0) ms m) vs)
-      (λ m. some_by (λ e. not (has_used_number e m.next)) m.stamp vs proper.apart) ms in
+  number_range : {V : Type 0} (vs : List (Version (ℕ × V))) → Proper is_same_number moments vs
+      → (list_all (passes_since has_number_in_range ms) vs ≡ true) ↔ None_of (is_unused vs) ms
+  number_range {V} vs proper =
+      let law = since_and_at (has_number_in_range {V = V}) (λ e. number_kept e.0) ms up vs (intervals_too moments ms p vs proper.intervals) in
+      let same = none_alike (is_unused vs) (λ m. list_any (fails (has_number_in_range {V = V}) (λ e. number_kept e.0) ms m) vs)
+      (λ m. some_by (λ e. not (has_number_in_range e m.next)) m.stamp vs proper.apart) ms in
       (λ h. same.1 (law.0 h), λ h. law.1 (same.0 h))
 
   module _ (h : History) where
-    loose : (m : Moment) (o : Option ℕ) → is_loose_rank (register_at m.stamp h m.next) o ≡ not (is_used_rank o m.next)
+    loose : (m : Moment) (o : Option ℕ) → is_rank_out_of_range (register_at m.stamp h m.next) o ≡ not (is_rank_in_range o m.next)
     loose m None = refl
     loose m (Some rank) = refl
 
     ranks : Proper is_same_number moments h.rrrs
-        → (list_all (passes_since has_used_rank ms) h.rrrs ≡ true) ↔ None_of (λ m. has_loose_rank (register_at m.stamp h m.next)) ms
+        → (list_all (passes_since has_rank_in_range ms) h.rrrs ≡ true) ↔ None_of (λ m. has_rank_out_of_range (register_at m.stamp h m.next)) ms
     ranks proper =
-        let law = since_and_at has_used_rank (λ e. rank_kept (rank_of e.1.class)) ms up h.rrrs
+        let law = since_and_at has_rank_in_range (λ e. rank_kept (rank_of e.1.class)) ms up h.rrrs
         (intervals_too moments ms p h.rrrs proper.intervals) in
-        let same = none_alike (λ m. has_loose_rank (register_at m.stamp h m.next))
-        (λ m. list_any (fails has_used_rank (λ e. rank_kept (rank_of e.1.class)) ms m) h.rrrs)
-        (λ m. some_by (λ e. is_loose_rank (register_at m.stamp h m.next) (rank_of e.1.class)) m.stamp h.rrrs proper.apart
-        ∙ any_alike (λ v. stands m.stamp v && is_loose_rank (register_at m.stamp h m.next) (rank_of v.what.1.class))
-        (λ v. stands m.stamp v && not (has_used_rank v.what m.next))
+        let same = none_alike (λ m. has_rank_out_of_range (register_at m.stamp h m.next))
+        (λ m. list_any (fails has_rank_in_range (λ e. rank_kept (rank_of e.1.class)) ms m) h.rrrs)
+        (λ m. some_by (λ e. is_rank_out_of_range (register_at m.stamp h m.next) (rank_of e.1.class)) m.stamp h.rrrs proper.apart
+        ∙ any_alike (λ v. stands m.stamp v && is_rank_out_of_range (register_at m.stamp h m.next) (rank_of v.what.1.class))
+        (λ v. stands m.stamp v && not (has_rank_in_range v.what m.next))
         (λ v. ap (λ b. stands m.stamp v && b) (loose m (rank_of v.what.1.class))) h.rrrs) ms in
         (λ h. same.1 (law.0 h), λ h. law.1 (same.0 h))
 
@@ -256,34 +256,34 @@ module _ (moments ms : List Moment) (p : IsPermutation moments ms) (up : all_go_
 
     -- the numbers of these versions are in range
     abbrev used : {V : Type 0} → List (Version (ℕ × V)) → Bool
-    used vs = list_all (passes_since has_used_number ms) vs
+    used vs = list_all (passes_since has_number_in_range ms) vs
 
     abbrev parts_used : Bool
     parts_used = used h.parties && used h.units && used h.parcels && used h.rrrs && used h.sources && used h.mutations
 
     abbrev ranks_used : Bool
-    ranks_used = list_all (passes_since has_used_rank ms) h.rrrs
+    ranks_used = list_all (passes_since has_rank_in_range ms) h.rrrs
 
     all_numbers : has_intervals moments h ≡ true → (parts_used ≡ true) ↔ None_of (λ m. has_unused_number (register_at m.stamp h m.next)) ms
     all_numbers intervals =
         let proper = all_proper moments h intervals in
-        let two = joined _ _ _ _ ms (numbers h.parties proper.parties) (numbers h.units proper.units) in
-        let four = joined _ _ _ _ ms (joined _ _ _ _ ms two (numbers h.parcels proper.parcels)) (numbers h.rrrs proper.rrrs) in
-        joined _ _ _ _ ms (joined _ _ _ _ ms four (numbers h.sources proper.sources)) (numbers h.mutations proper.mutations)
+        let two = joined _ _ _ _ ms (number_range h.parties proper.parties) (number_range h.units proper.units) in
+        let four = joined _ _ _ _ ms (joined _ _ _ _ ms two (number_range h.parcels proper.parcels)) (number_range h.rrrs proper.rrrs) in
+        joined _ _ _ _ ms (joined _ _ _ _ ms four (number_range h.sources proper.sources)) (number_range h.mutations proper.mutations)
 
     gathered : (l a b c n r d e : Bool) → (l && a && b && c && (n && r) && d && e) ≡ (l && (a && b && c && n && d && e) && r)
     gathered l a b c n r d e = grind arith
 
-    in_parts : are_all_used ms h ≡ (are_numbers_left ms && parts_used && ranks_used)
+    in_parts : are_all_in_range ms h ≡ (are_numbers_left ms && parts_used && ranks_used)
     in_parts =
         ap (λ x. are_numbers_left ms && used h.parties && used h.units && used h.parcels && x && used h.sources && used h.mutations)
-        (all_both (passes_since has_used_number ms) (passes_since has_used_rank ms) h.rrrs)
+        (all_both (passes_since has_number_in_range ms) (passes_since has_rank_in_range ms) h.rrrs)
         ∙ gathered (are_numbers_left ms) (used h.parties) (used h.units) (used h.parcels) (used h.rrrs) ranks_used (used h.sources)
         (used h.mutations)
 
     three : has_intervals moments h ≡ true
-        → (are_all_used ms h ≡ true)
-        ↔ (Never is_past_the_numbers moments h × Never has_unused_number moments h × Never has_loose_rank moments h)
+        → (are_all_in_range ms h ≡ true)
+        ↔ (Never exceeds_last_number moments h × Never has_unused_number moments h × Never has_rank_out_of_range moments h)
     three intervals =
         let past = none_left (λ m. nat_lt 1000000001 m.next) ms in
         let unused = all_numbers intervals in
@@ -291,21 +291,21 @@ module _ (moments ms : List Moment) (p : IsPermutation moments ms) (up : all_go_
           λ e.
               let last = and_parts (are_numbers_left ms && parts_used) ranks_used (sym in_parts ∙ e) in
               let first = and_parts (are_numbers_left ms) parts_used last.0 in (
-                (never is_past_the_numbers).0 (past.0 first.0),
+                (never exceeds_last_number).0 (past.0 first.0),
                 (never has_unused_number).0 (unused.0 first.1),
-                (never has_loose_rank).0 (rank.0 last.1),
+                (never has_rank_out_of_range).0 (rank.0 last.1),
               ),
           λ all.
               in_parts ∙ and_from (are_numbers_left ms && parts_used) ranks_used
-              (and_from (are_numbers_left ms) parts_used (past.1 ((never is_past_the_numbers).1 all.0))
+              (and_from (are_numbers_left ms) parts_used (past.1 ((never exceeds_last_number).1 all.0))
               (unused.1 ((never has_unused_number).1 all.1)))
-              (rank.1 ((never has_loose_rank).1 all.2)),
+              (rank.1 ((never has_rank_out_of_range).1 all.2)),
         )
 
 -- numbers are in range at all commits if they are, by the sorted commits, when their versions start
 pub all_used : (moments sorted : List Moment) (h : History) → IsPermutation moments sorted → IsSorted stamp_cmp sorted
     → has_intervals moments h ≡ true → are_moments moments ≡ true
-    → (are_all_used sorted h ≡ true)
-    ↔ (Never is_past_the_numbers moments h × Never has_unused_number moments h × Never has_loose_rank moments h)
+    → (are_all_in_range sorted h ≡ true)
+    ↔ (Never exceeds_last_number moments h × Never has_unused_number moments h × Never has_rank_out_of_range moments h)
 all_used moments sorted h p in_order intervals are =
     three moments sorted p (sym (neighbours sorted) ∙ goes_up_in_order moments sorted p in_order are) h intervals

@@ -12,7 +12,7 @@ use Rattle.land_tables_history.proofs.Entered.{distinct_alike}
 use Rattle.land_tables_history.specs.Intervals.{is_interval, overlap}
 use Rattle.land_tables_history.specs.declared.moment.Moment.{Moment}
 use Rattle.land_tables_history.specs.declared.version.Version.{Version}
-use Rattle.land_tables_lawful.proofs.Covers.{begun}
+use Rattle.land_tables_lawful.proofs.Covers.{nonempty}
 use Rattle.land_tables_lawful.specs.ApartSpans.{span_at, spans_where}
 use Rattle.land_tables_history.specs.Sweeps.Apart.{are_apart, overlap as overlap_by}
 use Rattle.land_tables_history.specs.declared.sweeps.apart.Span.{Span}
@@ -82,7 +82,7 @@ pub where_begun : {X K : Type 0} (moments : List Moment) (key_of : X → Option 
 where_begun moments key_of [] h = refl
 where_begun {X} {K} moments key_of (v ∷ vs) h =
     let parts = and_parts (is_interval moments v) (list_all (is_interval moments) vs) h in
-    go (key_of v.what) (begun moments v parts.0) (where_begun moments key_of vs parts.1)
+    go (key_of v.what) (nonempty moments v parts.0) (where_begun moments key_of vs parts.1)
   where
     go : (o : Option K) → int_lt v.since v.until ≡ true → list_all (λ x. int_lt x.since x.until) (spans_where key_of vs) ≡ true
         → list_all (λ x. int_lt x.since x.until) (cons_option (option_map (span_at v) o) (spans_where key_of vs)) ≡ true

@@ -12,8 +12,8 @@ use Rattle.std.specs.Option.{option_map_or}
 use Rattle.std.specs.Ordering.{eq_by_cmp, is_lt, nat_cmp}
 use Rattle.std.proofs.lemmas.Bool.{and_from, and_parts, eqb-true}
 use Rattle.land_core.proofs.Booleans.{T_true, or_nothing}
-use Rattle.land_core.proofs.UnitLists.{filter_map-placed, list_any-placed}
-use Rattle.land_core.specs.ByUnit.{placed}
+use Rattle.land_core.proofs.UnitLists.{filter_map-items_of_unit, list_any-items_of_unit}
+use Rattle.land_core.specs.ByUnit.{items_of_unit}
 use Rattle.land_core.specs.Members.{Members, are_group_shares, member_of, shares_in}
 use Rattle.land_core.specs.Register.{is_single, shares_of}
 use Rattle.land_core.specs.Soundness.{has_broken_group}
@@ -33,9 +33,9 @@ use Rattle.land_tables_history.specs.declared.history.History.{History}
 use Rattle.land_tables_history.specs.declared.moment.Moment.{Moment}
 use Rattle.land_tables_history.specs.declared.version.Version.{Version}
 use Rattle.land_tables_lawful.specs.AnyOrder.{filter_map_permuted, group_permuted}
-use Rattle.land_tables_lawful.specs.Memberships.{are_joined_soundly, are_members_whole, group_joined, groups_among, groups_lived, is_group, member_joined, member_share, member_shares, members_lived, memberships_in}
+use Rattle.land_tables_lawful.specs.Memberships.{are_members_sound, are_members_whole, group_joined, groups_among, group_live_spans, is_group, member_joined, member_share, member_shares, member_live_spans, memberships_in}
 use Rattle.land_tables_lawful.specs.Never.{Never}
-use Rattle.land_tables_lawful.specs.Pieces.{are_in_time}
+use Rattle.land_tables_lawful.specs.CoverageSpans.{are_in_range}
 use Rattle.land_tables_lawful.specs.declared.groups.Membership.{Membership}
 use Rattle.land_tables_lawful.proofs.Together.{AreLives, Ties, all_live, is_at_fault, is_marked, lives-append, never, none_marked, none_taken, some_standing, standing-append, stood}
 use Rattle.land_tables_history.specs.Sweeps.Sweep.{AreSound, standing}
@@ -174,14 +174,14 @@ module _ (h : History) (n : ℕ) (t : ℤ) where
   members = standing_at t h.members
 
   abbrev groups_there : List Membership
-  groups_there = placed (λ e. e.0) group_joined n groups
+  groups_there = items_of_unit (λ e. e.0) group_joined n groups
 
   abbrev members_there : List Membership
-  members_there = placed (λ m. m.group) member_joined n members
+  members_there = items_of_unit (λ m. m.group) member_joined n members
 
   two_parts : standing (memberships_in h) n t ≡ groups_there ++ members_there
   two_parts =
-      standing-append (groups_lived h.parties) (members_lived h.members) n t
+      standing-append (group_live_spans h.parties) (member_live_spans h.members) n t
       ∙ ap₂ (λ a b. a ++ b) (stood (λ e. e.0) group_joined n t (groups_among h.parties)) (stood (λ m. m.group) member_joined n t h.members)
 
   -- only groups are marked
@@ -191,7 +191,7 @@ module _ (h : History) (n : ℕ) (t : ℤ) where
       ∙ list_any-append is_group groups_there members_there
       ∙ ap (λ b. list_any is_group groups_there || b) (none_marked (λ m. m.group) member_joined n is_group (λ m. refl) members)
       ∙ or_nothing (list_any is_group groups_there)
-      ∙ list_any-placed (λ e. e.0) group_joined n is_group groups
+      ∙ list_any-items_of_unit (λ e. e.0) group_joined n is_group groups
       ∙ groups_stand n t h.parties
 
   -- only members have shares
@@ -200,7 +200,7 @@ module _ (h : History) (n : ℕ) (t : ℤ) where
       ap member_shares two_parts
       ∙ filter_map-append member_share groups_there members_there
       ∙ ap (λ a. a ++ member_shares members_there) (none_taken (λ e. e.0) group_joined n member_share (λ e. refl) groups)
-      ∙ filter_map-placed (λ m. m.group) member_joined n member_share members
+      ∙ filter_map-items_of_unit (λ m. m.group) member_joined n member_share members
 
 -- ---- in the register
 
@@ -242,11 +242,11 @@ module _ (moments : List Moment) (h : History) (p : AllProper moments h) where
   memberships_live =
       let groups = all_live (λ e. e.0) group_joined moments (groups_among h.parties) (groups_begin moments h.parties p.parties.intervals) in
       let members = all_live (λ m. m.group) member_joined moments h.members p.members.intervals in
-      lives-append moments (groups_lived h.parties) (members_lived h.members) groups members
+      lives-append moments (group_live_spans h.parties) (member_live_spans h.members) groups members
 
 -- the current values of groups are sound at each moment if and only if no register has a broken group
-pub groups_are_whole : (moments : List Moment) (h : History) → has_intervals moments h ≡ true → are_in_time moments ≡ true
-    → AreSound are_joined_soundly (memberships_in h) ↔ Never has_broken_group moments h
+pub groups_are_whole : (moments : List Moment) (h : History) → has_intervals moments h ≡ true → are_in_range moments ≡ true
+    → AreSound are_members_sound (memberships_in h) ↔ Never has_broken_group moments h
 groups_are_whole moments h intervals in_time =
     let p = all_proper moments h intervals in
     never moments h has_broken_group (memberships_in h) is_group are_members_whole h.parties is_group_kind is_whole_group

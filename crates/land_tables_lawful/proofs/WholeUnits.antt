@@ -6,9 +6,9 @@ use Rattle.std.proofs.lemmas.List.Folds.{list_any-append}
 use Rattle.std.specs.FinMap as map
 use Rattle.std.specs.List.{filter_map, list_any}
 use Rattle.land_core.proofs.Pairs.{list_any_same}
-use Rattle.land_core.proofs.UnitLists.{filter_map-placed, filter_map_same, length-placed, list_any-placed}
-use Rattle.land_core.specs.ByUnit.{placed}
-use Rattle.land_core.specs.Soundness.{has_crowded_unit, has_unit_in_parts}
+use Rattle.land_core.proofs.UnitLists.{filter_map-items_of_unit, filter_map_same, length-items_of_unit, list_any-items_of_unit}
+use Rattle.land_core.specs.ByUnit.{items_of_unit}
+use Rattle.land_core.specs.Soundness.{has_crowded_unit, has_unit_without_whole_shares}
 use Rattle.land_core.specs.Units.{are_whole_or_none, has_whole_shares, parcel_count, rrr_count, share_in, share_of, type_shares}
 use Rattle.land_core.specs.declared.parcel.ParcelRecord.{ParcelRecord}
 use Rattle.land_core.specs.declared.register.Register.{Register}
@@ -27,18 +27,18 @@ use Rattle.land_tables_history.specs.Standing.{part_at, standing as standing_at}
 use Rattle.land_tables_history.specs.declared.history.History.{History}
 use Rattle.land_tables_history.specs.declared.moment.Moment.{Moment}
 use Rattle.land_tables_lawful.specs.AnyOrder.{count_permuted, filter_map_permuted, whole_permuted}
-use Rattle.land_tables_lawful.specs.Holdings.{are_few, are_shares_whole, are_sound_together, class_held, entries_lived, entry_held, holdings_in, is_checked, is_entry, is_parcel, is_unit, parcel_held, parcels_lived, share_held, shares_held, unit_held, units_lived}
-use Rattle.land_tables_lawful.specs.Lived.{where_marked}
+use Rattle.land_tables_lawful.specs.Holdings.{are_few, are_shares_whole, is_unit_sound, class_holding, entry_spans, entry_holding, holdings_in, is_checked, is_entry, is_parcel, is_unit, parcel_holding, parcel_spans, holding_share, holding_shares, unit_holding, unit_spans}
+use Rattle.land_tables_lawful.specs.LiveSpan.{if_any_marked}
 use Rattle.land_tables_lawful.specs.Never.{Never}
-use Rattle.land_tables_lawful.specs.Pieces.{are_in_time}
-use Rattle.land_tables_lawful.specs.declared.holdings.Holding.{Holding}
-use Rattle.land_tables_lawful.specs.declared.holdings.Holding.TheVariants as held
+use Rattle.land_tables_lawful.specs.CoverageSpans.{are_in_range}
+use Rattle.land_tables_lawful.specs.declared.share_sums.Holding.{Holding}
+use Rattle.land_tables_lawful.specs.declared.share_sums.Holding.TheVariants as held
 use Rattle.land_tables_lawful.proofs.Together.{AreLives, Ties, all_live, all_counted, both_sound, is_at_fault, is_marked, lives-append, never, none_counted, none_marked, none_taken, some_standing, standing-append, stood}
 use Rattle.land_tables_history.specs.Sweeps.Sweep.{AreSound, standing}
 
 -- ---- entries
 
-no_unit : (c : Class) → is_unit (class_held c) ≡ false
+no_unit : (c : Class) → is_unit (class_holding c) ≡ false
 no_unit (Right Ownership share) = refl
 no_unit (Right Lease share) = refl
 no_unit (Right Usufruct share) = refl
@@ -46,7 +46,7 @@ no_unit (Restriction words) = refl
 no_unit (Responsibility words) = refl
 no_unit (Mortgage amount currency rank) = refl
 
-not_checked : (c : Class) → is_checked (class_held c) ≡ false
+not_checked : (c : Class) → is_checked (class_holding c) ≡ false
 not_checked (Right Ownership share) = refl
 not_checked (Right Lease share) = refl
 not_checked (Right Usufruct share) = refl
@@ -54,7 +54,7 @@ not_checked (Restriction words) = refl
 not_checked (Responsibility words) = refl
 not_checked (Mortgage amount currency rank) = refl
 
-no_parcel : (c : Class) → is_parcel (class_held c) ≡ false
+no_parcel : (c : Class) → is_parcel (class_holding c) ≡ false
 no_parcel (Right Ownership share) = refl
 no_parcel (Right Lease share) = refl
 no_parcel (Right Usufruct share) = refl
@@ -62,7 +62,7 @@ no_parcel (Restriction words) = refl
 no_parcel (Responsibility words) = refl
 no_parcel (Mortgage amount currency rank) = refl
 
-an_entry : (c : Class) → is_entry (class_held c) ≡ true
+an_entry : (c : Class) → is_entry (class_holding c) ≡ true
 an_entry (Right Ownership share) = refl
 an_entry (Right Lease share) = refl
 an_entry (Right Usufruct share) = refl
@@ -70,22 +70,22 @@ an_entry (Restriction words) = refl
 an_entry (Responsibility words) = refl
 an_entry (Mortgage amount currency rank) = refl
 
-no_share_of_unit : (type : RightType) (e : ℕ × UnitRecord) → share_held type (unit_held e) ≡ None
+no_share_of_unit : (type : RightType) (e : ℕ × UnitRecord) → holding_share type (unit_holding e) ≡ None
 no_share_of_unit Ownership e = refl
 no_share_of_unit Lease e = refl
 no_share_of_unit Usufruct e = refl
 
-no_share_of_parcel : (type : RightType) (e : ℕ × ParcelRecord) → share_held type (parcel_held e) ≡ None
+no_share_of_parcel : (type : RightType) (e : ℕ × ParcelRecord) → holding_share type (parcel_holding e) ≡ None
 no_share_of_parcel Ownership e = refl
 no_share_of_parcel Lease e = refl
 no_share_of_parcel Usufruct e = refl
 
-no_other_share : (type : RightType) → share_held type held.Other ≡ None
+no_other_share : (type : RightType) → holding_share type held.Other ≡ None
 no_other_share Ownership = refl
 no_other_share Lease = refl
 no_other_share Usufruct = refl
 
-same_share : (type : RightType) (c : Class) → share_held type (class_held c) ≡ share_of type c
+same_share : (type : RightType) (c : Class) → holding_share type (class_holding c) ≡ share_of type c
 same_share Ownership (Right Ownership share) = refl
 same_share Ownership (Right Lease share) = refl
 same_share Ownership (Right Usufruct share) = refl
@@ -121,47 +121,47 @@ module _ (h : History) (n : ℕ) (t : ℤ) where
   entries = standing_at t h.rrrs
 
   abbrev units_there : List Holding
-  units_there = placed (λ e. e.0) unit_held n units
+  units_there = items_of_unit (λ e. e.0) unit_holding n units
 
   abbrev parcels_there : List Holding
-  parcels_there = placed (λ e. e.1.unit) parcel_held n parcels
+  parcels_there = items_of_unit (λ e. e.1.unit) parcel_holding n parcels
 
   abbrev entries_there : List Holding
-  entries_there = placed (λ e. e.1.unit) entry_held n entries
+  entries_there = items_of_unit (λ e. e.1.unit) entry_holding n entries
 
   three_parts : standing (holdings_in h) n t ≡ (units_there ++ parcels_there) ++ entries_there
   three_parts =
-      standing-append (units_lived h.units ++ parcels_lived h.parcels) (entries_lived h.rrrs) n t
-      ∙ ap (λ a. a ++ standing (entries_lived h.rrrs) n t) (standing-append (units_lived h.units) (parcels_lived h.parcels) n t)
-      ∙ ap₂ (λ a b. (a ++ b) ++ standing (entries_lived h.rrrs) n t) (stood (λ e. e.0) unit_held n t h.units) (stood (λ e. e.1.unit) parcel_held n t h.parcels)
-      ∙ ap (λ a. (units_there ++ parcels_there) ++ a) (stood (λ e. e.1.unit) entry_held n t h.rrrs)
+      standing-append (unit_spans h.units ++ parcel_spans h.parcels) (entry_spans h.rrrs) n t
+      ∙ ap (λ a. a ++ standing (entry_spans h.rrrs) n t) (standing-append (unit_spans h.units) (parcel_spans h.parcels) n t)
+      ∙ ap₂ (λ a b. (a ++ b) ++ standing (entry_spans h.rrrs) n t) (stood (λ e. e.0) unit_holding n t h.units) (stood (λ e. e.1.unit) parcel_holding n t h.parcels)
+      ∙ ap (λ a. (units_there ++ parcels_there) ++ a) (stood (λ e. e.1.unit) entry_holding n t h.rrrs)
 
   -- only units are marked
-  marked_there : (p : Holding → Bool) → p held.Parcel ≡ false → ((e : ℕ × RrrRecord) → p (entry_held e) ≡ false)
+  marked_there : (p : Holding → Bool) → p held.Parcel ≡ false → ((e : ℕ × RrrRecord) → p (entry_holding e) ≡ false)
       → list_any p (standing (holdings_in h) n t) ≡ is_marked (λ u. p (held.Unit u.checked)) n units
   marked_there p no_parcels no_entries =
       ap (list_any p) three_parts
       ∙ list_any-append p (units_there ++ parcels_there) entries_there
       ∙ ap (λ a. a || list_any p entries_there) (list_any-append p units_there parcels_there)
-      ∙ ap (λ a. (list_any p units_there || a) || list_any p entries_there) (none_marked (λ e. e.1.unit) parcel_held n p (λ e. no_parcels) parcels)
-      ∙ ap (λ a. (list_any p units_there || false) || a) (none_marked (λ e. e.1.unit) entry_held n p no_entries entries)
+      ∙ ap (λ a. (list_any p units_there || a) || list_any p entries_there) (none_marked (λ e. e.1.unit) parcel_holding n p (λ e. no_parcels) parcels)
+      ∙ ap (λ a. (list_any p units_there || false) || a) (none_marked (λ e. e.1.unit) entry_holding n p no_entries entries)
       ∙ or_nothing (list_any p units_there)
-      ∙ list_any-placed (λ e. e.0) unit_held n p units
+      ∙ list_any-items_of_unit (λ e. e.0) unit_holding n p units
 
   -- only entries have shares
-  entry_shares : (type : RightType) → shares_held type entries_there ≡ filter_map (λ e. share_in n type e.1) entries
+  entry_shares : (type : RightType) → holding_shares type entries_there ≡ filter_map (λ e. share_in n type e.1) entries
   entry_shares type =
-      filter_map-placed (λ e. e.1.unit) entry_held n (share_held type) entries
-      ∙ filter_map_same (λ (e : ℕ × RrrRecord). cond (nat_eq e.1.unit n) (share_held type (entry_held e)) None) (λ e. share_in n type e.1)
+      filter_map-items_of_unit (λ e. e.1.unit) entry_holding n (holding_share type) entries
+      ∙ filter_map_same (λ (e : ℕ × RrrRecord). cond (nat_eq e.1.unit n) (holding_share type (entry_holding e)) None) (λ e. share_in n type e.1)
       (λ e. ap (λ o. cond (nat_eq e.1.unit n) o None) (same_share type e.1.class)) entries
 
-  shares_there : (type : RightType) → shares_held type (standing (holdings_in h) n t) ≡ filter_map (λ e. share_in n type e.1) entries
+  shares_there : (type : RightType) → holding_shares type (standing (holdings_in h) n t) ≡ filter_map (λ e. share_in n type e.1) entries
   shares_there type =
-      ap (shares_held type) three_parts
-      ∙ filter_map-append (share_held type) (units_there ++ parcels_there) entries_there
-      ∙ ap (λ a. a ++ shares_held type entries_there) (filter_map-append (share_held type) units_there parcels_there)
-      ∙ ap₂ (λ a b. (a ++ b) ++ shares_held type entries_there) (none_taken (λ e. e.0) unit_held n (share_held type) (no_share_of_unit type) units)
-      (none_taken (λ e. e.1.unit) parcel_held n (share_held type) (no_share_of_parcel type) parcels)
+      ap (holding_shares type) three_parts
+      ∙ filter_map-append (holding_share type) (units_there ++ parcels_there) entries_there
+      ∙ ap (λ a. a ++ holding_shares type entries_there) (filter_map-append (holding_share type) units_there parcels_there)
+      ∙ ap₂ (λ a b. (a ++ b) ++ holding_shares type entries_there) (none_taken (λ e. e.0) unit_holding n (holding_share type) (no_share_of_unit type) units)
+      (none_taken (λ e. e.1.unit) parcel_holding n (holding_share type) (no_share_of_parcel type) parcels)
       ∙ entry_shares type
 
   counted_there : (p : Holding → Bool)
@@ -171,25 +171,25 @@ module _ (h : History) (n : ℕ) (t : ℤ) where
       ∙ filter-append p (units_there ++ parcels_there) entries_there
       ∙ ap (λ a. a ++ filter p entries_there) (filter-append p units_there parcels_there)
 
-  no_units_counted : (p : Holding → Bool) → ((e : ℕ × UnitRecord) → p (unit_held e) ≡ false) → filter p units_there ≡ []
-  no_units_counted p none = none_counted (λ e. e.0) unit_held n p none units
+  no_units_counted : (p : Holding → Bool) → ((e : ℕ × UnitRecord) → p (unit_holding e) ≡ false) → filter p units_there ≡ []
+  no_units_counted p none = none_counted (λ e. e.0) unit_holding n p none units
 
   parcels_counted : length (filter is_parcel (standing (holdings_in h) n t)) ≡ length (filter (λ e. nat_eq e.1.unit n) parcels)
   parcels_counted =
       ap length (counted_there is_parcel
       ∙ ap₂ (λ a b. (a ++ b) ++ filter is_parcel entries_there) (no_units_counted is_parcel (λ e. refl))
-      (all_counted (λ e. e.1.unit) parcel_held n is_parcel (λ e. refl) parcels)
-      ∙ ap (λ a. ([] ++ parcels_there) ++ a) (none_counted (λ e. e.1.unit) entry_held n is_parcel (λ e. no_parcel e.1.class) entries)
+      (all_counted (λ e. e.1.unit) parcel_holding n is_parcel (λ e. refl) parcels)
+      ∙ ap (λ a. ([] ++ parcels_there) ++ a) (none_counted (λ e. e.1.unit) entry_holding n is_parcel (λ e. no_parcel e.1.class) entries)
       ∙ and_nothing parcels_there)
-      ∙ length-placed (λ e. e.1.unit) parcel_held n parcels
+      ∙ length-items_of_unit (λ e. e.1.unit) parcel_holding n parcels
 
   entries_counted : length (filter is_entry (standing (holdings_in h) n t)) ≡ length (filter (λ e. nat_eq e.1.unit n) entries)
   entries_counted =
       ap length (counted_there is_entry
       ∙ ap₂ (λ a b. (a ++ b) ++ filter is_entry entries_there) (no_units_counted is_entry (λ e. refl))
-      (none_counted (λ e. e.1.unit) parcel_held n is_entry (λ e. refl) parcels)
-      ∙ all_counted (λ e. e.1.unit) entry_held n is_entry (λ e. an_entry e.1.class) entries)
-      ∙ length-placed (λ e. e.1.unit) entry_held n entries
+      (none_counted (λ e. e.1.unit) parcel_holding n is_entry (λ e. refl) parcels)
+      ∙ all_counted (λ e. e.1.unit) entry_holding n is_entry (λ e. an_entry e.1.class) entries)
+      ∙ length-items_of_unit (λ e. e.1.unit) entry_holding n entries
 
 -- ---- in the register
 
@@ -216,7 +216,7 @@ module _ (moments : List Moment) (h : History) (p : AllProper moments h) where
       filter_map_permuted (λ (e : ℕ × RrrRecord). share_in n type e.1) (standing_at m.stamp h.rrrs) (map.entries (part_at m.stamp h.rrrs)) (same_entries m.stamp)
 
   type_whole : (m : Moment) (n : ℕ) (type : RightType)
-      → are_whole_or_none (shares_held type (standing (holdings_in h) n m.stamp)) ≡ are_whole_or_none (type_shares (register_of m) n type)
+      → are_whole_or_none (holding_shares type (standing (holdings_in h) n m.stamp)) ≡ are_whole_or_none (type_shares (register_of m) n type)
   type_whole m n type =
       let there = filter_map (λ (e : ℕ × RrrRecord). share_in n type e.1) (standing_at m.stamp h.rrrs) in
       ap are_whole_or_none (shares_there h n m.stamp type)
@@ -232,7 +232,7 @@ module _ (moments : List Moment) (h : History) (p : AllProper moments h) where
       entries_counted h n m.stamp
       ∙ count_permuted (λ e. nat_eq e.1.unit n) (standing_at m.stamp h.rrrs) (map.entries (part_at m.stamp h.rrrs)) (same_entries m.stamp)
 
-  shares_tied : Ties moments h has_unit_in_parts (holdings_in h) is_checked are_shares_whole h.units (λ u. u.checked) has_whole_shares
+  shares_tied : Ties moments h has_unit_without_whole_shares (holdings_in h) is_checked are_shares_whole h.units (λ u. u.checked) has_whole_shares
   shares_tied = record {
     faulty = λ m. some_standing (is_at_fault (λ u. u.checked) (has_whole_shares (register_of m))) m.stamp h.units p.units.apart;
     marked = λ n t. marked_there h n t is_checked refl (λ e. not_checked e.1.class);
@@ -251,30 +251,30 @@ module _ (moments : List Moment) (h : History) (p : AllProper moments h) where
 
   holdings_live : AreLives moments (holdings_in h)
   holdings_live =
-      let units = all_live (λ e. e.0) unit_held moments h.units p.units.intervals in
-      let parcels = all_live (λ e. e.1.unit) parcel_held moments h.parcels p.parcels.intervals in
-      let entries = all_live (λ e. e.1.unit) entry_held moments h.rrrs p.rrrs.intervals in
-      lives-append moments (units_lived h.units ++ parcels_lived h.parcels) (entries_lived h.rrrs)
-      (lives-append moments (units_lived h.units) (parcels_lived h.parcels) units parcels) entries
+      let units = all_live (λ e. e.0) unit_holding moments h.units p.units.intervals in
+      let parcels = all_live (λ e. e.1.unit) parcel_holding moments h.parcels p.parcels.intervals in
+      let entries = all_live (λ e. e.1.unit) entry_holding moments h.rrrs p.rrrs.intervals in
+      lives-append moments (unit_spans h.units ++ parcel_spans h.parcels) (entry_spans h.rrrs)
+      (lives-append moments (unit_spans h.units) (parcel_spans h.parcels) units parcels) entries
 
-  module _ (in_time : are_in_time moments ≡ true) where
-    whole : AreSound (where_marked is_checked are_shares_whole) (holdings_in h) ↔ Never has_unit_in_parts moments h
+  module _ (in_time : are_in_range moments ≡ true) where
+    whole : AreSound (if_any_marked is_checked are_shares_whole) (holdings_in h) ↔ Never has_unit_without_whole_shares moments h
     whole =
-        never moments h has_unit_in_parts (holdings_in h) is_checked are_shares_whole h.units (λ u. u.checked) has_whole_shares
+        never moments h has_unit_without_whole_shares (holdings_in h) is_checked are_shares_whole h.units (λ u. u.checked) has_whole_shares
         shares_tied in_time holdings_live
 
-    few : AreSound (where_marked is_unit are_few) (holdings_in h) ↔ Never has_crowded_unit moments h
+    few : AreSound (if_any_marked is_unit are_few) (holdings_in h) ↔ Never has_crowded_unit moments h
     few =
         never moments h has_crowded_unit (holdings_in h) is_unit are_few h.units (λ u. true) is_uncrowded
         crowded_tied in_time holdings_live
 
 -- the current values of units are sound at each moment if and only if no register has a unit with invalid
 -- sums or a crowded one
-pub units_are_whole : (moments : List Moment) (h : History) → has_intervals moments h ≡ true → are_in_time moments ≡ true
-    → AreSound are_sound_together (holdings_in h) ↔ (Never has_unit_in_parts moments h × Never has_crowded_unit moments h)
+pub units_are_whole : (moments : List Moment) (h : History) → has_intervals moments h ≡ true → are_in_range moments ≡ true
+    → AreSound is_unit_sound (holdings_in h) ↔ (Never has_unit_without_whole_shares moments h × Never has_crowded_unit moments h)
 units_are_whole moments h intervals in_time =
     let p = all_proper moments h intervals in
     let both =
-    both_sound (where_marked is_unit are_few) (where_marked is_checked are_shares_whole) (holdings_in h)
+    both_sound (if_any_marked is_unit are_few) (if_any_marked is_checked are_shares_whole) (holdings_in h)
     (few moments h p in_time) (whole moments h p in_time) in
     (λ sound. let it = both.0 sound in (it.1, it.0), λ it. both.1 (it.1, it.0))

@@ -5,8 +5,8 @@ use Rattle.land_core.specs.declared.role.Role.TheVariants.{StateAdministrator}
 use Rattle.land_core.specs.declared.roles.Grant.{Grant}
 use Rattle.land_tables_history.specs.declared.moment.Moment.{Moment}
 use Rattle.land_tables_history.specs.declared.version.Version.{Version}
-use Rattle.land_tables_lawful.specs.Pieces.{asked_piece, offered_piece}
-use Rattle.land_tables_history.specs.declared.sweeps.cover.Piece.{Piece}
+use Rattle.land_tables_lawful.specs.CoverageSpans.{required_span, provided_span}
+use Rattle.land_tables_history.specs.declared.sweeps.cover.CoverageSpan.{CoverageSpan}
 
 -- the role is state administrator
 abbrev pub is_of_administrator : Version Grant → Bool
@@ -20,8 +20,8 @@ abbrev pub instant : Moment → Version Moment
 instant m = record { what = m; since = m.stamp; until = m.stamp +ℤ pos 1 }
 
 -- under one key, state administrators are provided, and each commit requires one
-abbrev pub offered_administrators : List (Version Grant) → List Piece
-offered_administrators roles = map_list (offered_piece (λ r. 0)) (administrators roles)
+abbrev pub provided_administrators : List (Version Grant) → List CoverageSpan
+provided_administrators roles = map_list (provided_span (λ r. 0)) (administrators roles)
 
-abbrev pub asked_instants : List Moment → List Piece
-asked_instants moments = map_list (asked_piece (λ m. 0)) (map_list instant moments)
+abbrev pub required_instants : List Moment → List CoverageSpan
+required_instants moments = map_list (required_span (λ m. 0)) (map_list instant moments)

@@ -15,13 +15,13 @@ use Rattle.land_fraction.proofs.Moves.{wholeness-permuted}
 use Rattle.land_fraction.specs.Ratio.{Ratio}
 use Rattle.land_fraction.specs.Wholeness.{wholeness}
 use Rattle.land_tables_history.proofs.Permutations.{along_permutation, filter_permuted}
-use Rattle.land_tables_lawful.specs.Holdings.{are_few, are_shares_whole, are_sound_together, is_checked}
-use Rattle.land_tables_lawful.specs.Holdings.{is_entry, is_parcel, is_unit, share_held, shares_held}
-use Rattle.land_tables_lawful.specs.Lived.{where_marked}
-use Rattle.land_tables_lawful.specs.Memberships.{are_joined_soundly, are_members_whole, is_group}
+use Rattle.land_tables_lawful.specs.Holdings.{are_few, are_shares_whole, is_unit_sound, is_checked}
+use Rattle.land_tables_lawful.specs.Holdings.{is_entry, is_parcel, is_unit, holding_share, holding_shares}
+use Rattle.land_tables_lawful.specs.LiveSpan.{if_any_marked}
+use Rattle.land_tables_lawful.specs.Memberships.{are_members_sound, are_members_whole, is_group}
 use Rattle.land_tables_lawful.specs.Memberships.{member_share, member_shares}
 use Rattle.land_tables_lawful.specs.declared.groups.Membership.{Membership}
-use Rattle.land_tables_lawful.specs.declared.holdings.Holding.{Holding}
+use Rattle.land_tables_lawful.specs.declared.share_sums.Holding.{Holding}
 
 -- ---- lists
 
@@ -71,17 +71,17 @@ pub group_permuted : (xs ys : List Ratio) → IsPermutation xs ys → are_group_
 group_permuted xs ys p =
     ap₂ (λ n w. is_group_size n && is_yes w) (sym (length_permutation xs ys p)) (wholeness-permuted xs ys p)
 
-marked_permuted : {T : Type 0} (marks : T → Bool) (test : List T → Bool) (xs ys : List T) → test xs ≡ test ys
+marked_permuted : {T : Type 0} (set_entries : T → Bool) (test : List T → Bool) (xs ys : List T) → test xs ≡ test ys
     → IsPermutation xs ys
-    → where_marked marks test xs ≡ where_marked marks test ys
-marked_permuted marks test xs ys same p = ap₂ (λ a b. not a || b) (list_any-IsPermutation marks xs ys p) same
+    → if_any_marked set_entries test xs ≡ if_any_marked set_entries test ys
+marked_permuted set_entries test xs ys same p = ap₂ (λ a b. not a || b) (list_any-IsPermutation set_entries xs ys p) same
 
 -- ---- values of a unit
 
 shares_permuted : (type : RightType) (xs ys : List Holding) → IsPermutation xs ys
-    → are_whole_or_none (shares_held type xs) ≡ are_whole_or_none (shares_held type ys)
+    → are_whole_or_none (holding_shares type xs) ≡ are_whole_or_none (holding_shares type ys)
 shares_permuted type xs ys p =
-    whole_permuted (shares_held type xs) (shares_held type ys) (filter_map_permuted (share_held type) xs ys p)
+    whole_permuted (holding_shares type xs) (holding_shares type ys) (filter_map_permuted (holding_share type) xs ys p)
 
 all_shares_permuted : (xs ys : List Holding) → IsPermutation xs ys → are_shares_whole xs ≡ are_shares_whole ys
 all_shares_permuted xs ys p =
@@ -95,7 +95,7 @@ few_permuted xs ys p =
     (count_permuted is_entry xs ys p)
 
 pub sound_in_any_order : (xs ys : List Holding) → IsPermutation xs ys
-    → are_sound_together xs ≡ are_sound_together ys
+    → is_unit_sound xs ≡ is_unit_sound ys
 sound_in_any_order xs ys p =
     ap₂ (λ a b. a && b)
     (marked_permuted is_unit are_few xs ys (few_permuted xs ys p) p)
@@ -104,7 +104,7 @@ sound_in_any_order xs ys p =
 -- ---- values of a group
 
 pub joined_in_any_order : (xs ys : List Membership) → IsPermutation xs ys
-    → are_joined_soundly xs ≡ are_joined_soundly ys
+    → are_members_sound xs ≡ are_members_sound ys
 joined_in_any_order xs ys p =
     let same = group_permuted (member_shares xs) (member_shares ys)
     (filter_map_permuted member_share xs ys p) in

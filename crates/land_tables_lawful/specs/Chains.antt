@@ -9,19 +9,19 @@ abbrev pub stamp_cmp : Moment → Moment → Ordering
 stamp_cmp a b = int_cmp a.stamp b.stamp
 
 -- a commit may precede another: its stamp is earlier, and its next number is not greater
-abbrev pub goes_before : Moment → Moment → Bool
-goes_before a b = int_lt a.stamp b.stamp && nat_le a.next b.next
+abbrev pub precedes : Moment → Moment → Bool
+precedes a b = int_lt a.stamp b.stamp && nat_le a.next b.next
 
 -- a commit may precede the first of the later ones
-abbrev pub goes_on : Moment → List Moment → Bool
-goes_on m [] = true
-goes_on m (next ∷ later) = goes_before m next
+abbrev pub precedes_first : Moment → List Moment → Bool
+precedes_first m [] = true
+precedes_first m (next ∷ later) = precedes m next
 
 -- each commit may precede the next one
-abbrev pub goes_up : List Moment → Bool
-goes_up [] = true
-goes_up (m ∷ ms) = goes_on m ms && goes_up ms
+abbrev pub is_increasing : List Moment → Bool
+is_increasing [] = true
+is_increasing (m ∷ ms) = precedes_first m ms && is_increasing ms
 
 -- there is a commit, and each may precede the next one
 abbrev pub is_chain : List Moment → Bool
-is_chain ms = nat_lt 0 (length ms) && goes_up ms
+is_chain ms = nat_lt 0 (length ms) && is_increasing ms

@@ -13,51 +13,51 @@ use Rattle.land_core.specs.declared.unit.UnitRecord.{UnitRecord}
 use Rattle.land_fraction.specs.Ratio.{Ratio}
 use Rattle.land_tables_history.specs.declared.history.History.{History}
 use Rattle.land_tables_history.specs.declared.version.Version.{Version}
-use Rattle.land_tables_lawful.specs.Lived.{all_lived, where_marked}
-use Rattle.land_tables_lawful.specs.declared.holdings.Holding.{Holding}
-use Rattle.land_tables_lawful.specs.declared.holdings.Holding.TheVariants as held
-use Rattle.land_tables_history.specs.declared.sweeps.sweep.Lived.{Lived}
+use Rattle.land_tables_lawful.specs.LiveSpan.{live_spans_of, if_any_marked}
+use Rattle.land_tables_lawful.specs.declared.share_sums.Holding.{Holding}
+use Rattle.land_tables_lawful.specs.declared.share_sums.Holding.TheVariants as held
+use Rattle.land_tables_history.specs.declared.sweeps.sweep.LiveSpan.{LiveSpan}
 
 -- ---- values of a unit
 
 -- a unit, with its flag `checked`
-abbrev pub unit_held : ℕ × UnitRecord → Holding
-unit_held e = held.Unit e.1.checked
+abbrev pub unit_holding : ℕ × UnitRecord → Holding
+unit_holding e = held.Unit e.1.checked
 
 -- a parcel
-abbrev pub parcel_held : ℕ × ParcelRecord → Holding
-parcel_held e = held.Parcel
+abbrev pub parcel_holding : ℕ × ParcelRecord → Holding
+parcel_holding e = held.Parcel
 
 -- a right with its share, by its type
-abbrev pub right_held : RightType → Ratio → Holding
-right_held Ownership share = held.Ownership share
-right_held Lease share = held.Lease share
-right_held Usufruct share = held.Usufruct share
+abbrev pub right_holding : RightType → Ratio → Holding
+right_holding Ownership share = held.Ownership share
+right_holding Lease share = held.Lease share
+right_holding Usufruct share = held.Usufruct share
 
 -- a right, or another entry
-abbrev pub class_held : Class → Holding
-class_held (class.Right type share) = right_held type share
-class_held (class.Restriction words) = held.Other
-class_held (class.Responsibility words) = held.Other
-class_held (class.Mortgage amount currency rank) = held.Other
+abbrev pub class_holding : Class → Holding
+class_holding (class.Right type share) = right_holding type share
+class_holding (class.Restriction words) = held.Other
+class_holding (class.Responsibility words) = held.Other
+class_holding (class.Mortgage amount currency rank) = held.Other
 
 -- an entry, by its class
-abbrev pub entry_held : ℕ × RrrRecord → Holding
-entry_held e = class_held e.1.class
+abbrev pub entry_holding : ℕ × RrrRecord → Holding
+entry_holding e = class_holding e.1.class
 
 -- units, parcels and entries, each under its unit during its lifespan
-abbrev pub units_lived : List (Version (ℕ × UnitRecord)) → List (Lived Holding)
-units_lived vs = all_lived (λ e. e.0) unit_held vs
+abbrev pub unit_spans : List (Version (ℕ × UnitRecord)) → List (LiveSpan Holding)
+unit_spans vs = live_spans_of (λ e. e.0) unit_holding vs
 
-abbrev pub parcels_lived : List (Version (ℕ × ParcelRecord)) → List (Lived Holding)
-parcels_lived vs = all_lived (λ e. e.1.unit) parcel_held vs
+abbrev pub parcel_spans : List (Version (ℕ × ParcelRecord)) → List (LiveSpan Holding)
+parcel_spans vs = live_spans_of (λ e. e.1.unit) parcel_holding vs
 
-abbrev pub entries_lived : List (Version (ℕ × RrrRecord)) → List (Lived Holding)
-entries_lived vs = all_lived (λ e. e.1.unit) entry_held vs
+abbrev pub entry_spans : List (Version (ℕ × RrrRecord)) → List (LiveSpan Holding)
+entry_spans vs = live_spans_of (λ e. e.1.unit) entry_holding vs
 
 -- all values of units, over time
-abbrev pub holdings_in : History → List (Lived Holding)
-holdings_in h = (units_lived h.units ++ parcels_lived h.parcels) ++ entries_lived h.rrrs
+abbrev pub holdings_in : History → List (LiveSpan Holding)
+holdings_in h = (unit_spans h.units ++ parcel_spans h.parcels) ++ entry_spans h.rrrs
 
 -- ---- the kinds of values
 
@@ -98,29 +98,29 @@ is_entry (held.Usufruct share) = true
 is_entry held.Other = true
 
 -- the share of a right of this type
-abbrev pub share_held : RightType → Holding → Option Ratio
-share_held Ownership (held.Ownership share) = Some share
-share_held Lease (held.Lease share) = Some share
-share_held Usufruct (held.Usufruct share) = Some share
-share_held type holding = None
+abbrev pub holding_share : RightType → Holding → Option Ratio
+holding_share Ownership (held.Ownership share) = Some share
+holding_share Lease (held.Lease share) = Some share
+holding_share Usufruct (held.Usufruct share) = Some share
+holding_share type holding = None
 
 -- ---- conditions on all values together
 
 -- the shares of the rights of this type
-abbrev pub shares_held : RightType → List Holding → List Ratio
-shares_held type xs = filter_map (share_held type) xs
+abbrev pub holding_shares : RightType → List Holding → List Ratio
+holding_shares type xs = filter_map (holding_share type) xs
 
 -- the shares of each type of right that occurs sum to one
 abbrev pub are_shares_whole : List Holding → Bool
 are_shares_whole xs =
-    are_whole_or_none (shares_held Ownership xs)
-    && are_whole_or_none (shares_held Lease xs)
-    && are_whole_or_none (shares_held Usufruct xs)
+    are_whole_or_none (holding_shares Ownership xs)
+    && are_whole_or_none (holding_shares Lease xs)
+    && are_whole_or_none (holding_shares Usufruct xs)
 
 -- at most 256 parcels, and at most 256 entries
 abbrev pub are_few : List Holding → Bool
 are_few xs = not (nat_lt 256 (length (filter is_parcel xs)) || nat_lt 256 (length (filter is_entry xs)))
 
 -- in a checked unit the shares sum to one, and each unit is within limits
-abbrev pub are_sound_together : List Holding → Bool
-are_sound_together xs = where_marked is_unit are_few xs && where_marked is_checked are_shares_whole xs
+abbrev pub is_unit_sound : List Holding → Bool
+is_unit_sound xs = if_any_marked is_unit are_few xs && if_any_marked is_checked are_shares_whole xs

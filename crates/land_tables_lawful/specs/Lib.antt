@@ -7,13 +7,13 @@ pub mod Chains
 pub mod Conditions
 pub mod Holdings
 pub mod KeyPairs
-pub mod Lived
+pub mod LiveSpan
 pub mod Lodgings
 pub mod Members
 pub mod Memberships
 pub mod NamedUnits
 pub mod Never
 pub mod NumbersInUse
-pub mod Pieces
+pub mod CoverageSpans
 pub mod Places
 pub mod Roles

@@ -15,5 +15,5 @@ abbrev pub lodged : Version (ℕ × MutationRecord) → Span (ℕ × List ℕ)
 lodged v = span_at v (lodging_of v.what.1)
 
 -- the same span, with the borrowed reference dereferenced
-abbrev pub shown : Span (ℕ × Bor (List ℕ)) → Span (ℕ × List ℕ)
-shown s = record { key = (s.key.0, s.key.1.now); since = s.since; until = s.until }
+abbrev pub owned_span : Span (ℕ × Bor (List ℕ)) → Span (ℕ × List ℕ)
+owned_span s = record { key = (s.key.0, s.key.1.now); since = s.since; until = s.until }

@@ -4,9 +4,9 @@ use Rattle.land_core.specs.Register.{is_single}
 use Rattle.land_core.specs.declared.party.PartyRecord.{PartyRecord}
 use Rattle.land_tables_history.specs.declared.group_member.GroupMember.{GroupMember}
 use Rattle.land_tables_history.specs.declared.version.Version.{Version}
-use Rattle.land_tables_lawful.specs.Pieces.{pieces}
+use Rattle.land_tables_lawful.specs.CoverageSpans.{coverage_spans}
 use Rattle.land_tables_lawful.specs.Roles.{single_parties}
-use Rattle.land_tables_history.specs.declared.sweeps.cover.Piece.{Piece}
+use Rattle.land_tables_history.specs.declared.sweeps.cover.CoverageSpan.{CoverageSpan}
 
 -- a party is a group in each version of that kind
 abbrev pub is_of_group : Version (ℕ × PartyRecord) → Bool
@@ -23,9 +23,9 @@ abbrev pub party_of : GroupMember → ℕ
 party_of member = member.member.party
 
 -- groups are provided, and required by their members
-abbrev pub group_pieces : List (Version (ℕ × PartyRecord)) → List (Version GroupMember) → List Piece
-group_pieces parties members = pieces (λ p. p.0) (group_parties parties) group_of members
+abbrev pub group_spans : List (Version (ℕ × PartyRecord)) → List (Version GroupMember) → List CoverageSpan
+group_spans parties members = coverage_spans (λ p. p.0) (group_parties parties) group_of members
 
 -- single parties are provided, and required if they are members
-abbrev pub member_pieces : List (Version (ℕ × PartyRecord)) → List (Version GroupMember) → List Piece
-member_pieces parties members = pieces (λ p. p.0) (single_parties parties) party_of members
+abbrev pub member_spans : List (Version (ℕ × PartyRecord)) → List (Version GroupMember) → List CoverageSpan
+member_spans parties members = coverage_spans (λ p. p.0) (single_parties parties) party_of members

@@ -8,10 +8,10 @@ use Rattle.land_fraction.specs.Ratio.{Ratio}
 use Rattle.land_tables_history.specs.declared.group_member.GroupMember.{GroupMember}
 use Rattle.land_tables_history.specs.declared.history.History.{History}
 use Rattle.land_tables_history.specs.declared.version.Version.{Version}
-use Rattle.land_tables_lawful.specs.Lived.{all_lived, where_marked}
+use Rattle.land_tables_lawful.specs.LiveSpan.{live_spans_of, if_any_marked}
 use Rattle.land_tables_lawful.specs.declared.groups.Membership.{Membership}
 use Rattle.land_tables_lawful.specs.declared.groups.Membership.TheVariants as membership
-use Rattle.land_tables_history.specs.declared.sweeps.sweep.Lived.{Lived}
+use Rattle.land_tables_history.specs.declared.sweeps.sweep.LiveSpan.{LiveSpan}
 
 -- a party that is a group
 abbrev pub group_joined : ℕ × PartyRecord → Membership
@@ -26,15 +26,15 @@ abbrev pub groups_among : List (Version (ℕ × PartyRecord)) → List (Version 
 groups_among parties = filter (λ v. not (is_single v.what.1.kind)) parties
 
 -- groups and members, each under its group during its lifespan
-abbrev pub groups_lived : List (Version (ℕ × PartyRecord)) → List (Lived Membership)
-groups_lived parties = all_lived (λ e. e.0) group_joined (groups_among parties)
+abbrev pub group_live_spans : List (Version (ℕ × PartyRecord)) → List (LiveSpan Membership)
+group_live_spans parties = live_spans_of (λ e. e.0) group_joined (groups_among parties)
 
-abbrev pub members_lived : List (Version GroupMember) → List (Lived Membership)
-members_lived vs = all_lived (λ m. m.group) member_joined vs
+abbrev pub member_live_spans : List (Version GroupMember) → List (LiveSpan Membership)
+member_live_spans vs = live_spans_of (λ m. m.group) member_joined vs
 
 -- all values of groups, over time
-abbrev pub memberships_in : History → List (Lived Membership)
-memberships_in h = groups_lived h.parties ++ members_lived h.members
+abbrev pub memberships_in : History → List (LiveSpan Membership)
+memberships_in h = group_live_spans h.parties ++ member_live_spans h.members
 
 -- the group itself
 abbrev pub is_group : Membership → Bool
@@ -55,5 +55,5 @@ abbrev pub are_members_whole : List Membership → Bool
 are_members_whole xs = are_group_shares (member_shares xs)
 
 -- if there is a group, the shares of its members sum to one
-abbrev pub are_joined_soundly : List Membership → Bool
-are_joined_soundly xs = where_marked is_group are_members_whole xs
+abbrev pub are_members_sound : List Membership → Bool
+are_members_sound xs = if_any_marked is_group are_members_whole xs

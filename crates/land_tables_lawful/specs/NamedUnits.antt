@@ -3,7 +3,7 @@ use Rattle.std.specs.Prelude.{◌≡◌, ℕ, true, List, [], ◌∷◌, map as 
 use Rattle.std.specs.List.{All}
 use Rattle.land_core.specs.declared.mutation.MutationRecord.{MutationRecord}
 use Rattle.land_tables_history.specs.History.{named_units, namings_of, register_at}
-use Rattle.land_tables_history.specs.Lawful.{are_same_namings}
+use Rattle.land_tables_history.specs.ValidHistory.{are_same_namings}
 use Rattle.land_tables_history.specs.Standing.{standing}
 use Rattle.land_tables_history.specs.declared.history.History.{History}
 use Rattle.land_tables_history.specs.declared.moment.Moment.{Moment}

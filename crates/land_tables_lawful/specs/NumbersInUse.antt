@@ -19,18 +19,18 @@ abbrev pub is_used : (number next : ℕ) → Bool
 is_used number next = nat_lt 0 number && nat_lt number next
 
 -- likewise for a rank, if there is one
-abbrev pub is_used_rank : Option ℕ → (next : ℕ) → Bool
-is_used_rank None next = true
-is_used_rank (Some rank) next = is_used rank next
+abbrev pub is_rank_in_range : Option ℕ → (next : ℕ) → Bool
+is_rank_in_range None next = true
+is_rank_in_range (Some rank) next = is_used rank next
 
-abbrev pub has_used_number : {V : Type 0} → ℕ × V → (next : ℕ) → Bool
-has_used_number e next = is_used e.0 next
+abbrev pub has_number_in_range : {V : Type 0} → ℕ × V → (next : ℕ) → Bool
+has_number_in_range e next = is_used e.0 next
 
-abbrev pub has_used_rank : ℕ × RrrRecord → (next : ℕ) → Bool
-has_used_rank e next = is_used_rank (rank_of e.1.class) next
+abbrev pub has_rank_in_range : ℕ × RrrRecord → (next : ℕ) → Bool
+has_rank_in_range e next = is_rank_in_range (rank_of e.1.class) next
 
-abbrev pub has_used_numbers : ℕ × RrrRecord → (next : ℕ) → Bool
-has_used_numbers e next = is_used e.0 next && is_used_rank (rank_of e.1.class) next
+abbrev pub has_numbers_in_range : ℕ × RrrRecord → (next : ℕ) → Bool
+has_numbers_in_range e next = is_used e.0 next && is_rank_in_range (rank_of e.1.class) next
 
 -- a version passes a test, by the next number at its start
 abbrev pub passes_since : {X : Type 0} → (X → ℕ → Bool) → List Moment → Version X → Bool
@@ -41,11 +41,11 @@ abbrev pub are_numbers_left : List Moment → Bool
 are_numbers_left moments = list_all (λ m. not (nat_lt 1000000001 m.next)) moments
 
 -- numbers are left, and all numbers and ranks are in range when their versions start
-abbrev pub are_all_used : List Moment → History → Bool
-are_all_used ms h =
-    are_numbers_left ms && list_all (passes_since has_used_number ms) h.parties
-    && list_all (passes_since has_used_number ms) h.units
-    && list_all (passes_since has_used_number ms) h.parcels
-    && list_all (passes_since has_used_numbers ms) h.rrrs
-    && list_all (passes_since has_used_number ms) h.sources
-    && list_all (passes_since has_used_number ms) h.mutations
+abbrev pub are_all_in_range : List Moment → History → Bool
+are_all_in_range ms h =
+    are_numbers_left ms && list_all (passes_since has_number_in_range ms) h.parties
+    && list_all (passes_since has_number_in_range ms) h.units
+    && list_all (passes_since has_number_in_range ms) h.parcels
+    && list_all (passes_since has_numbers_in_range ms) h.rrrs
+    && list_all (passes_since has_number_in_range ms) h.sources
+    && list_all (passes_since has_number_in_range ms) h.mutations

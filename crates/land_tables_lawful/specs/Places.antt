@@ -5,7 +5,7 @@ use Rattle.land_core.specs.declared.rrr.Class.TheVariants.{Right, Restriction, R
 use Rattle.land_core.specs.declared.rrr.RightType.{RightType}
 use Rattle.land_core.specs.declared.rrr.RightType.TheVariants.{Ownership, Lease, Usufruct}
 use Rattle.land_core.specs.declared.rrr.RrrRecord.{RrrRecord}
-use Rattle.land_tables_lawful.specs.declared.clashes.Place.{Place}
+use Rattle.land_tables_lawful.specs.declared.duplicate_rights.Place.{Place}
 
 -- types of right as numbers
 abbrev pub kind_of : RightType → ℕ

@@ -6,20 +6,20 @@ ghost use Rattle.land_core.specs.Soundness.{has_broken_group};
 ghost use Rattle.land_fraction.specs.Wholeness.{wholeness};
 ghost use Rattle.land_tables_history.specs.Intervals.{has_intervals};
 ghost use Rattle.land_tables_lawful.specs.AnyOrder.{joined_in_any_order};
-ghost use Rattle.land_tables_lawful.specs.Lived.{what_stands};
-ghost use Rattle.land_tables_lawful.specs.Memberships.{are_joined_soundly, are_members_whole, groups_lived};
-ghost use Rattle.land_tables_lawful.specs.Memberships.{is_group, member_share, member_shares, members_lived};
+ghost use Rattle.land_tables_lawful.specs.LiveSpan.{span_values};
+ghost use Rattle.land_tables_lawful.specs.Memberships.{are_members_sound, are_members_whole, group_live_spans};
+ghost use Rattle.land_tables_lawful.specs.Memberships.{is_group, member_share, member_shares, member_live_spans};
 ghost use Rattle.land_tables_lawful.specs.Never.{Never};
-ghost use Rattle.land_tables_lawful.specs.Pieces.{are_in_time};
+ghost use Rattle.land_tables_lawful.specs.CoverageSpans.{are_in_range};
 
-use crate::lived::lived_by;
+use crate::live_spans::live_span;
 use land_core::kind::PartyKind;
 use land_core::party::PartyRecord;
 use land_fraction::{Fraction, Whole, is_whole};
 use land_tables_history::group_member::GroupMember;
 use land_tables_history::history::History;
 use land_tables_history::moment::Moment;
-use land_tables_history::sweeps::sweep::{Judged, Lived, are_sound};
+use land_tables_history::sweeps::sweep::{SweepItem, LiveSpan, are_sound};
 use land_tables_history::version::Version;
 use std::alloc::{AllocError, Global};
 
@@ -56,10 +56,10 @@ impl Membership {
     }
 }
 
-impl Judged for Membership {
-    ghost is_sound = { are_joined_soundly };
+impl SweepItem for Membership {
+    ghost is_sound = { are_members_sound };
 
-    fn judge(alloc: Global, there: &[Lived<Membership>]) -> Result<bool, AllocError> {
+    fn check_soundness(alloc: Global, there: &[LiveSpan<Membership>]) -> Result<bool, AllocError> {
         Ok(!has_group(there) || are_members_whole(alloc, there)?)
     }
 
@@ -76,15 +76,15 @@ pub(crate) fn are_groups_whole(
     moments: &[Moment],
 ) -> Result<bool, AllocError>
     requires intervals { has_intervals moments.now history.now ≡ true }
-    requires in_time { are_in_time moments.now ≡ true }
+    requires in_time { are_in_range moments.now ≡ true }
     ensures { IfOk result (λ it. (it ≡ true) ↔ Never has_broken_group moments.now history.now) }
 {
-    let mut lived = memberships_in(
+    let mut live_spans = memberships_in(
         alloc,
         history.parties.as_slice(),
         history.members.as_slice(),
     )?;
-    are_sound(alloc, &mut lived)
+    are_sound(alloc, &mut live_spans)
 }
 
 /// Returns the groups and their members, each with its lifespan.
@@ -92,38 +92,38 @@ fn memberships_in(
     alloc: Global,
     parties: &[Version<(u64, PartyRecord)>],
     members: &[Version<GroupMember>],
-) -> Result<Vec<Lived<Membership>>, AllocError>
-    ensures { IfOk result (λ it. it.items ≡ groups_lived parties.now ++ members_lived members.now) }
+) -> Result<Vec<LiveSpan<Membership>>, AllocError>
+    ensures { IfOk result (λ it. it.items ≡ group_live_spans parties.now ++ member_live_spans members.now) }
 {
-    let mut lived = Vec::new(alloc);
+    let mut live_spans = Vec::new(alloc);
     for party in parties {
         if party.what.1.kind == PartyKind::Group {
-            lived.push(lived_by(party.what.0, Membership::Group, party))?;
+            live_spans.push(live_span(party.what.0, Membership::Group, party))?;
         }
     }
     for member in members {
         let share = member.what.member.share;
-        lived.push(lived_by(member.what.group, Membership::Member { share }, member))?;
+        live_spans.push(live_span(member.what.group, Membership::Member { share }, member))?;
     }
-    Ok(lived)
+    Ok(live_spans)
 }
 
-fn has_group(there: &[Lived<Membership>]) -> bool
-    ensures { result ≡ list_any is_group (what_stands there.now) }
+fn has_group(there: &[LiveSpan<Membership>]) -> bool
+    ensures { result ≡ list_any is_group (span_values there.now) }
 {
     there.iter().any(|one| one.what.is_group())
 }
 
 /// Returns whether there are 2 to 64 members whose shares sum to one.
-fn are_members_whole(alloc: Global, there: &[Lived<Membership>]) -> Result<bool, AllocError>
-    ensures { IfOk result (λ it. it ≡ are_members_whole (what_stands there.now)) }
+fn are_members_whole(alloc: Global, there: &[LiveSpan<Membership>]) -> Result<bool, AllocError>
+    ensures { IfOk result (λ it. it ≡ are_members_whole (span_values there.now)) }
 {
-    Ok(is_group_size(there) && are_whole(alloc, there)?)
+    Ok(is_group_size(there) && have_valid_sums(alloc, there)?)
 }
 
 /// Returns whether there are 2 to 64 members.
-fn is_group_size(there: &[Lived<Membership>]) -> bool
-    ensures { result ≡ is_group_size (length (member_shares (what_stands there.now))) }
+fn is_group_size(there: &[LiveSpan<Membership>]) -> bool
+    ensures { result ≡ is_group_size (length (member_shares (span_values there.now))) }
 {
     let mut members: usize = 0;
     for one in there {
@@ -135,15 +135,15 @@ fn is_group_size(there: &[Lived<Membership>]) -> bool
     2 <= members
 }
 
-fn are_whole(alloc: Global, there: &[Lived<Membership>]) -> Result<bool, AllocError>
-    ensures { IfOk result (λ it. it ≡ is_yes (wholeness (member_shares (what_stands there.now)))) }
+fn have_valid_sums(alloc: Global, there: &[LiveSpan<Membership>]) -> Result<bool, AllocError>
+    ensures { IfOk result (λ it. it ≡ is_yes (wholeness (member_shares (span_values there.now)))) }
 {
     let shares = shares_of(alloc, there)?;
     Ok(is_whole(shares.as_slice()) == Whole::Yes)
 }
 
-fn shares_of(alloc: Global, there: &[Lived<Membership>]) -> Result<Vec<Fraction>, AllocError>
-    ensures { IfOk result (λ it. it.items ≡ member_shares (what_stands there.now)) }
+fn shares_of(alloc: Global, there: &[LiveSpan<Membership>]) -> Result<Vec<Fraction>, AllocError>
+    ensures { IfOk result (λ it. it.items ≡ member_shares (span_values there.now)) }
 {
     let mut shares = Vec::new(alloc);
     for one in there {

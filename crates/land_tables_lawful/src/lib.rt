@@ -3,23 +3,23 @@
 #![tactic(auto)]
 
 mod administrator;
-mod bare;
-mod clashes;
+mod bare_units;
+mod duplicate_rights;
 mod entries;
 mod groups;
-mod holdings;
-pub mod lawful;
-mod lived;
-mod lodgings;
+mod share_sums;
+pub mod valid_history;
+mod live_spans;
+mod unique_references;
 mod mandates;
 mod members;
 mod moments;
 mod mutations;
 mod namings;
-mod numbers;
-mod pairs;
+mod number_range;
+mod key_pairs;
 mod parcels;
-mod pieces;
-mod referred;
+mod coverage_spans;
+mod references_exist;
 mod roles;
 mod units;

@@ -2,15 +2,15 @@
 ghost use Rattle.std.specs.Fn.{FnReturnsAt};
 ghost use Rattle.std.specs.List.{list_all};
 ghost use Rattle.std.specs.Prelude.{◌≡◌, ◌↔◌, ℕ, true, not, nat_eq, IfOk};
-ghost use Rattle.land_core.specs.Soundness.{has_loose_mandate};
+ghost use Rattle.land_core.specs.Soundness.{has_dangling_mandate};
 ghost use Rattle.land_tables_history.specs.Intervals.{has_intervals};
 ghost use Rattle.land_tables_history.specs.Sweeps.Cover.{IsCovered};
 ghost use Rattle.land_tables_lawful.specs.Never.{Never};
-ghost use Rattle.land_tables_lawful.specs.Pieces.{AreNonempty, are_in_time, pieces};
+ghost use Rattle.land_tables_lawful.specs.CoverageSpans.{AreNonempty, are_in_range, coverage_spans};
 ghost use Rattle.land_tables_lawful.specs.Roles.{single_parties};
 
-use crate::referred::ask_for;
-use crate::roles::offer_single_parties;
+use crate::references_exist::require_numbers;
+use crate::roles::provide_single_parties;
 use land_core::mandates::Mandate;
 use land_core::party::PartyRecord;
 use land_core::sequence::Sequence;
@@ -22,14 +22,14 @@ use std::alloc::{AllocError, Global};
 
 /// Returns whether the principal and the agent of each mandate are two different single parties throughout
 /// its lifespan. Returns an error only if it is out of memory.
-pub(crate) fn do_mandates_refer(
+pub(crate) fn mandates_refs_exist(
     alloc: Global,
     history: &History,
     moments: &[Moment],
 ) -> Result<bool, AllocError>
     requires intervals { has_intervals moments.now history.now ≡ true }
-    requires in_time { are_in_time moments.now ≡ true }
-    ensures { IfOk result (λ it. (it ≡ true) ↔ Never has_loose_mandate moments.now history.now) }
+    requires in_time { are_in_range moments.now ≡ true }
+    ensures { IfOk result (λ it. (it ≡ true) ↔ Never has_dangling_mandate moments.now history.now) }
 {
     let others = are_of_others(history.mandates.as_slice());
     let principals = are_single_parties(
@@ -57,15 +57,15 @@ fn are_single_parties<W, F: Fn(&W) -> u64>(
 ) -> Result<bool, AllocError>
     ghost number_of: { W → ℕ }
     requires callable { F.IsAlwaysCallable number }
-    requires told { (what : W) (n : ℕ) → FnReturnsAt F.Fn number what n → n ≡ number_of what }
-    requires begun { AreNonempty (pieces (λ e. e.0) (single_parties parties.now) number_of versions.now) }
+    requires computes { (what : W) (n : ℕ) → FnReturnsAt F.Fn number what n → n ≡ number_of what }
+    requires nonempty { AreNonempty (coverage_spans (λ e. e.0) (single_parties parties.now) number_of versions.now) }
     ensures { IfOk result (λ it. (it ≡ true) ↔ IsCovered
-        (pieces (λ e. e.0) (single_parties parties.now) number_of versions.now)) }
+        (coverage_spans (λ e. e.0) (single_parties parties.now) number_of versions.now)) }
 {
-    let mut pieces = Vec::new(alloc);
-    offer_single_parties(&mut pieces, parties.as_slice())?;
-    ask_for(&mut pieces, versions.as_slice(), number)?;
-    Ok(is_covered(&mut pieces))
+    let mut coverage_spans = Vec::new(alloc);
+    provide_single_parties(&mut coverage_spans, parties.as_slice())?;
+    require_numbers(&mut coverage_spans, versions.as_slice(), number)?;
+    Ok(is_covered(&mut coverage_spans))
 }
 
 /// Returns whether the principal and the agent of each mandate differ.

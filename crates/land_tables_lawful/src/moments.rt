@@ -1,8 +1,8 @@
 //! Checks the commits of a history.
 ghost use Rattle.std.specs.List.Sorted.{IsPermutation, IsSorted};
 ghost use Rattle.std.specs.Prelude.{◌≡◌, IfOk};
-ghost use Rattle.land_tables_history.specs.Lawful.{are_moments};
-ghost use Rattle.land_tables_lawful.specs.Chains.{goes_before, goes_on, goes_up, is_chain, stamp_cmp};
+ghost use Rattle.land_tables_history.specs.ValidHistory.{are_moments};
+ghost use Rattle.land_tables_lawful.specs.Chains.{precedes, precedes_first, is_increasing, is_chain, stamp_cmp};
 
 use land_tables_history::moment::Moment;
 use std::alloc::{AllocError, Global};
@@ -40,16 +40,16 @@ fn listed(alloc: Global, moments: &[Moment]) -> Result<Vec<Moment>, AllocError>
 fn is_chain(moments: &[Moment]) -> bool
     ensures { result ≡ is_chain moments.now }
 {
-    0 < moments.len() && goes_up(moments)
+    0 < moments.len() && is_increasing(moments)
 }
 
 /// Returns whether each commit may precede the next one.
-fn goes_up(moments: &[Moment]) -> bool
-    ensures { result ≡ goes_up moments.now }
+fn is_increasing(moments: &[Moment]) -> bool
+    ensures { result ≡ is_increasing moments.now }
 {
     let mut rest = moments;
     while let [moment, later @ ..] = rest {
-        if !goes_on(moment, later) {
+        if !precedes_first(moment, later) {
             return false;
         }
         rest = later;
@@ -57,18 +57,18 @@ fn goes_up(moments: &[Moment]) -> bool
     true
 }
 
-fn goes_on(moment: &Moment, later: &[Moment]) -> bool
-    ensures { result ≡ goes_on moment.now later.now }
+fn precedes_first(moment: &Moment, later: &[Moment]) -> bool
+    ensures { result ≡ precedes_first moment.now later.now }
 {
     match later {
-        [next, ..] => goes_before(moment, next),
+        [next, ..] => precedes(moment, next),
         [] => true,
     }
 }
 
 /// Returns whether a commit has an earlier stamp than another, and not a greater next number.
-fn goes_before(moment: &Moment, next: &Moment) -> bool
-    ensures { result ≡ goes_before moment.now next.now }
+fn precedes(moment: &Moment, next: &Moment) -> bool
+    ensures { result ≡ precedes moment.now next.now }
 {
     moment.stamp < next.stamp && moment.next <= next.next
 }

@@ -2,12 +2,12 @@
 ghost use Rattle.std.specs.List.{list_all};
 ghost use Rattle.std.specs.Prelude.{◌≡◌, ◌↔◌, true, IfOk};
 ghost use Rattle.land_core.specs.Contents.{is_well_formed_content};
-ghost use Rattle.land_core.specs.Soundness.{has_loose_mutation};
+ghost use Rattle.land_core.specs.Soundness.{has_dangling_mutation};
 ghost use Rattle.land_tables_history.specs.Intervals.{has_intervals};
 ghost use Rattle.land_tables_lawful.specs.Never.{Never};
-ghost use Rattle.land_tables_lawful.specs.Pieces.{are_in_time};
+ghost use Rattle.land_tables_lawful.specs.CoverageSpans.{are_in_range};
 
-use crate::referred::are_there;
+use crate::references_exist::all_exist;
 use land_core::mutation::MutationRecord;
 use land_tables_history::history::History;
 use land_tables_history::moment::Moment;
@@ -16,23 +16,23 @@ use std::alloc::{AllocError, Global};
 
 /// Returns whether the lodger and the source of each mutation exist throughout its lifespan, and its content
 /// is within limits. Returns an error only if it is out of memory.
-pub(crate) fn do_mutations_refer(
+pub(crate) fn mutations_refs_exist(
     alloc: Global,
     history: &History,
     moments: &[Moment],
 ) -> Result<bool, AllocError>
     requires intervals { has_intervals moments.now history.now ≡ true }
-    requires in_time { are_in_time moments.now ≡ true }
-    ensures { IfOk result (λ it. (it ≡ true) ↔ Never has_loose_mutation moments.now history.now) }
+    requires in_time { are_in_range moments.now ≡ true }
+    ensures { IfOk result (λ it. (it ≡ true) ↔ Never has_dangling_mutation moments.now history.now) }
 {
     let contents = are_well_formed(history.mutations.as_slice());
-    let lodgers = are_there(
+    let lodgers = all_exist(
         alloc,
         &history.parties,
         &history.mutations,
         |mutation| mutation.1.lodger,
     )?;
-    let sources = are_there(
+    let sources = all_exist(
         alloc,
         &history.sources,
         &history.mutations,

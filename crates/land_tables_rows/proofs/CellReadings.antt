@@ -11,12 +11,12 @@ use Rattle.land_fraction.specs.Laws.{SameFractionLaw}
 use Rattle.land_fraction.specs.Ratio.{Ratio, IsFraction, over}
 use Rattle.land_tables_history.proofs.MomentOrder.{le_true}
 use Rattle.land_tables_rows.proofs.Stepping.{same_value, stepped}
-use Rattle.land_tables_rows.specs.Cells.Closing.{IsMoment}
-use Rattle.land_tables_rows.specs.Cells.Texts.{is_kept}
+use Rattle.land_tables_rows.specs.Cells.Closable.{IsMoment}
+use Rattle.land_tables_rows.specs.Cells.Texts.{is_storable}
 use Rattle.land_tables_rows.specs.Reading.Cells.{allowed, amount_in, end_in, integer_in, moment_in, natural_in, natural_of, null_in, number_in, share_in, text_in, until_most}
 use Rattle.land_tables_schema.specs.Rows.Versions.{never, whole}
-use Rattle.land_wire_json.specs.Bodies.Fields.{limited}
-use Rattle.land_wire_json.specs.Bodies.Shares.{share_answer}
+use Rattle.land_wire_json.specs.Bodies.Fields.{require_text}
+use Rattle.land_wire_json.specs.Bodies.Shares.{share_or_fault}
 use Rattle.land_wire_json.specs.Bodies.WireFaults.{◌>>=◌}
 use Rattle.land_wire_json.specs.declared.bodies.wire_fault.WireFault.{WireFault}
 use Rattle.land_wire_json.specs.declared.bodies.wire_fault.WireFault.TheVariants as fault
@@ -63,12 +63,12 @@ never_is_read = refl
 pub text_is_read : (t : List ℕ) → is_utf8 t ≡ true → text_in (Text t) ≡ Ok t
 text_is_read t e = rw e refl
 
-pub kept_is_read : (is_allowed : List ℕ → Bool) (t : List ℕ) → is_kept is_allowed t ≡ true → (text_in (Text t) >>= limited is_allowed) ≡ Ok t
+pub kept_is_read : (is_allowed : List ℕ → Bool) (t : List ℕ) → is_storable is_allowed t ≡ true → (text_in (Text t) >>= require_text is_allowed) ≡ Ok t
 kept_is_read is_allowed t e = let h = and_parts (is_utf8 t) (is_allowed t) e in rw (h.0, h.1) refl
 
 pub share_is_read : SameFractionLaw → (f : Ratio) → IsFraction f → share_in (whole f.numerator) (whole f.denominator) ≡ Ok f
 unfolding share_in natural_in
-share_is_read same f h = ap share_answer (same f h)
+share_is_read same f h = ap share_or_fault (same f h)
 
 -- ---- from the decoded value to the written cell
 
@@ -97,9 +97,9 @@ text_is (Real x) s e = let none : ⊥ = cc in absurd none
 text_is (Text t) s e = ap Text (if_utf8 (is_utf8 t) t s e)
 text_is (Blob b) s e = let none : ⊥ = cc in absurd none
 
-pub kept_is : (is_allowed : List ℕ → Bool) (c : Value) (s : List ℕ) → (text_in c >>= limited is_allowed) ≡ Ok s → c ≡ Text s
+pub kept_is : (is_allowed : List ℕ → Bool) (c : Value) (s : List ℕ) → (text_in c >>= require_text is_allowed) ≡ Ok s → c ≡ Text s
 kept_is is_allowed c s e =
-    let h = stepped (text_in c) (limited is_allowed) s e in
+    let h = stepped (text_in c) (require_text is_allowed) s e in
     text_is c h.given h.is ∙ ap Text (if_utf8 (is_allowed h.given) h.given s h.rest)
 
 natural_of_is : (z : ℤ) (n : ℕ) → natural_of z ≡ Ok n → z ≡ pos n
@@ -172,6 +172,6 @@ pub record AreShares (c d : Value) : Type 0 where
 pub share_is : (c d : Value) (f : Ratio) → share_in c d ≡ Ok f → AreShares c d
 unfolding share_in
 share_is c d f e =
-    let n = stepped (natural_in c) (λ n. natural_in d >>= λ m. share_answer (fraction_of (over n m))) f e in
-    let m = stepped (natural_in d) (λ m. share_answer (fraction_of (over n.given m))) f n.rest in
+    let n = stepped (natural_in c) (λ n. natural_in d >>= λ m. share_or_fault (fraction_of (over n m))) f e in
+    let m = stepped (natural_in d) (λ m. share_or_fault (fraction_of (over n.given m))) f n.rest in
     record { numerator = n.given; denominator = m.given; top = natural_is c n.given n.is; bottom = natural_is d m.given m.is }

@@ -18,7 +18,7 @@ use Rattle.land_tables_rows.proofs.TextReadings.{ascii_is_utf8, printed_is_utf8}
 use Rattle.land_tables_rows.specs.Mutation.Cells.{is_content_kept, is_new_name_kept, is_part_kept}
 use Rattle.land_wire_json.proofs.ContentReading.{exact}
 use Rattle.land_wire_json.specs.Bodies.Stored.{HasOutline, IsExactContent}
-use Rattle.land_wire_json.specs.Texts.Exact.{all_after, are_exact, is_exact, is_whole, rise}
+use Rattle.land_wire_json.specs.Texts.Exact.{are_keys_after, are_exact, is_exact, is_u64, has_increasing_keys}
 use Rattle.land_wire_json.specs.Texts.Mutations.{content_data, content_text}
 use Rattle.land_wire_json.specs.Texts.Subdivisions.{name_members, part_data}
 use Rattle.land_wire_json.specs.Texts.Values.{number_data}
@@ -45,7 +45,7 @@ abbrev mutual
   HaveReadable no_members = ⊤
   HaveReadable (member key value members) = (are_ascii key ≡ true) × IsReadable value × HaveReadable members
 
-number_utf8 : (n : Num) → is_whole n ≡ true → IsUtf8 (number_text n)
+number_utf8 : (n : Num) → is_u64 n ≡ true → IsUtf8 (number_text n)
 number_utf8 (unsigned n) e = IsUtf8-from_ascii (decimal n) (IsAscii-decimal n (ltb-true n (2 ^ 64) e))
 number_utf8 (negative z) e = let none : ⊥ = cc in absurd none
 number_utf8 (float x) e = let none : ⊥ = cc in absurd none
@@ -76,11 +76,11 @@ mutual
       IsUtf8-append (comma_if later) (compact_text value ++ items_text true items) (comma_utf8 later)
       (IsUtf8-append (compact_text value) (items_text true items) (text_utf8 value p.0 r.0) (items_utf8 true items p.1 r.1))
 
-  members_utf8 : (later : Bool) (members : Members) → rise members ≡ true → HaveReadable members → IsUtf8 (members_text later members)
+  members_utf8 : (later : Bool) (members : Members) → has_increasing_keys members ≡ true → HaveReadable members → IsUtf8 (members_text later members)
   members_utf8 later no_members e r = IsUtf8-are_ascii (125 ∷ []) refl
   members_utf8 later (member key value members) e r =
-      let p = and_parts (is_exact value && all_after key members) (rise members) e in
-      let o = and_parts (is_exact value) (all_after key members) p.0 in
+      let p = and_parts (is_exact value && are_keys_after key members) (has_increasing_keys members) e in
+      let o = and_parts (is_exact value) (are_keys_after key members) p.0 in
       IsUtf8-append (comma_if later) (quoted key ++ 58 ∷ (compact_text value ++ members_text true members)) (comma_utf8 later)
       (IsUtf8-append (quoted key) (58 ∷ (compact_text value ++ members_text true members)) (quoted_utf8 key (ascii_is_utf8 key r.0))
       (byte_then 58 (compact_text value ++ members_text true members) (IsUtf8-are_ascii (58 ∷ []) refl)

@@ -6,8 +6,8 @@ use Rattle.land_tables_rows.specs.Edition.Reading.{edition_in}
 use Rattle.land_tables_rows.specs.Edition.Writing as edition
 use Rattle.land_tables_rows.specs.Reading.Cells.{natural_in}
 use Rattle.land_tables_rows.specs.declared.edition.reading.Edition as version
-use Rattle.land_tables_schema.specs.Rows.Edition.{Edition, current_edition, edition_row}
-use Rattle.land_tables_schema.specs.Rows.Looks.{numbered_cells}
+use Rattle.land_tables_schema.specs.Rows.Edition.{Edition, v2_edition, edition_row}
+use Rattle.land_tables_schema.specs.Rows.ReadQueries.{numbered_cells}
 use Rattle.sqlite_value.specs.Order.{Row, column}
 use Rattle.sqlite_value.specs.declared.value.Value.{Value}
 
@@ -22,6 +22,6 @@ pub found : (r : Row) (e : version.Edition) → edition_in (numbered_cells r) �
 found r e h = cells_are (column r 0) (column r 2) e h
 
 -- edition 2 decodes to itself
-pub reads : edition_in (edition_row current_edition) ≡ Ok edition.current_edition
+pub reads : edition_in (edition_row v2_edition) ≡ Ok edition.v2_edition
 unfolding edition_in natural_in
 reads = refl

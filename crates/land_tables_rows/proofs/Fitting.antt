@@ -7,9 +7,9 @@ use Rattle.std.specs.Prelude.{filter, length, nat_le, not}
 use Rattle.std.proofs.lemmas.Bool.{and_from, and_parts}
 use Rattle.land_core.specs.Contents.{is_amount, is_currency, is_well_formed_content}
 use Rattle.land_core.specs.Members.{Members, member_of, members_in}
-use Rattle.land_core.specs.Mergers.{are_merged, are_others, are_rising, lists_number, rise_above}
+use Rattle.land_core.specs.Mergers.{are_merged_parcels, are_other_units, are_ascending_numbers, lists_number, all_above}
 use Rattle.land_core.specs.Numbers.{is_number}
-use Rattle.land_core.specs.Subdivisions.{is_rest}
+use Rattle.land_core.specs.Subdivisions.{are_further_parts}
 use Rattle.land_core.specs.Texts.{is_label, is_reference}
 use Rattle.land_core.specs.declared.change.Change.{Change}
 use Rattle.land_core.specs.declared.content.Content.{Content}
@@ -17,14 +17,14 @@ use Rattle.land_core.specs.declared.content.Content.TheVariants as content
 use Rattle.land_core.specs.declared.mutation.MutationRecord.{MutationRecord}
 use Rattle.land_tables_history.specs.Changed.{listed_members, named_by, new_mutations}
 use Rattle.land_tables_history.specs.History.{named_units}
-use Rattle.land_tables_rows.specs.Cells.Texts.{is_kept}
+use Rattle.land_tables_rows.specs.Cells.Texts.{is_storable}
 use Rattle.land_tables_rows.specs.Member.Writing.{fits_member}
 use Rattle.land_tables_rows.specs.Mutation.Cells.{fits_mutation, is_content_kept, is_moment}
 use Rattle.land_tables_rows.specs.Naming.Writing.{fits_naming}
 use Rattle.land_tables_rows.specs.Parcel.Cells.{fits_parcel}
 use Rattle.land_tables_rows.specs.Party.Writing.{fits_party}
 use Rattle.land_tables_rows.specs.Reading.Cells.{is_next}
-use Rattle.land_tables_rows.specs.Recording.Whole.{fits_change, fits_estates, fits_group, fits_kind, fits_papers, fits_people, group_members, mutation_names}
+use Rattle.land_tables_rows.specs.Recording.Whole.{fits_change, fits_units_and_entries, fits_group, fits_kind, fits_sources_and_mutations, fits_parties_and_roles, group_members, mutation_names}
 use Rattle.land_tables_rows.specs.Rrr.Cells.{fits_rrr}
 use Rattle.land_tables_rows.specs.Source.Writing.{fits_source}
 use Rattle.land_tables_rows.specs.Unit.Writing.{fits_unit}
@@ -77,13 +77,13 @@ units_fit (content.Transfer it) h =
 units_fit (content.Subdivision it) h =
     and_from (is_number it.unit) true
     (and_parts (is_number it.unit) (is_number it.parcel) (and_parts (is_number it.unit && is_number it.parcel) (is_label it.first.label)
-    (and_parts (is_number it.unit && is_number it.parcel && is_label it.first.label) (is_rest it.rest) h).0).0).0 refl
+    (and_parts (is_number it.unit && is_number it.parcel && is_label it.first.label) (are_further_parts it.rest) h).0).0).0 refl
 units_fit (content.Merger it) h =
-    let e = and_parts (is_number it.unit && are_others it.unit it.others) (are_merged it.parcels) (and_parts (is_number it.unit && are_others it.unit it.others && are_merged it.parcels) (is_label it.label) h).0 in
-    let units = and_parts (is_number it.unit) (are_others it.unit it.others) e.0 in
-    let others = and_parts (nat_le (length it.others) 15 && are_rising it.others) (not (lists_number it.others it.unit)) units.1 in
-    let rising = and_parts (nat_le (length it.others) 15) (are_rising it.others) others.0 in
-    and_from (is_number it.unit) (list_all is_number it.others) units.0 (and_parts (rise_above 0 it.others) (list_all is_number it.others) rising.1).1
+    let e = and_parts (is_number it.unit && are_other_units it.unit it.others) (are_merged_parcels it.parcels) (and_parts (is_number it.unit && are_other_units it.unit it.others && are_merged_parcels it.parcels) (is_label it.label) h).0 in
+    let units = and_parts (is_number it.unit) (are_other_units it.unit it.others) e.0 in
+    let others = and_parts (nat_le (length it.others) 15 && are_ascending_numbers it.others) (not (lists_number it.others it.unit)) units.1 in
+    let rising = and_parts (nat_le (length it.others) 15) (are_ascending_numbers it.others) others.0 in
+    and_from (is_number it.unit) (list_all is_number it.others) units.0 (and_parts (all_above 0 it.others) (list_all is_number it.others) rising.1).1
 units_fit (content.Mortgage it) h =
     and_from (is_number it.unit) true (and_parts (is_number it.unit) (is_number it.creditor) (and_parts (is_number it.unit && is_number it.creditor) (is_amount it.amount)
     (and_parts (is_number it.unit && is_number it.creditor && is_amount it.amount) (is_currency it.currency) h).0).0).0 refl
@@ -93,7 +93,7 @@ names_fit : (m : ℕ × MutationRecord) → fits_mutation m ≡ true → list_al
 names_fit m h =
     let first = and_parts (is_number m.0) _ h in
     let lodger = and_parts (is_number m.1.lodger) _ first.1 in
-    let reference = and_parts (is_kept is_reference m.1.reference) _ lodger.1 in
+    let reference = and_parts (is_storable is_reference m.1.reference) _ lodger.1 in
     let source = and_parts (is_number m.1.source) _ reference.1 in
     let lodged = and_parts (is_moment m.1.lodged) _ source.1 in
     let content = and_parts (is_content_kept m.1.content) (is_well_formed_content m.1.content) lodged.1 in
@@ -111,31 +111,31 @@ numbers_known : {V : Type 0} (rest : ℕ × V → Bool) (put : List (ℕ × V)) 
 numbers_known rest put ended h =
     all_so (λ e. is_number e.0 && rest e) (λ e. is_number e.0) (λ e h. (and_parts (is_number e.0) (rest e) h).0) put (and_parts (list_all (λ e. is_number e.0 && rest e) put) (list_all is_number ended) h).0
 
-pub parties_known : (change : Change) → fits_people change ≡ true → list_all (λ e. is_number e.0) change.put.parties ≡ true
+pub parties_known : (change : Change) → fits_parties_and_roles change ≡ true → list_all (λ e. is_number e.0) change.put.parties ≡ true
 parties_known change h = numbers_known _ change.put.parties change.ended.parties (and_parts (fits_kind (λ e. fits_party e.0 e.1) is_number change.put.parties change.ended.parties) _ h).0
 
-pub units_known : (change : Change) → fits_estates change ≡ true → list_all (λ e. is_number e.0) change.put.units ≡ true
+pub units_known : (change : Change) → fits_units_and_entries change ≡ true → list_all (λ e. is_number e.0) change.put.units ≡ true
 units_known change h = numbers_known _ change.put.units change.ended.units (and_parts (fits_kind (λ e. fits_unit e.0 e.1) is_number change.put.units change.ended.units) _ h).0
 
-pub parcels_known : (change : Change) → fits_estates change ≡ true → list_all (λ e. is_number e.0) change.put.parcels ≡ true
+pub parcels_known : (change : Change) → fits_units_and_entries change ≡ true → list_all (λ e. is_number e.0) change.put.parcels ≡ true
 parcels_known change h =
     let rest = (and_parts (fits_kind (λ e. fits_unit e.0 e.1) is_number change.put.units change.ended.units) _ h).1 in
     numbers_known _ change.put.parcels change.ended.parcels (and_parts (fits_kind fits_parcel is_number change.put.parcels change.ended.parcels) (fits_kind fits_rrr is_number change.put.rrrs change.ended.rrrs) rest).0
 
-pub rrrs_known : (change : Change) → fits_estates change ≡ true → list_all (λ e. is_number e.0) change.put.rrrs ≡ true
+pub rrrs_known : (change : Change) → fits_units_and_entries change ≡ true → list_all (λ e. is_number e.0) change.put.rrrs ≡ true
 rrrs_known change h =
     let rest = (and_parts (fits_kind (λ e. fits_unit e.0 e.1) is_number change.put.units change.ended.units) _ h).1 in
     numbers_known _ change.put.rrrs change.ended.rrrs (and_parts (fits_kind fits_parcel is_number change.put.parcels change.ended.parcels) (fits_kind fits_rrr is_number change.put.rrrs change.ended.rrrs) rest).1
 
-pub sources_known : (change : Change) → fits_papers change ≡ true → list_all (λ e. is_number e.0) change.put.sources ≡ true
+pub sources_known : (change : Change) → fits_sources_and_mutations change ≡ true → list_all (λ e. is_number e.0) change.put.sources ≡ true
 sources_known change h = numbers_known _ change.put.sources change.ended.sources (and_parts (fits_kind (λ e. fits_source e.0 e.1) is_number change.put.sources change.ended.sources) _ h).0
 
-pub mutations_known : (change : Change) → fits_papers change ≡ true → list_all (λ e. is_number e.0) change.put.mutations ≡ true
+pub mutations_known : (change : Change) → fits_sources_and_mutations change ≡ true → list_all (λ e. is_number e.0) change.put.mutations ≡ true
 mutations_known change h = numbers_known _ change.put.mutations change.ended.mutations (and_parts (fits_kind (λ e. fits_source e.0 e.1) is_number change.put.sources change.ended.sources) _ h).1
 
-pub estates_of : (change : Change) → fits_change change ≡ true → fits_estates change ≡ true
-estates_of change h = (and_parts (fits_estates change) (fits_papers change && is_next change.next) (and_parts (fits_people change) (fits_estates change && (fits_papers change && is_next change.next)) h).1).0
+pub estates_of : (change : Change) → fits_change change ≡ true → fits_units_and_entries change ≡ true
+estates_of change h = (and_parts (fits_units_and_entries change) (fits_sources_and_mutations change && is_next change.next) (and_parts (fits_parties_and_roles change) (fits_units_and_entries change && (fits_sources_and_mutations change && is_next change.next)) h).1).0
 
-pub papers_of : (change : Change) → fits_change change ≡ true → fits_papers change ≡ true
+pub papers_of : (change : Change) → fits_change change ≡ true → fits_sources_and_mutations change ≡ true
 papers_of change h =
-    (and_parts (fits_papers change) (is_next change.next) (and_parts (fits_estates change) (fits_papers change && is_next change.next) (and_parts (fits_people change) (fits_estates change && (fits_papers change && is_next change.next)) h).1).1).0
+    (and_parts (fits_sources_and_mutations change) (is_next change.next) (and_parts (fits_units_and_entries change) (fits_sources_and_mutations change && is_next change.next) (and_parts (fits_parties_and_roles change) (fits_units_and_entries change && (fits_sources_and_mutations change && is_next change.next)) h).1).1).0

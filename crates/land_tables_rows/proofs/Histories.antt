@@ -5,7 +5,7 @@ use Rattle.land_tables_history.specs.declared.moment.Moment.{Moment}
 use Rattle.land_tables_history.specs.declared.version.Version.{Version}
 use Rattle.land_tables_rows.specs.Mandate.Writing as mandate
 use Rattle.land_tables_rows.specs.Member.Writing as member
-use Rattle.land_tables_rows.specs.Moment.Writing.{KeepsMoments}
+use Rattle.land_tables_rows.specs.Moment.Writing.{HoldsMoments}
 use Rattle.land_tables_rows.specs.Mutation.Writing as mutation
 use Rattle.land_tables_rows.specs.Naming.Writing as naming
 use Rattle.land_tables_rows.specs.Parcel.Writing as parcel
@@ -16,7 +16,7 @@ use Rattle.land_tables_rows.specs.Source.Writing as source
 use Rattle.land_tables_rows.specs.Unit.Writing as unit
 use Rattle.land_tables_rows.specs.Writing.History.{HoldsHistory}
 use Rattle.land_tables_rows.specs.Writing.Holding.{Keeps, Reading}
-use Rattle.land_tables_rows.specs.Writing.Laws.{ChangesAreHeld, HoldsWith}
+use Rattle.land_tables_rows.specs.Writing.Laws.{TableChangesKeepHistory, HoldsWith}
 use Rattle.land_tables_schema.proofs.Kept.{are_kept}
 use Rattle.land_tables_schema.specs.Rows.Forms.{KeepsOthers}
 use Rattle.land_tables_schema.specs.Tables as table
@@ -53,7 +53,7 @@ tree_of Mandates = 20
 
 -- the versions of a table
 abbrev Holds : Part → Trees → List Moment → History → Type 0
-Holds Moments db moments h = KeepsMoments db moments
+Holds Moments db moments h = HoldsMoments db moments
 Holds Parties db moments h = Keeps party.parties db h.parties
 Holds Roles db moments h = Keeps role.roles db h.roles
 Holds Members db moments h = Keeps member.members db h.members
@@ -127,7 +127,7 @@ others_kept one old new kept Mandates = (are_kept one old new kept).mandate
 left : (one : Table) (old new : Trees) (moments : List Moment) (h : History) → HoldsHistory old moments h → KeepsOthers one old new → (part : Part) → one.tree ≢ tree_of part → Holds part new moments h
 left one old new moments h held kept part other = still_holds old new moments h part (others_kept one old new kept part other) (each_held held part)
 
-with_moments : (old new : Trees) (moments others : List Moment) (h : History) → HoldsHistory old moments h → KeepsOthers table.moments old new → KeepsMoments new others → HoldsHistory new others h
+with_moments : (old new : Trees) (moments others : List Moment) (h : History) → HoldsHistory old moments h → KeepsOthers table.moments old new → HoldsMoments new others → HoldsHistory new others h
 with_moments old new moments others h held kept here = all_held each
   where
     each : (part : Part) → Holds part new others h
@@ -204,8 +204,8 @@ with_mandates old new moments h vs held kept here = all_held each
     each Mandates = here
     each part = left table.mandate old new moments h held kept part (λ e. absurd (omega arith))
 
-pub changes_are_held : ChangesAreHeld
-changes_are_held = record {
+pub table_changes_keep_history : TableChangesKeepHistory
+table_changes_keep_history = record {
   moments = with_moments;
   parties = with_parties;
   roles = with_roles;

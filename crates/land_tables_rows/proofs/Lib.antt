@@ -4,7 +4,7 @@ pub mod CellReadings
 pub mod Closings
 pub mod ContentTexts
 pub mod Editions
-pub mod Edits
+pub mod RewritesTables
 pub mod Fitting
 pub mod Histories
 pub mod Keyed

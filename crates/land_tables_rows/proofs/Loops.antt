@@ -7,15 +7,15 @@ use Rattle.std.proofs.lemmas.List.{append_assoc, map-append}
 use Rattle.std.proofs.lemmas.List.Sorted.{IsPermutation-map, IsPermutation-append_comm, IsPermutation-append_left, IsPermutation-trans}
 use Rattle.std.proofs.lemmas.List.Sums.{fold-append}
 use Rattle.land_tables_history.proofs.OneByOne.{closed_each}
-use Rattle.land_tables_history.specs.Changed.{begun, closed}
+use Rattle.land_tables_history.specs.Changed.{opened_version, closed_version}
 use Rattle.land_tables_history.specs.Open.{never}
 use Rattle.land_tables_history.specs.declared.version.Version.{Version}
 use Rattle.land_tables_rows.specs.Recording.{BeginsAll, Changes}
 use Rattle.land_tables_rows.specs.Writing.Holding.{Begins, Closes, IsMoment, Keeps, Reading}
 use Rattle.land_tables_schema.proofs.Steps.{step_fails, step_then, was_clean}
-use Rattle.land_tables_schema.specs.Land.{IsLand}
+use Rattle.land_tables_schema.specs.Schemas.{IsSchemaV2}
 use Rattle.land_tables_schema.specs.Rows.Forms.{KeepsOthers}
-use Rattle.land_tables_schema.specs.Steps.{IsStep}
+use Rattle.land_tables_schema.specs.Steps.{IsTransactionStep}
 use Rattle.land_tables_schema.specs.Tables.{land_tables}
 use Rattle.sqlite.specs.Effect.{Database}
 use Rattle.sqlite.specs.State.{HasCleanDisk, State}
@@ -46,13 +46,13 @@ pub before_never : (stamp : ℤ) → IsMoment stamp → stamp <ℤ never
 before_never stamp moment = let most : stamp ≤ℤ _ = moment.1 in omega (arith, ints)
 
 -- steps that leave the schema unchanged leave the register's schema
-pub land_stays : {X E : Type 0} {x : X} {Done : Database → Database → Type 0} (a b : State) → IsStep {X = X} {E = E} (Ok x) Done a b → (Done a.now b.now → b.now.schema ≡ a.now.schema)
-    → (HasCleanDisk a → IsLand a.now.schema) → HasCleanDisk b → IsLand b.now.schema
-land_stays a b step same land clean = subst IsLand (sym (same (step.done clean))) (land (was_clean a b step.survives clean))
+pub land_stays : {X E : Type 0} {x : X} {Done : Database → Database → Type 0} (a b : State) → IsTransactionStep {X = X} {E = E} (Ok x) Done a b → (Done a.now b.now → b.now.schema ≡ a.now.schema)
+    → (HasCleanDisk a → IsSchemaV2 a.now.schema) → HasCleanDisk b → IsSchemaV2 b.now.schema
+land_stays a b step same has_tables clean = subst IsSchemaV2 (sym (same (step.done clean))) (has_tables (was_clean a b step.survives clean))
 
 -- a step after others, with any result
-pub step_after : {X Z E : Type 0} {x : X} {First Next All : Database → Database → Type 0} (a b c : State) (r : Result Z E) → IsStep {X = X} {E = E} (Ok x) First a b → IsStep r Next b c
-    → (HasCleanDisk c → First a.now b.now → Next b.now c.now → All a.now c.now) → IsStep r All a c
+pub step_after : {X Z E : Type 0} {x : X} {First Next All : Database → Database → Type 0} (a b c : State) (r : Result Z E) → IsTransactionStep {X = X} {E = E} (Ok x) First a b → IsTransactionStep r Next b c
+    → (HasCleanDisk c → First a.now b.now → Next b.now c.now → All a.now c.now) → IsTransactionStep r All a c
 step_after a b c (Ok z) first next all = step_then a b c first next all
 step_after a b c (Err e) first next all = step_fails a b c (Err e) refl first next
 
@@ -68,7 +68,7 @@ module _ {X : Type 0} (reading : Reading X) where
 
   module _ (since : ℤ) where
     abbrev begins : X → Version X
-    begins x = begun x since
+    begins x = opened_version x since
 
     pub none_begun : (db : Database) → BeginsAll reading [] since db db
     none_begun db = record { schema = refl; held = λ vs keeps. keeps; kept = kept_still reading.table db.trees }
@@ -93,7 +93,7 @@ module _ {X : Type 0} (reading : Reading X) where
   pub changes : (put : List X) (meant : X → Bool) (stamp : ℤ) (a b c : Database) → Closes reading meant stamp a b → BeginsAll reading put stamp b c → Changes reading put meant stamp a c
   changes put meant stamp a b c first next = record {
     schema = next.schema ∙ first.schema;
-    held = λ vs keeps. next.held (map (closed meant stamp) vs) (first.held vs keeps);
+    held = λ vs keeps. next.held (map (closed_version meant stamp) vs) (first.held vs keeps);
     kept = kept_then reading.table a.trees b.trees c.trees first.kept next.kept;
   }
 
@@ -102,10 +102,10 @@ module _ {X : Type 0} (reading : Reading X) where
     ClosesSome keys = Closes reading (λ x. list_any (has x) keys) stamp
 
     abbrev by : List K → List (Version X) → List (Version X)
-    by keys vs = map (closed (λ x. list_any (has x) keys) stamp) vs
+    by keys vs = map (closed_version (λ x. list_any (has x) keys) stamp) vs
 
     abbrev each : List (Version X) → K → List (Version X)
-    each vs key = map (closed (λ x. has x key) stamp) vs
+    each vs key = map (closed_version (λ x. has x key) stamp) vs
 
     one_by_one : (keys : List K) (vs : List (Version X)) → fold each vs keys ≡ by keys vs
     one_by_one keys vs = closed_each stamp (before_never stamp moment) has keys vs

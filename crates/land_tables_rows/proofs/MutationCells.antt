@@ -12,9 +12,9 @@ use Rattle.land_tables_rows.proofs.Closings.{IsReadAs, closing}
 use Rattle.land_tables_rows.proofs.ContentTexts.{content_is_utf8}
 use Rattle.land_tables_rows.proofs.Stepping.{same_value, stepped}
 use Rattle.land_tables_rows.proofs.WordReadings.{act_is_read, state_is_read}
-use Rattle.land_tables_rows.specs.Cells.Closing.{is_numbered}
-use Rattle.land_tables_rows.specs.Cells.Laws.{MutationsAreTold, MutationsReadBack}
-use Rattle.land_tables_rows.specs.Cells.Texts.{is_kept}
+use Rattle.land_tables_rows.specs.Cells.Closable.{is_numbered}
+use Rattle.land_tables_rows.specs.Cells.Laws.{MutationCellsDecode, MutationsReadBack}
+use Rattle.land_tables_rows.specs.Cells.Texts.{is_storable}
 use Rattle.land_tables_rows.specs.Mutation.Cells.{is_content_kept, is_moment}
 use Rattle.land_tables_rows.specs.Mutation.Reading.{mutation_in}
 use Rattle.land_tables_rows.specs.Reading.Cells.{end_in, moment_in, number_in, reference_in, text_in}
@@ -22,7 +22,7 @@ use Rattle.land_tables_rows.specs.Reading.Words.{state_in, state_of}
 use Rattle.land_tables_schema.specs.Rows.Mutation.{MutationRow, is_mutation, mutations}
 use Rattle.land_tables_schema.specs.Rows.Versions as laid
 use Rattle.land_tables_schema.specs.Rows.Versions.{never, whole}
-use Rattle.land_wire_json.specs.Bodies.Laws.{ContentsAreRead}
+use Rattle.land_wire_json.specs.Bodies.Laws.{ContentsRoundTrip}
 use Rattle.land_wire_json.specs.Bodies.Mutations.{content_in}
 use Rattle.land_wire_json.specs.Texts.Mutations.{content_text}
 use Rattle.sqlite_value.specs.Order.{Row, column}
@@ -87,12 +87,12 @@ module _ (number lodger reference source lodged act content state since until : 
 
 -- ---- what was written decodes
 
-pub mutations_read_back : ContentsAreRead → MutationsReadBack
+pub mutations_read_back : ContentsRoundTrip → MutationsReadBack
 mutations_read_back contents e since fits exact moment =
     let kept = is_content_kept e.1.content && is_well_formed_content e.1.content in
-    let p = and_parts (is_number e.0) (is_number e.1.lodger && (is_kept is_reference e.1.reference && (is_number e.1.source && (is_moment e.1.lodged && kept)))) fits in
-    let q = and_parts (is_number e.1.lodger) (is_kept is_reference e.1.reference && (is_number e.1.source && (is_moment e.1.lodged && kept))) p.1 in
-    let r = and_parts (is_kept is_reference e.1.reference) (is_number e.1.source && (is_moment e.1.lodged && kept)) q.1 in
+    let p = and_parts (is_number e.0) (is_number e.1.lodger && (is_storable is_reference e.1.reference && (is_number e.1.source && (is_moment e.1.lodged && kept)))) fits in
+    let q = and_parts (is_number e.1.lodger) (is_storable is_reference e.1.reference && (is_number e.1.source && (is_moment e.1.lodged && kept))) p.1 in
+    let r = and_parts (is_storable is_reference e.1.reference) (is_number e.1.source && (is_moment e.1.lodged && kept)) q.1 in
     let s = and_parts (is_number e.1.source) (is_moment e.1.lodged && kept) r.1 in
     let l = and_parts (is_moment e.1.lodged) kept s.1 in
     let m = and_parts (int_le (pos 0) e.1.lodged) (int_le e.1.lodged (pos 4102444799999)) l.0 in
@@ -186,8 +186,8 @@ module _ (p : laid.Version MutationRow) where
     again = λ stamp is_end. its_reading stamp (record v { until = stamp }) (ending v stamp t is_end);
   }
 
-pub mutations_are_told : MutationsAreTold
-mutations_are_told = record {
+pub mutation_cells_decode : MutationCellsDecode
+mutation_cells_decode = record {
   found = λ r v e. written (column r 1) (column r 2) (column r 3) (column r 4) (column r 5) (column r 6) (column r 7) (column r 8) (column r 9) (column r 10) v
       (to_cells (column r 1) (column r 2) (column r 3) (column r 4) (column r 5) (column r 6) (column r 7) (column r 8) (column r 9) (column r 10) v e);
   closes = λ n stamp p v moment e. closing mutation_in mutations.cells (is_mutation n) (is_numbered n) p v stamp (is_read p v n (its_cells p v e)) (ends stamp moment) e;

@@ -7,7 +7,7 @@ use Rattle.land_core.specs.Grants.{grant_of}
 use Rattle.land_core.specs.declared.kind.PartyKind.TheVariants.{NonNaturalPerson}
 use Rattle.land_core.specs.declared.party.PartyRecord.{PartyRecord}
 use Rattle.land_core.specs.declared.role.Role.TheVariants.{StateAdministrator}
-use Rattle.land_tables_history.specs.Changed.{begun}
+use Rattle.land_tables_history.specs.Changed.{opened_version}
 use Rattle.land_tables_history.specs.Open.{never}
 use Rattle.land_tables_rows.proofs.Editions as edition
 use Rattle.land_tables_rows.proofs.Lives.{begun_said}
@@ -17,21 +17,21 @@ use Rattle.land_tables_rows.proofs.Roles as role
 use Rattle.land_tables_rows.proofs.Tellings.{tells_from}
 use Rattle.land_tables_rows.proofs.Writes.{keeps_from}
 use Rattle.land_tables_rows.specs.Edition.Reading.{edition_in}
-use Rattle.land_tables_rows.specs.Edition.Writing.{current_edition}
+use Rattle.land_tables_rows.specs.Edition.Writing.{v2_edition}
 use Rattle.land_tables_rows.specs.Mandate.Reading.{mandate_in}
 use Rattle.land_tables_rows.specs.Member.Reading.{member_in}
-use Rattle.land_tables_rows.specs.Moment.Reading.{change_in}
+use Rattle.land_tables_rows.specs.Moment.Reading.{moment_row_in}
 use Rattle.land_tables_rows.specs.Mutation.Reading.{mutation_in}
 use Rattle.land_tables_rows.specs.Naming.Reading.{naming_in}
 use Rattle.land_tables_rows.specs.Parcel.Reading.{parcel_in}
 use Rattle.land_tables_rows.specs.Party.Reading.{party_in}
-use Rattle.land_tables_rows.specs.Role.Reading.{grant_in}
+use Rattle.land_tables_rows.specs.Role.Reading.{role_grant_in}
 use Rattle.land_tables_rows.specs.Rrr.Reading.{rrr_in}
 use Rattle.land_tables_rows.specs.Source.Reading.{source_in}
 use Rattle.land_tables_rows.specs.Unit.Reading.{unit_in}
 use Rattle.land_tables_rows.specs.Writing.History.{HoldsHistory}
 use Rattle.land_tables_rows.specs.Writing.Holding.{IsMoment}
-use Rattle.land_tables_rows.specs.Writing.Laws.{NewRegistersAreHeld}
+use Rattle.land_tables_rows.specs.Writing.Laws.{NewRowsHoldNewRegister}
 use Rattle.land_tables_rows.specs.Writing.NewHistory.{new_history, new_moments}
 use Rattle.land_tables_schema.specs.Rows.Held.{HoldsRows, new_rows}
 use Rattle.land_tables_schema.specs.Rows.Edition as edition_rows
@@ -59,21 +59,21 @@ first_moment = (omega (arith, ints), omega (arith, ints))
 abbrev office : PartyRecord
 office = record { kind = NonNaturalPerson; name = codes "Land Office" }
 
-office_said : party_in (party_cells (party.row_of 1 office) ++ Int (pos 0) ∷ Int never ∷ []) ≡ Ok (begun (1, office) (pos 0))
+office_said : party_in (party_cells (party.row_of 1 office) ++ Int (pos 0) ∷ Int never ∷ []) ≡ Ok (opened_version (1, office) (pos 0))
 unfolding is_utf8 chars lib.Utf8.encode
 office_said = begun_said table.party 3 party_cells party_in party.what party.is_reading (party.row_of 1 office) (1, office) (pos 0)
     (party.what_is 1 office refl (text_is (codes "Land Office") refl) (text_is (codes "nonNaturalPerson") refl)) first_moment
 
-role_said : grant_in (role_cells (role.row_of (grant_of 1 StateAdministrator)) ++ Int (pos 0) ∷ Int never ∷ []) ≡ Ok (begun (grant_of 1 StateAdministrator) (pos 0))
+role_said : role_grant_in (role_cells (role.row_of (grant_of 1 StateAdministrator)) ++ Int (pos 0) ∷ Int never ∷ []) ≡ Ok (opened_version (grant_of 1 StateAdministrator) (pos 0))
 unfolding is_utf8 chars lib.Utf8.encode
-role_said = begun_said table.role 2 role_cells grant_in role.what role.is_reading (role.row_of (grant_of 1 StateAdministrator)) (grant_of 1 StateAdministrator) (pos 0)
+role_said = begun_said table.role 2 role_cells role_grant_in role.what role.is_reading (role.row_of (grant_of 1 StateAdministrator)) (grant_of 1 StateAdministrator) (pos 0)
     (role.what_is (grant_of 1 StateAdministrator) refl (text_is (codes "stateAdministrator") refl)) first_moment
 
 history_held : (db : Trees) → HoldsRows db new_rows → HoldsHistory db new_moments new_history
 history_held db held = record {
-  the_moments = tells_from table.moments moment_row change_in db new_rows.moments new_moments (ap (λ r. r ∷ []) (moment.reads (record { stamp = pos 0; next = 2 }) first_moment refl)) held.the_moments;
+  the_moments = tells_from table.moments moment_row moment_row_in db new_rows.moments new_moments (ap (λ r. r ∷ []) (moment.reads (record { stamp = pos 0; next = 2 }) first_moment refl)) held.the_moments;
   the_parties = keeps_from table.party 3 party_cells party_in db new_rows.parties new_history.parties (ap (λ r. r ∷ []) office_said) held.the_parties;
-  the_roles = keeps_from table.role 2 role_cells grant_in db new_rows.roles new_history.roles (ap (λ r. r ∷ []) role_said) held.the_roles;
+  the_roles = keeps_from table.role 2 role_cells role_grant_in db new_rows.roles new_history.roles (ap (λ r. r ∷ []) role_said) held.the_roles;
   the_members = keeps_from table.member 4 member_cells member_in db [] [] refl held.the_members;
   the_units = keeps_from table.unit 3 unit_cells unit_in db [] [] refl held.the_units;
   the_parcels = keeps_from table.parcel 5 parcel_cells parcel_in db [] [] refl held.the_parcels;
@@ -84,8 +84,8 @@ history_held db held = record {
   the_mandates = keeps_from table.mandate 2 mandate_cells mandate_in db [] [] refl held.the_mandates;
 }
 
-pub new_registers_are_held : NewRegistersAreHeld
-new_registers_are_held db held = record {
+pub new_rows_hold_new_register : NewRowsHoldNewRegister
+new_rows_hold_new_register db held = record {
   history = history_held db held;
-  editions = tells_from table.edition edition_rows.edition_row edition_in db new_rows.editions (current_edition ∷ []) (ap (λ r. r ∷ []) edition.reads) held.the_editions;
+  editions = tells_from table.edition edition_rows.edition_row edition_in db new_rows.editions (v2_edition ∷ []) (ap (λ r. r ∷ []) edition.reads) held.the_editions;
 }

@@ -12,16 +12,16 @@ use Rattle.land_tables_rows.proofs.CellReadings.{end_is, ends, kept_is, kept_is_
 use Rattle.land_tables_rows.proofs.Closings.{IsReadAs, closing}
 use Rattle.land_tables_rows.proofs.Stepping.{same_value, stepped}
 use Rattle.land_tables_rows.proofs.TextReadings.{printed_is_utf8}
-use Rattle.land_tables_rows.specs.Cells.Closing.{is_numbered}
-use Rattle.land_tables_rows.specs.Cells.Laws.{ParcelsAreTold, ParcelsReadBack}
-use Rattle.land_tables_rows.specs.Cells.Texts.{is_kept}
+use Rattle.land_tables_rows.specs.Cells.Closable.{is_numbered}
+use Rattle.land_tables_rows.specs.Cells.Laws.{ParcelCellsDecode, ParcelsReadBack}
+use Rattle.land_tables_rows.specs.Cells.Texts.{is_storable}
 use Rattle.land_tables_rows.specs.Parcel.Reading.{parcel_in}
 use Rattle.land_tables_rows.specs.Reading.Cells.{end_in, label_in, moment_in, number_in, text_in}
 use Rattle.land_tables_schema.specs.Rows.Parcel.{ParcelRow, is_parcel, parcels}
 use Rattle.land_tables_schema.specs.Rows.Versions as laid
-use Rattle.land_tables_schema.specs.Rows.Versions.{begun, never, whole}
+use Rattle.land_tables_schema.specs.Rows.Versions.{opened_version, never, whole}
 use Rattle.land_wire_json.proofs.ContentReading.{outline_is_read}
-use Rattle.land_wire_json.specs.Bodies.Laws.{OutlinesHaveTheirAnswers}
+use Rattle.land_wire_json.specs.Bodies.Laws.{OutlinesAreAnswered}
 use Rattle.land_wire_json.specs.Bodies.Outlines.{outline_of}
 use Rattle.sqlite_value.specs.Order.{Row, column}
 use Rattle.sqlite_value.specs.declared.value.Value.{Value}
@@ -73,11 +73,11 @@ module _ (number unit label outline source since until : Value) (v : Version (�
 
 -- ---- what was written decodes
 
-pub parcels_read_back : PrintedLaw → OneAnswerLaw → OutlinesHaveTheirAnswers → SameFractionLaw → ParcelsReadBack
+pub parcels_read_back : PrintedLaw → OneAnswerLaw → OutlinesAreAnswered → SameFractionLaw → ParcelsReadBack
 parcels_read_back printing one answers shares e since fits exact moment =
-    let p = and_parts (is_number e.0) (is_number e.1.unit && (is_kept is_label e.1.label && is_number e.1.source)) fits in
-    let q = and_parts (is_number e.1.unit) (is_kept is_label e.1.label && is_number e.1.source) p.1 in
-    let r = and_parts (is_kept is_label e.1.label) (is_number e.1.source) q.1 in
+    let p = and_parts (is_number e.0) (is_number e.1.unit && (is_storable is_label e.1.label && is_number e.1.source)) fits in
+    let q = and_parts (is_number e.1.unit) (is_storable is_label e.1.label && is_number e.1.source) p.1 in
+    let r = and_parts (is_storable is_label e.1.label) (is_number e.1.source) q.1 in
     from_cells (whole e.0) (whole e.1.unit) (Text e.1.label) (Text (printed e.1.outline)) (whole e.1.source) (Int since) (Int never)
     (record { what = e; since = since; until = never })
     (record {
@@ -136,8 +136,8 @@ module _ (p : laid.Version ParcelRow) (v : Version (ℕ × ParcelRecord)) (h : p
         (record v { until = stamp }) (ending stamp is_end);
   }
 
-pub parcels_are_told : ParcelsAreTold
-parcels_are_told = record {
+pub parcel_cells_decode : ParcelCellsDecode
+parcel_cells_decode = record {
   found = λ r v e. written (column r 1) (column r 2) (column r 3) (column r 4) (column r 5) (column r 6) (column r 7) v
       (to_cells (column r 1) (column r 2) (column r 3) (column r 4) (column r 5) (column r 6) (column r 7) v e);
   closes = λ n stamp p v moment e. closing parcel_in parcels.cells (is_parcel n) (is_numbered n) p v stamp (is_read p v e n) (ends stamp moment) e;

@@ -9,7 +9,7 @@ use Rattle.land_tables_rows.proofs.Histories.{still_keeps}
 use Rattle.land_tables_rows.proofs.Tellings.{lists_one, tells_from}
 use Rattle.land_tables_rows.proofs.Writes.{keeps_from}
 use Rattle.land_tables_rows.specs.Edition.Reading.{edition_in}
-use Rattle.land_tables_rows.specs.Edition.Writing.{KeepsEditions, current_edition, first_edition}
+use Rattle.land_tables_rows.specs.Edition.Writing.{HoldsEditions, v2_edition, v1_edition}
 use Rattle.land_tables_rows.specs.Mandate.Reading.{mandate_in}
 use Rattle.land_tables_rows.specs.Mandate.Writing as mandate
 use Rattle.land_tables_rows.specs.Member.Writing as member
@@ -21,15 +21,15 @@ use Rattle.land_tables_rows.specs.Role.Writing as role
 use Rattle.land_tables_rows.specs.Rrr.Writing as rrr
 use Rattle.land_tables_rows.specs.Source.Writing as source
 use Rattle.land_tables_rows.specs.Unit.Writing as unit
-use Rattle.land_tables_rows.specs.Writing.History.{HoldsFirst, HoldsHistory}
+use Rattle.land_tables_rows.specs.Writing.History.{HoldsHistoryV1, HoldsHistory}
 use Rattle.land_tables_rows.specs.Writing.Holding.{Keeps}
-use Rattle.land_tables_rows.specs.Writing.Laws.{RaisedRegistersAreHeld}
+use Rattle.land_tables_rows.specs.Writing.Laws.{MigratedRegistersAreHeld}
 use Rattle.land_tables_rows.specs.declared.edition.reading.Edition as told
 use Rattle.land_tables_rows.specs.Reading.Cells.{natural_in}
 use Rattle.land_tables_schema.proofs.First.{none_held}
 use Rattle.land_tables_schema.specs.Rows.Edition as rows
 use Rattle.land_tables_schema.specs.Rows.Mandate.{mandate_cells, mandates}
-use Rattle.land_tables_schema.specs.Rows.Raising.{Raises}
+use Rattle.land_tables_schema.specs.Rows.SchemaMigration.{Migrates}
 use Rattle.land_tables_schema.specs.Tables as table
 use Rattle.sqlite.specs.Effect.{Database}
 use Rattle.sqlite_trees.specs.Tree.{Trees}
@@ -38,7 +38,7 @@ use Rattle.sqlite_trees.specs.Tree.{Trees}
 none_kept : (db : Trees) (history : History) → db 20 ≡ [] → history.mandates ≡ [] → Keeps mandate.mandates db history.mandates
 none_kept db history empty none = subst (Keeps mandate.mandates db) (sym none) (keeps_from table.mandate 2 mandate_cells mandate_in db [] [] refl (none_held mandates db empty))
 
-raised_history : (old new : Database) (moments : List Moment) (history : History) → Raises old new → HoldsFirst old.trees moments history → HoldsHistory new.trees moments history
+raised_history : (old new : Database) (moments : List Moment) (history : History) → Migrates old new → HoldsHistoryV1 old.trees moments history → HoldsHistory new.trees moments history
 raised_history old new moments history raises held =
     let k = raises.kept in
     record {
@@ -59,16 +59,16 @@ abbrev edition_of : (id version : ℕ) → rows.Edition
 edition_of id version = record { id = id; version = version }
 
 -- the cells of edition 1 decode to edition 1 only
-first_is : (p : rows.Edition) → edition_in (rows.edition_row p) ≡ Ok first_edition → p ≡ rows.first_edition
+first_is : (p : rows.Edition) → edition_in (rows.edition_row p) ≡ Ok v1_edition → p ≡ rows.v1_edition
 unfolding edition_in natural_in
 first_is p h =
     let is = same_ok h in
     ap₂ edition_of (ap (λ (e : told.Edition). e.id) is) (ap (λ (e : told.Edition). e.version) is)
 
-raised_editions : (old new : Database) → Raises old new → KeepsEditions old.trees (first_edition ∷ []) → KeepsEditions new.trees (current_edition ∷ [])
+raised_editions : (old new : Database) → Migrates old new → HoldsEditions old.trees (v1_edition ∷ []) → HoldsEditions new.trees (v2_edition ∷ [])
 raised_editions old new raises tells =
-    tells_from table.edition rows.edition_row edition_in new.trees (rows.current_edition ∷ []) (current_edition ∷ []) (ap (λ r. r ∷ []) edition.reads)
-    (raises.edition (lists_one table.edition rows.edition_row edition_in edition.found rows.first_edition first_edition first_is old.trees tells))
+    tells_from table.edition rows.edition_row edition_in new.trees (rows.v2_edition ∷ []) (v2_edition ∷ []) (ap (λ r. r ∷ []) edition.reads)
+    (raises.edition (lists_one table.edition rows.edition_row edition_in edition.found rows.v1_edition v1_edition first_is old.trees tells))
 
-pub raised_registers_are_held : RaisedRegistersAreHeld
-raised_registers_are_held old new moments history raises held tells = record { history = raised_history old new moments history raises held; editions = raised_editions old new raises tells }
+pub migrated_registers_are_held : MigratedRegistersAreHeld
+migrated_registers_are_held old new moments history raises held tells = record { history = raised_history old new moments history raises held; editions = raised_editions old new raises tells }

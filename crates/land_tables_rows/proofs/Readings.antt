@@ -2,13 +2,13 @@
 use Rattle.std.proofs.Common.{◌≡◌, ◌≢◌, Bool, true, false, cond, List, [], ◌∷◌, map, Ok, Err, IfErr, IfOk, Result, refl, sym, ap, ap₂, subst, ◌∙◌, IsPermutation}
 use Rattle.std.proofs.lemmas.List.Sorted.{IsPermutation-map, IsPermutation-sym, IsPermutation-trans}
 use Rattle.std.specs.List.{AllByRecursion}
-use Rattle.land_tables_rows.specs.Listing.Faults.{lacked_memory, of_error}
-use Rattle.land_tables_rows.specs.Listing.Reading.{IsRead, IsUnreadable, Listing, Says}
+use Rattle.land_tables_rows.specs.Listing.Faults.{is_out_of_memory, of_error}
+use Rattle.land_tables_rows.specs.Listing.Reading.{IsRead, IsUnreadableTable, Listing, Says}
 use Rattle.land_tables_rows.specs.Reading.Readings.{each_of}
 use Rattle.land_tables_rows.specs.declared.listing.fault.ReadFault.{ReadFault}
 use Rattle.land_tables_rows.specs.declared.listing.fault.ReadFault.TheVariants.{Unreadable, NoMemory, Store}
 use Rattle.land_tables_schema.proofs.Looking.{look_told}
-use Rattle.land_tables_schema.specs.Rows.Looks.{IsLook}
+use Rattle.land_tables_schema.specs.Rows.ReadQueries.{IsStoreRead}
 use Rattle.land_wire_json.specs.Bodies.WireFaults.{◌>>=◌}
 use Rattle.land_wire_json.specs.declared.bodies.wire_fault.WireFault.{WireFault}
 use Rattle.sqlite.specs.State.{HasCleanDisk, State}
@@ -71,13 +71,13 @@ module _ {X : Type 0} (listing : Listing X) (db : Trees) (rows : List Row) (show
   told (Ok xs) h = says_read xs h
   told (Err fault) h = tt
 
-  pub unreadable : (r : Result (List X) ReadFault) → IsRead listing.said rows r → IfErr r (IsUnreadable listing db)
+  pub unreadable : (r : Result (List X) ReadFault) → IsRead listing.said rows r → IfErr r (IsUnreadableTable listing db)
   unreadable (Ok xs) h = tt
   unreadable (Err fault) h = λ is. none_says (h (λ e. absurd (let a = is in let b = e in cc))).1
 
 -- a failed read says nothing about the rows
-pub never_unreadable : {X : Type 0} (listing : Listing X) (db : Trees) (error : Error) (fault : ReadFault) → fault ≡ of_error error → IsUnreadable listing db fault
-never_unreadable listing db error fault is unreadable = absurd (go (lacked_memory error) (sym is ∙ unreadable))
+pub never_unreadable : {X : Type 0} (listing : Listing X) (db : Trees) (error : Error) (fault : ReadFault) → fault ≡ of_error error → IsUnreadableTable listing db fault
+never_unreadable listing db error fault is unreadable = absurd (go (is_out_of_memory error) (sym is ∙ unreadable))
   where
     go : (b : Bool) → cond b NoMemory Store ≡ Unreadable → ⊥
     go true h = (let e = h in cc)
@@ -85,13 +85,13 @@ never_unreadable listing db error fault is unreadable = absurd (go (lacked_memor
 
 -- rows that a read returned, decoded
 module _ {X R E : Type 0} (listing : Listing X) (a b : State) (items : R → List Row) (got : R)
-    (look : IsLook {X = R} {E = E} (Ok got) (λ x. IsPermutation (map listing.shown (a.now.trees listing.table.tree)) (items x)) a b) (lent : List Row) (same : lent ≡ items got)
+    (reads_only : IsStoreRead {X = R} {E = E} (Ok got) (λ x. IsPermutation (map listing.shown (a.now.trees listing.table.tree)) (items x)) a b) (lent : List Row) (same : lent ≡ items got)
     (r : Result (List X) ReadFault) (is_read : IsRead listing.said lent r) where
   is_read_of : IsRead listing.said (items got) r
   is_read_of = subst (λ l. IsRead listing.said l r) same is_read
 
-  pub read_look : IsLook r (Says listing a.now.trees) a b
-  read_look = look_told a b r look (λ clean shown. told listing a.now.trees (items got) shown r is_read_of)
+  pub read_look : IsStoreRead r (Says listing a.now.trees) a b
+  read_look = look_told a b r reads_only (λ clean shown. told listing a.now.trees (items got) shown r is_read_of)
 
-  pub read_right : HasCleanDisk b → IfErr r (IsUnreadable listing a.now.trees)
-  read_right clean = unreadable listing a.now.trees (items got) (look.given clean) r is_read_of
+  pub read_right : HasCleanDisk b → IfErr r (IsUnreadableTable listing a.now.trees)
+  read_right clean = unreadable listing a.now.trees (items got) (reads_only.given clean) r is_read_of

@@ -19,7 +19,7 @@ use Rattle.land_tables_rows.proofs.Lives.{IsReading, lived}
 use Rattle.land_tables_rows.proofs.WrittenCells.{cons, end_cell, moment_cell, number_cell, number_reads, same_number, same_text, text_reads, word_cell}
 use Rattle.land_tables_rows.specs.Reading.Cells.{end_in, moment_in, number_in, text_in}
 use Rattle.land_tables_rows.specs.Reading.Words.{role_in}
-use Rattle.land_tables_rows.specs.Role.Reading.{grant_in}
+use Rattle.land_tables_rows.specs.Role.Reading.{role_grant_in}
 use Rattle.land_tables_rows.specs.Role.Writing.{fits_grant}
 use Rattle.land_tables_schema.specs.Rows.Role.{RoleRow, is_grant, role_cells}
 use Rattle.land_tables_schema.specs.Rows.Versions as rows
@@ -37,12 +37,12 @@ use Rattle.sqlite_value.specs.declared.value.Value.TheVariants.{Int, Text}
 abbrev pub what : RoleRow → Result Grant WireFault
 what r = number_in (whole r.party) >>= λ party. role_in (Text r.role) >>= λ role. Ok (record { party = party; role = role })
 
-reads : (r : RoleRow) (since until : ℤ) → grant_in (role_cells r ++ Int since ∷ Int until ∷ []) ≡ (what r >>= λ it. lived it since until)
-unfolding grant_in
+reads : (r : RoleRow) (since until : ℤ) → role_grant_in (role_cells r ++ Int since ∷ Int until ∷ []) ≡ (what r >>= λ it. lived it since until)
+unfolding role_grant_in
 reads r since until = two (number_in (whole r.party)) (role_in (Text r.role)) (λ party role. record { party = party; role = role }) (λ it. lived it since until)
 
-cells_are : (a b c d : Value) (v : Version Grant) → grant_in (a ∷ b ∷ c ∷ d ∷ []) ≡ Ok v → (p : rows.Version RoleRow) × (role_cells p.what ++ Int p.since ∷ Int p.until ∷ [] ≡ a ∷ b ∷ c ∷ d ∷ [])
-unfolding grant_in role_in
+cells_are : (a b c d : Value) (v : Version Grant) → role_grant_in (a ∷ b ∷ c ∷ d ∷ []) ≡ Ok v → (p : rows.Version RoleRow) × (role_cells p.what ++ Int p.since ∷ Int p.until ∷ [] ≡ a ∷ b ∷ c ∷ d ∷ [])
+unfolding role_grant_in role_in
 cells_are a b c d v h =
     let one = bound (number_in a) _ v h in
     let two = bound (text_in b >>= role_of) _ v one.2 in
@@ -53,7 +53,7 @@ cells_are a b c d v h =
       cons (sym (number_cell a one.0 one.1)) (cons role.1 (cons (sym (moment_cell c three.0 three.1)) (cons (sym (end_cell d four.0 four.1)) refl))),
     )
 
-pub is_reading : IsReading table.role 2 role_cells grant_in what
+pub is_reading : IsReading table.role 2 role_cells role_grant_in what
 is_reading = record { reads = reads; found = λ r v h. cells_are (column r 1) (column r 2) (column r 3) (column r 4) v h }
 
 -- the word of a role decodes to that role
@@ -79,21 +79,21 @@ what_is grant fits word = rw (number_reads grant.party fits, role_reads grant.ro
 same_word : (word text : List ℕ) → bytes_eq word text ≡ true → word ≡ text
 same_word word text h = (bytes_eq-Decides word text).0 h
 
-told_by : (word : List ℕ) (role : Role) (a b c d e f : Bool) → bytes_eq word (codes "citizen") ≡ a → bytes_eq word (codes "conveyancer") ≡ b → bytes_eq word (codes "notary") ≡ c → bytes_eq word (codes "bank") ≡ d
+decode_rows : (word : List ℕ) (role : Role) (a b c d e f : Bool) → bytes_eq word (codes "citizen") ≡ a → bytes_eq word (codes "conveyancer") ≡ b → bytes_eq word (codes "notary") ≡ c → bytes_eq word (codes "bank") ≡ d
     → bytes_eq word (codes "certifiedSurveyor") ≡ e → bytes_eq word (codes "stateAdministrator") ≡ f
     → ◌≡◌ {A = Result Role WireFault} (if a then Ok Citizen else (if b then Ok Conveyancer else (if c then Ok Notary else (if d then Ok Bank
     else (if e then Ok CertifiedSurveyor else (if f then Ok StateAdministrator else Err fault.Role)))))) (Ok role) → word ≡ role_word role
-told_by word role true b c d e f p q r s t u h = same_word word (codes "citizen") p ∙ ap role_word (same_ok h)
-told_by word role false true c d e f p q r s t u h = same_word word (codes "conveyancer") q ∙ ap role_word (same_ok h)
-told_by word role false false true d e f p q r s t u h = same_word word (codes "notary") r ∙ ap role_word (same_ok h)
-told_by word role false false false true e f p q r s t u h = same_word word (codes "bank") s ∙ ap role_word (same_ok h)
-told_by word role false false false false true f p q r s t u h = same_word word (codes "certifiedSurveyor") t ∙ ap role_word (same_ok h)
-told_by word role false false false false false true p q r s t u h = same_word word (codes "stateAdministrator") u ∙ ap role_word (same_ok h)
-told_by word role false false false false false false p q r s t u h = absurd (let k = h in cc)
+decode_rows word role true b c d e f p q r s t u h = same_word word (codes "citizen") p ∙ ap role_word (same_ok h)
+decode_rows word role false true c d e f p q r s t u h = same_word word (codes "conveyancer") q ∙ ap role_word (same_ok h)
+decode_rows word role false false true d e f p q r s t u h = same_word word (codes "notary") r ∙ ap role_word (same_ok h)
+decode_rows word role false false false true e f p q r s t u h = same_word word (codes "bank") s ∙ ap role_word (same_ok h)
+decode_rows word role false false false false true f p q r s t u h = same_word word (codes "certifiedSurveyor") t ∙ ap role_word (same_ok h)
+decode_rows word role false false false false false true p q r s t u h = same_word word (codes "stateAdministrator") u ∙ ap role_word (same_ok h)
+decode_rows word role false false false false false false p q r s t u h = absurd (let k = h in cc)
 
 -- a word that decodes to a role is the word of that role
 told : (word : List ℕ) (role : Role) → role_of word ≡ Ok role → word ≡ role_word role
-told word role h = told_by word role _ _ _ _ _ _ refl refl refl refl refl refl h
+told word role h = decode_rows word role _ _ _ _ _ _ refl refl refl refl refl refl h
 
 word_is : (word : List ℕ) (role : Role) → role_in (Text word) ≡ Ok role → word ≡ role_word role
 unfolding role_in

@@ -14,9 +14,9 @@ use Rattle.land_tables_rows.proofs.CellReadings.{amount_is, amount_is_read, end_
 use Rattle.land_tables_rows.proofs.Closings.{IsReadAs, closing}
 use Rattle.land_tables_rows.proofs.Stepping.{same_value, stepped}
 use Rattle.land_tables_rows.proofs.WordReadings.{class_is_read}
-use Rattle.land_tables_rows.specs.Cells.Closing.{IsMoment, is_numbered}
-use Rattle.land_tables_rows.specs.Cells.Laws.{RrrsAreTold, RrrsReadBack}
-use Rattle.land_tables_rows.specs.Cells.Texts.{is_kept}
+use Rattle.land_tables_rows.specs.Cells.Closable.{IsMoment, is_numbered}
+use Rattle.land_tables_rows.specs.Cells.Laws.{RrrCellsDecode, RrrsReadBack}
+use Rattle.land_tables_rows.specs.Cells.Texts.{is_storable}
 use Rattle.land_tables_rows.specs.Reading.Cells.{amount_in, currency_in, end_in, moment_in, natural_in, null_in, number_in, share_in, text_in, words_in}
 use Rattle.land_tables_rows.specs.Reading.Words.{class_of, class_word_in}
 use Rattle.land_tables_rows.specs.Rrr.Cells.{IsExactClass, class_word, fits_class, rrr_row_of}
@@ -25,7 +25,7 @@ use Rattle.land_tables_rows.specs.declared.reading.words.ClassWord.{ClassWord}
 use Rattle.land_tables_rows.specs.declared.reading.words.ClassWord.TheVariants as word
 use Rattle.land_tables_schema.specs.Rows.Rrr.{RrrRow, is_rrr, rrrs}
 use Rattle.land_tables_schema.specs.Rows.Versions as laid
-use Rattle.land_tables_schema.specs.Rows.Versions.{begun, never, whole}
+use Rattle.land_tables_schema.specs.Rows.Versions.{opened_version, never, whole}
 use Rattle.land_wire_json.specs.Bodies.WireFaults.{◌>>=◌}
 use Rattle.land_wire_json.specs.declared.bodies.wire_fault.WireFault.{WireFault}
 use Rattle.sqlite_typed.specs.Columns.{or_null}
@@ -235,7 +235,7 @@ module _ (shares : SameFractionLaw) (number unit party source : ℕ) (since : �
       })
 
   by_class : (said : Class) → fits_class said ≡ true → IsExactClass said
-      → rrr_in (rrrs.cells (begun (rrr_row_of (entry_of number unit party source said)) since)) ≡ Ok (record { what = entry_of number unit party source said; since = since; until = never })
+      → rrr_in (rrrs.cells (opened_version (rrr_row_of (entry_of number unit party source said)) since)) ≡ Ok (record { what = entry_of number unit party source said; since = since; until = never })
   by_class (class.Right type share) fits exact =
       with_class (word.Right type) (class.Right type share) (whole share.numerator) (whole share.denominator) Null Null Null Null (rw (share_is_read shares share exact) refl)
   by_class (class.Restriction words) fits exact =
@@ -243,8 +243,8 @@ module _ (shares : SameFractionLaw) (number unit party source : ℕ) (since : �
   by_class (class.Responsibility words) fits exact =
       with_class word.Responsibility (class.Responsibility words) Null Null Null Null Null (Text words) (rw (kept_is_read are_words words fits) refl)
   by_class (class.Mortgage amount currency rank) fits exact =
-      let p = and_parts (is_amount amount) (is_kept is_currency currency && nat_lt rank (2 ^ 63)) fits in
-      let q = and_parts (is_kept is_currency currency) (nat_lt rank (2 ^ 63)) p.1 in
+      let p = and_parts (is_amount amount) (is_storable is_currency currency && nat_lt rank (2 ^ 63)) fits in
+      let q = and_parts (is_storable is_currency currency) (nat_lt rank (2 ^ 63)) p.1 in
       with_class word.Mortgage (class.Mortgage amount currency rank) Null Null (whole amount) (Text currency) (whole rank) Null
       (rw (amount_is_read amount p.0, kept_is_read is_currency currency q.0, natural_is_read rank) refl)
 
@@ -327,8 +327,8 @@ module _ (p : laid.Version RrrRow) where
     again = λ stamp is_end. its_reading stamp (record v { until = stamp }) (ending v stamp t is_end);
   }
 
-pub rrrs_are_told : RrrsAreTold
-rrrs_are_told = record {
+pub rrr_cells_decode : RrrCellsDecode
+rrr_cells_decode = record {
   found = λ r v e. written (column r 1) (column r 2) (column r 3) (column r 4) (column r 5) (column r 6) (column r 7) (column r 8) (column r 9) (column r 10) (column r 11) (column r 12) (column r 13) v
       (to_cells (column r 1) (column r 2) (column r 3) (column r 4) (column r 5) (column r 6) (column r 7) (column r 8) (column r 9) (column r 10) (column r 11) (column r 12) (column r 13) v e);
   closes = λ n stamp p v moment e. closing rrr_in rrrs.cells (is_rrr n) (is_numbered n) p v stamp (is_read p v n (its_cells p v e)) (ends stamp moment) e;

@@ -2,10 +2,10 @@
 use Rattle.std.proofs.Common.{◌≡◌, List, [], ◌∷◌, map, Ok, Result, refl, sym, ap, ap₂, subst, ◌∙◌, IsPermutation}
 use Rattle.std.specs.List.{AllByRecursion}
 use Rattle.std.proofs.lemmas.List.Sorted.{IsPermutation-refl, IsPermutation-sym, IsPermutation-trans, IsPermutation-cons, IsPermutation-map}
-use Rattle.land_tables_rows.specs.Writing.Holding.{Tells, TellsMore}
-use Rattle.land_tables_schema.proofs.Raising.{only_one}
+use Rattle.land_tables_rows.specs.Writing.Holding.{HoldsNumbered, HoldsOneMore}
+use Rattle.land_tables_schema.proofs.SchemaMigration.{only_one}
 use Rattle.land_tables_schema.specs.Rows.Forms.{Appends, Lists}
-use Rattle.land_tables_schema.specs.Rows.Looks.{numbered_cells}
+use Rattle.land_tables_schema.specs.Rows.ReadQueries.{numbered_cells}
 use Rattle.land_wire_json.specs.declared.bodies.wire_fault.WireFault.{WireFault}
 use Rattle.sqlite.specs.Effect.{Database}
 use Rattle.sqlite_keyed.proofs.ListLemmas.{map-map}
@@ -15,7 +15,7 @@ use Rattle.sqlite_trees.specs.Tree.{Trees}
 use Rattle.sqlite_value.specs.Order.{Row}
 
 -- the listed values of the cells are those that the table decodes to
-pub tells_from : {P X : Type 0} (table : Table) (row : P → Row) (said : Row → Result X WireFault) (db : Trees) (ps : List P) (xs : List X) → map said (map row ps) ≡ map (λ x. Ok x) xs → Lists table row db ps → Tells table said db xs
+pub tells_from : {P X : Type 0} (table : Table) (row : P → Row) (said : Row → Result X WireFault) (db : Trees) (ps : List P) (xs : List X) → map said (map row ps) ≡ map (λ x. Ok x) xs → Lists table row db ps → HoldsNumbered table said db xs
 tells_from table row said db ps xs are listed =
     subst (λ l. IsPermutation l (map (λ x. Ok x) xs)) (map-map said numbered_cells (db table.tree))
     (subst (IsPermutation (map said (map numbered_cells (db table.tree)))) are (IsPermutation-map said (map numbered_cells (db table.tree)) (map row ps) listed))
@@ -40,7 +40,7 @@ module _ {P X : Type 0} (table : Table) (row : P → Row) (said : Row → Result
       (one.0 ∷ others.0, ap₂ (λ a b. a ∷ b) one.1 others.1)
 
   module _ (p : P) (x : X) (is_x : said (row p) ≡ Ok x) (old new : Database) (appends : Appends table row p old new) where
-    told : (xs : List X) → Tells table said old.trees xs → Tells table said new.trees (x ∷ xs)
+    told : (xs : List X) → HoldsNumbered table said old.trees xs → HoldsNumbered table said new.trees (x ∷ xs)
     told xs tells =
         let olds = old.trees table.tree in
         let news = new.trees table.tree in
@@ -53,7 +53,7 @@ module _ {P X : Type 0} (table : Table) (row : P → Row) (said : Row → Result
         IsPermutation-trans (map saying news) (Ok x ∷ map saying olds) (Ok x ∷ map fine_as xs) (subst (λ s. IsPermutation (map saying news) (s ∷ map saying olds)) is_x moved)
         (IsPermutation-cons (Ok x) (map saying olds) (map fine_as xs) tells)
 
-    pub tells_more : TellsMore table said x old new
+    pub tells_more : HoldsOneMore table said x old new
     tells_more = record { schema = appends.schema; told = told; kept = appends.kept }
 
   -- a record whose cells only it has is in the list
@@ -68,7 +68,7 @@ module _ {P X : Type 0} (table : Table) (row : P → Row) (said : Row → Result
         ap (λ c. c ∷ []) (sym one.1 ∙ ap row (only one.0 (ap said one.1 ∙ first_said e)))
     cells_of (r ∷ s ∷ rs) e = absurd (cc)
 
-    pub lists_one : (db : Trees) → Tells table said db (x ∷ []) → Lists table row db (p ∷ [])
+    pub lists_one : (db : Trees) → HoldsNumbered table said db (x ∷ []) → Lists table row db (p ∷ [])
     lists_one db tells =
         let rows = db table.tree in
         let is : map saying rows ≡ Ok x ∷ [] = only_one (Ok x) (map saying rows) (IsPermutation-sym (map saying rows) (Ok x ∷ []) tells) in

@@ -4,7 +4,7 @@ use Rattle.std.proofs.lemmas.List.Sorted.{IsPermutation-map, IsPermutation-refl,
 use Rattle.land_tables_history.proofs.Orders.{no_more}
 use Rattle.land_tables_rows.proofs.Readings.{some_each, says_read}
 use Rattle.land_tables_rows.specs.Listing.Reading.{Listing, Says}
-use Rattle.land_tables_rows.specs.Listing.Told.{or_nothing, told_by}
+use Rattle.land_tables_rows.specs.Listing.Told.{ok_or_empty, decode_rows}
 use Rattle.land_wire_json.specs.declared.bodies.wire_fault.WireFault.{WireFault}
 use Rattle.sqlite_trees.specs.Tree.{Trees}
 
@@ -34,9 +34,9 @@ says_same listing db xs ys one other =
     same_values xs ys (IsPermutation-trans (map (λ x. Ok x) xs) rows (map (λ y. Ok y) ys) (IsPermutation-sym rows (map (λ x. Ok x) xs) one) other)
 
 -- if a table decodes to a list, that list is its decoded value
-pub told_is : {X : Type 0} (listing : Listing X) (db : Trees) (xs : List X) → Says listing db xs → IsPermutation xs (told_by listing db)
+pub told_is : {X : Type 0} (listing : Listing X) (db : Trees) (xs : List X) → Says listing db xs → IsPermutation xs (decode_rows listing db)
 told_is listing db xs says =
     let rows = map listing.shown (db listing.table.tree) in
     let found = some_each listing db rows (IsPermutation-refl rows) xs says in
-    let tells : told_by listing db ≡ found.0 = ap or_nothing found.1 in
+    let tells : decode_rows listing db ≡ found.0 = ap ok_or_empty found.1 in
     subst (IsPermutation xs) (sym tells) (says_same listing db xs found.0 says (says_read listing db rows (IsPermutation-refl rows) found.0 found.1))

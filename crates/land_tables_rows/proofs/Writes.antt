@@ -3,12 +3,12 @@
 use Rattle.std.proofs.Common.{◌≡◌, ℕ, suc, ℤ, List, [], ◌∷◌, ◌++◌, map, Bool, Ok, Err, Result, refl, sym, ap, ap₂, subst, ◌∙◌, IsPermutation}
 use Rattle.std.specs.List.{AllByRecursion}
 use Rattle.std.proofs.lemmas.List.Sorted.{IsPermutation-refl, IsPermutation-sym, IsPermutation-trans, IsPermutation-cons, IsPermutation-map}
-use Rattle.land_tables_history.specs.Changed.{begun, closed}
+use Rattle.land_tables_history.specs.Changed.{opened_version, closed_version}
 use Rattle.land_tables_history.specs.Open.{never}
 use Rattle.land_tables_history.specs.declared.version.Version.{Version}
 use Rattle.land_tables_rows.specs.Writing.Holding.{Begins, Closes, Keeps, Reading}
-use Rattle.land_tables_schema.specs.Rows.Forms.{Adds, Form, Holds, Turns}
-use Rattle.land_tables_schema.specs.Rows.Looks.{columns_from}
+use Rattle.land_tables_schema.specs.Rows.Forms.{InsertsVersion, Form, Holds, UpdatesRows}
+use Rattle.land_tables_schema.specs.Rows.ReadQueries.{columns_from}
 use Rattle.land_tables_schema.specs.Rows.Versions as rows
 use Rattle.land_wire_json.specs.declared.bodies.wire_fault.WireFault.{WireFault}
 use Rattle.sqlite.specs.Effect.{Database}
@@ -84,21 +84,21 @@ module _ {C X : Type 0} (table : Table) (count : ℕ) (cells : C → Row) (said 
 
   -- ---- versions that begin
 
-  module _ (c : C) (x : X) (since : ℤ) (begun_said : said (cells c ++ Int since ∷ Int never ∷ []) ≡ Ok (begun x since)) (old new : Database) (adds : Adds form (rows.begun c since) old new) where
-    begun_held : (vs : List (Version X)) → Keeps reading old.trees vs → Keeps reading new.trees (begun x since ∷ vs)
+  module _ (c : C) (x : X) (since : ℤ) (begun_said : said (cells c ++ Int since ∷ Int never ∷ []) ≡ Ok (opened_version x since)) (old new : Database) (adds : InsertsVersion form (rows.opened_version c since) old new) where
+    begun_held : (vs : List (Version X)) → Keeps reading old.trees vs → Keeps reading new.trees (opened_version x since ∷ vs)
     begun_held vs keeps =
         let ps = laid old vs keeps in
         let held = adds.held ps.0 (holds old vs keeps) in
         let olds = old.trees table.tree in
         let news = new.trees table.tree in
-        let moved : IsPermutation (map saying news) (said (form.cells (rows.begun c since)) ∷ map saying olds) =
-        subst (λ l. IsPermutation l (said (form.cells (rows.begun c since)) ∷ map saying olds)) (map-map said cells_in news)
-        (subst (λ l. IsPermutation (map said (map cells_in news)) (said (form.cells (rows.begun c since)) ∷ l)) (ap (map said) ps.1 ∙ map-map said cells_in olds)
-        (IsPermutation-map said (map cells_in news) (form.cells (rows.begun c since) ∷ map form.cells ps.0) held.rows)) in
+        let moved : IsPermutation (map saying news) (said (form.cells (rows.opened_version c since)) ∷ map saying olds) =
+        subst (λ l. IsPermutation l (said (form.cells (rows.opened_version c since)) ∷ map saying olds)) (map-map said cells_in news)
+        (subst (λ l. IsPermutation (map said (map cells_in news)) (said (form.cells (rows.opened_version c since)) ∷ l)) (ap (map said) ps.1 ∙ map-map said cells_in olds)
+        (IsPermutation-map said (map cells_in news) (form.cells (rows.opened_version c since) ∷ map form.cells ps.0) held.rows)) in
         record {
-          said = IsPermutation-trans (map saying news) (Ok (begun x since) ∷ map saying olds) (Ok (begun x since) ∷ map (λ v. Ok v) vs)
+          said = IsPermutation-trans (map saying news) (Ok (opened_version x since) ∷ map saying olds) (Ok (opened_version x since) ∷ map (λ v. Ok v) vs)
               (subst (λ s. IsPermutation (map saying news) (s ∷ map saying olds)) begun_said moved)
-              (IsPermutation-cons (Ok (begun x since)) (map saying olds) (map (λ v. Ok v) vs) keeps.said);
+              (IsPermutation-cons (Ok (opened_version x since)) (map saying olds) (map (λ v. Ok v) vs) keeps.said);
           numbered = held.numbered;
         }
 
@@ -108,37 +108,37 @@ module _ {C X : Type 0} (table : Table) (count : ℕ) (cells : C → Row) (said 
   -- ---- versions that end
 
   module _ (meant : C → Bool) (meant_so : X → Bool) (stamp : ℤ)
-      (closed_so : (p : rows.Version C) (v : Version X) → said (cells p.what ++ Int p.since ∷ Int p.until ∷ []) ≡ Ok v → said (form.cells (rows.closed meant stamp p)) ≡ Ok (closed meant_so stamp v)) where
+      (closed_so : (p : rows.Version C) (v : Version X) → said (cells p.what ++ Int p.since ∷ Int p.until ∷ []) ≡ Ok v → said (form.cells (rows.closed_version meant stamp p)) ≡ Ok (closed_version meant_so stamp v)) where
     -- the decoded value of a closed version
     abbrev then_closed : Result (Version X) WireFault → Result (Version X) WireFault
-    then_closed (Ok v) = Ok (closed meant_so stamp v)
+    then_closed (Ok v) = Ok (closed_version meant_so stamp v)
     then_closed (Err e) = Err e
 
-    closed_said : (p : rows.Version C) → IsThing p → said (form.cells (rows.closed meant stamp p)) ≡ then_closed (said (form.cells p))
+    closed_said : (p : rows.Version C) → IsThing p → said (form.cells (rows.closed_version meant stamp p)) ≡ then_closed (said (form.cells p))
     closed_said p thing = closed_so p thing.0 thing.1 ∙ sym (ap then_closed thing.1)
 
-    each_closed : (ps : List (rows.Version C)) → AllByRecursion IsThing ps → map said (map form.cells (map (rows.closed meant stamp) ps)) ≡ map then_closed (map said (map form.cells ps))
+    each_closed : (ps : List (rows.Version C)) → AllByRecursion IsThing ps → map said (map form.cells (map (rows.closed_version meant stamp) ps)) ≡ map then_closed (map said (map form.cells ps))
     each_closed [] all = refl
     each_closed (p ∷ ps) all = ap₂ (λ a b. a ∷ b) (closed_said p all.0) (each_closed ps all.1)
 
-    all_closed : (vs : List (Version X)) → map then_closed (map (λ v. Ok v) vs) ≡ map (λ v. Ok v) (map (closed meant_so stamp) vs)
+    all_closed : (vs : List (Version X)) → map then_closed (map (λ v. Ok v) vs) ≡ map (λ v. Ok v) (map (closed_version meant_so stamp) vs)
     all_closed [] = refl
-    all_closed (v ∷ vs) = ap (λ l. Ok (closed meant_so stamp v) ∷ l) (all_closed vs)
+    all_closed (v ∷ vs) = ap (λ l. Ok (closed_version meant_so stamp v) ∷ l) (all_closed vs)
 
-    module _ (old new : Database) (turns : Turns form (rows.closed meant stamp) old new) where
-      closed_held : (vs : List (Version X)) → Keeps reading old.trees vs → Keeps reading new.trees (map (closed meant_so stamp) vs)
+    module _ (old new : Database) (turns : UpdatesRows form (rows.closed_version meant stamp) old new) where
+      closed_held : (vs : List (Version X)) → Keeps reading old.trees vs → Keeps reading new.trees (map (closed_version meant_so stamp) vs)
       closed_held vs keeps =
           let ps = laid old vs keeps in
           let held = turns.held ps.0 (holds old vs keeps) in
           let olds = old.trees table.tree in
           let news = new.trees table.tree in
-          let turned : map said (map form.cells (map (rows.closed meant stamp) ps.0)) ≡ map then_closed (map saying olds) =
+          let turned : map said (map form.cells (map (rows.closed_version meant stamp) ps.0)) ≡ map then_closed (map saying olds) =
           each_closed ps.0 ps.2 ∙ ap (map then_closed) (ap (map said) ps.1 ∙ map-map said cells_in olds) in
           let moved : IsPermutation (map saying news) (map then_closed (map saying olds)) =
           subst (λ l. IsPermutation l (map then_closed (map saying olds))) (map-map said cells_in news)
-          (subst (IsPermutation (map said (map cells_in news))) turned (IsPermutation-map said (map cells_in news) (map form.cells (map (rows.closed meant stamp) ps.0)) held.rows)) in
+          (subst (IsPermutation (map said (map cells_in news))) turned (IsPermutation-map said (map cells_in news) (map form.cells (map (rows.closed_version meant stamp) ps.0)) held.rows)) in
           record {
-            said = IsPermutation-trans (map saying news) (map then_closed (map saying olds)) (map (λ v. Ok v) (map (closed meant_so stamp) vs)) moved
+            said = IsPermutation-trans (map saying news) (map then_closed (map saying olds)) (map (λ v. Ok v) (map (closed_version meant_so stamp) vs)) moved
                 (subst (IsPermutation (map then_closed (map saying olds))) (all_closed vs) (IsPermutation-map then_closed (map saying olds) (map (λ v. Ok v) vs) keeps.said));
             numbered = held.numbered;
           }

@@ -9,8 +9,8 @@ use Rattle.land_fraction.specs.Ratio.{IsFraction, Ratio}
 use Rattle.land_tables_rows.proofs.Bounds.{bound, same_ok, test_passes}
 use Rattle.land_tables_rows.specs.Reading.Cells.{allowed, end_in, flag_in, flag_of, integer_in, is_next, moment_in, natural_in, natural_of, next_in, number_in, share_in, text_in, until_most}
 use Rattle.land_tables_schema.specs.Rows.Versions.{flag, whole}
-use Rattle.land_wire_json.specs.Bodies.Fields.{limited}
-use Rattle.land_wire_json.specs.Bodies.Shares.{share_answer}
+use Rattle.land_wire_json.specs.Bodies.Fields.{require_text}
+use Rattle.land_wire_json.specs.Bodies.Shares.{share_or_fault}
 use Rattle.land_wire_json.specs.Bodies.WireFaults.{◌>>=◌}
 use Rattle.land_wire_json.specs.declared.bodies.wire_fault.WireFault.{WireFault}
 use Rattle.land_wire_json.specs.declared.bodies.wire_fault.WireFault.TheVariants as fault
@@ -124,7 +124,7 @@ flag_reads false = refl
 -- a fraction decodes to itself
 pub share_reads : (share : Ratio) → IsFraction share → share_in (whole share.numerator) (whole share.denominator) ≡ Ok share
 unfolding share_in natural_in
-share_reads share is = ap share_answer (sym (the_answer share (Ok share) (is.proper, is, refl)))
+share_reads share is = ap share_or_fault (sym (the_answer share (Ok share) (is.proper, is, refl)))
 
 -- a number
 pub number_reads : (n : ℕ) → is_number n ≡ true → number_in (whole n) ≡ Ok n
@@ -136,7 +136,7 @@ pub text_reads : (t : List ℕ) → IsUtf8 t → text_in (Text t) ≡ Ok t
 text_reads t utf8 = test_passes (is_utf8 t) t fault.Text (is_utf8-from_IsUtf8 t utf8)
 
 -- a string within its limits
-pub limited_reads : (is_allowed : List ℕ → Bool) (t : List ℕ) → IsUtf8 t → is_allowed t ≡ true → (text_in (Text t) >>= limited is_allowed) ≡ Ok t
+pub limited_reads : (is_allowed : List ℕ → Bool) (t : List ℕ) → IsUtf8 t → is_allowed t ≡ true → (text_in (Text t) >>= require_text is_allowed) ≡ Ok t
 limited_reads is_allowed t utf8 is = rw (text_reads t utf8) (test_passes (is_allowed t) t fault.Text is)
 
 -- ---- object numbers fit in a column

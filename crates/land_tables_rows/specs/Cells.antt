@@ -1,4 +1,4 @@
 -- Definitions of the cells in which records are written.
-pub mod Closing
+pub mod Closable
 pub mod Laws
 pub mod Texts

@@ -1,5 +1,5 @@
 //! The rows of the register's tables, a folder for each kind: decoding a row (`reading`), the cells of a
-//! record (`cells`), beginning and closing a version (`writing`), and applying a change (`recording`). Code
+//! record (`cells`), beginning and closing a version (`writing`), and applying a change (`change_writing`). Code
 //! that all kinds share is in the folders with these names. `listing` reads all tables, and `rowids` checks
 //! that rows have unique rowids.
 #![tactic(auto)]
@@ -15,7 +15,7 @@ pub mod naming;
 pub mod parcel;
 pub mod party;
 pub mod reading;
-pub mod recording;
+pub mod change_writing;
 pub mod role;
 pub mod rowids;
 pub mod rrr;

@@ -1,5 +1,5 @@
 //! Links of mutations to units.
 
 pub mod reading;
-pub mod recording;
+pub mod change_writing;
 pub mod writing;

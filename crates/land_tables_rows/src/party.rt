@@ -1,5 +1,5 @@
 //! Parties (LA_Party).
 
 pub mod reading;
-pub mod recording;
+pub mod change_writing;
 pub mod writing;

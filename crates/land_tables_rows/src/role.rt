@@ -1,5 +1,5 @@
 //! Roles of parties.
 
 pub mod reading;
-pub mod recording;
+pub mod change_writing;
 pub mod writing;

@@ -2,5 +2,5 @@
 
 pub mod cells;
 pub mod reading;
-pub mod recording;
+pub mod change_writing;
 pub mod writing;

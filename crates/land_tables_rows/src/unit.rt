@@ -1,5 +1,5 @@
 //! Basic administrative units (LA_BAUnit).
 
 pub mod reading;
-pub mod recording;
+pub mod change_writing;
 pub mod writing;

@@ -3,9 +3,9 @@ use Rattle.std.proofs.Common.{◌≡◌, ℤ, List, [], ◌∷◌, map, true, sy
 use Rattle.std.proofs.lemmas.List.Sorted.{IsPermutation-sym, IsPermutation-trans, IsPermutation-cons, IsPermutation-map}
 use Rattle.land_tables_schema.proofs.Puts.{puts_are}
 use Rattle.land_tables_schema.proofs.Statements.{IsEdited, bare}
-use Rattle.land_tables_schema.specs.Land.{land_with}
+use Rattle.land_tables_schema.specs.Schemas.{schema_v2_with}
 use Rattle.land_tables_schema.specs.Rows.Forms.{Lists, Appends}
-use Rattle.land_tables_schema.specs.Rows.Looks.{numbered_cells}
+use Rattle.land_tables_schema.specs.Rows.ReadQueries.{numbered_cells}
 use Rattle.sqlite.specs.Cast.{cast_row}
 use Rattle.sqlite.specs.Edit.{edit_of}
 use Rattle.sqlite.specs.Effect.{Database}
@@ -17,8 +17,8 @@ use Rattle.sqlite_schema.specs.declared.schema.Table.{Table}
 use Rattle.sqlite_value.specs.Order.{Row}
 
 module _ {X : Type 0} (table : Table) (row : X → Row) (x : X) (id : ℤ) (cells : Row) (row_is : numbered_cells (Int id ∷ cells) ≡ row x) (indexes : List Index) (old new : Database)
-    (is : IsEdited (land_with indexes) (edit_of old.trees (bare table) [] Chosen 0 ((Int id ∷ cells) ∷ [])) old new)
-    (has : old.schema ≡ land_with indexes) (exact : cast_row (bare table) (Int id ∷ cells) ≡ Int id ∷ cells) where
+    (is : IsEdited (schema_v2_with indexes) (edit_of old.trees (bare table) [] Chosen 0 ((Int id ∷ cells) ∷ [])) old new)
+    (has : old.schema ≡ schema_v2_with indexes) (exact : cast_row (bare table) (Int id ∷ cells) ≡ Int id ∷ cells) where
   abbrev rows : List Row
   rows = old.trees table.tree
 

@@ -3,8 +3,8 @@ use Rattle.std.proofs.Common.{◌≡◌, ℕ, false, List, [], ◌∷◌, map, f
 use Rattle.std.proofs.lemmas.Result.{IfOk-weaker}
 use Rattle.land_tables_schema.proofs.KnownSchemas.{but_for_indexes, but_for_more}
 use Rattle.land_tables_schema.proofs.Updates.{answer_is, passes, plainly}
-use Rattle.land_tables_schema.specs.Land.{HasFirstTables, IsLand, first_with, land_with}
-use Rattle.land_tables_schema.specs.Rows.Looks.{IsLeft, IsLook}
+use Rattle.land_tables_schema.specs.Schemas.{ContainsSchemaV1, IsSchemaV2, schema_v1_with, schema_v2_with}
+use Rattle.land_tables_schema.specs.Rows.ReadQueries.{IsLeft, IsStoreRead}
 use Rattle.sqlite.proofs.Callers.{IsPlain, command_of, never_commits, reads_as}
 use Rattle.sqlite.proofs.StateLemmas.{survives_weaker}
 use Rattle.sqlite.specs.Clock.{timed}
@@ -37,12 +37,12 @@ pub record IsListing (Has : Schema → Type 0) (tree : ℕ) (text : List ℕ) (p
 
 -- a statement with the same meaning for all indexes of the register, and for all tables after those of
 -- version 1
-pub in_first : (sql : List ℕ) (q : Query) → ((more : List Table) (indexes : List Index) → Asks (first_with more indexes) sql q) → (s : Schema) → HasFirstTables s → Asks s sql q
+pub in_first : (sql : List ℕ) (q : Query) → ((more : List Table) (indexes : List Index) → Asks (schema_v1_with more indexes) sql q) → (s : Schema) → ContainsSchemaV1 s → Asks s sql q
 in_first sql q asks s has = subst (λ x. Asks x sql q) (sym (but_for_more s has)) (asks has.tables.0 s.indexes)
 
 -- a statement with the same meaning for all indexes of the register
-pub in_land : (sql : List ℕ) (q : Query) → ((indexes : List Index) → Asks (land_with indexes) sql q) → (s : Schema) → IsLand s → Asks s sql q
-in_land sql q asks s land = subst (λ x. Asks x sql q) (sym (but_for_indexes s land)) (asks s.indexes)
+pub in_land : (sql : List ℕ) (q : Query) → ((indexes : List Index) → Asks (schema_v2_with indexes) sql q) → (s : Schema) → IsSchemaV2 s → Asks s sql q
+in_land sql q asks s has_tables = subst (λ x. Asks x sql q) (sym (but_for_indexes s has_tables)) (asks s.indexes)
 
 -- a disk that is clean was clean before
 pub clean_before : {old new : State} {Commits : Trees → Type 0} → Survives old new Commits → HasCleanDisk new → HasCleanDisk old
@@ -104,7 +104,7 @@ module _ (Has : Schema → Type 0) (tree : ℕ) (text : List ℕ) (project : Lis
 
   -- a call of the statement is a read that returns all rows
   pub looks : {X : Type 0} (items : X → List Row) (r : Result X Error) → (HasCleanDisk old → Has old.now.schema) → (HasCleanDisk new → IfOk r (λ x. Shown text [] old new (items x)))
-      → (HasCleanDisk new → IfErr r (FailsToQuery text [] old new)) → Survives old new (CommitsShowing text [] old) → IsLook r (λ x. IsPermutation (map shown (old.now.trees tree)) (items x)) old new
+      → (HasCleanDisk new → IfErr r (FailsToQuery text [] old new)) → Survives old new (CommitsShowing text [] old) → IsStoreRead r (λ x. IsPermutation (map shown (old.now.trees tree)) (items x)) old new
   looks items r has answers refuses safe = record {
     given = λ clean. IfOk-weaker r _ _ (λ x. listed (has (clean_before safe clean)) (items x)) (answers clean);
     same = λ clean. same_on_ok items r (has (clean_before safe clean)) (answers clean);

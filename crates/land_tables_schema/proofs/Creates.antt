@@ -2,9 +2,9 @@
 use Rattle.std.proofs.Common.{◌≡◌, ◌⊎◌, inl, inr, ℕ, List, [], ◌∷◌, ◌++◌, map, false, None, Some, Ok, Err, Result, Option, slice_get, refl, sym, ap, ap₂, subst, ◌∙◌, append-nil, append_assoc, is_ok}
 use Rattle.std.specs.List.{AllByRecursion}
 use Rattle.std.proofs.lemmas.List.{map-append}
-use Rattle.land_tables_schema.specs.Definitions.{made_by, made_as, table_made, index_made, index_on, index_dropped, IsDefining, IsChanging, made, AreDefinitions, IsReady, AreReady}
-use Rattle.land_tables_schema.specs.Land.{no_schema}
-use Rattle.land_tables_schema.specs.Laws.{TextsLaw, land_texts}
+use Rattle.land_tables_schema.specs.Definitions.{made_by, schema_after_command, with_table_of, with_index_of, index_on, without_index_of, IsDefining, IsChanging, made, AreDefinitions, IsReady, AreReady}
+use Rattle.land_tables_schema.specs.Schemas.{no_schema}
+use Rattle.land_tables_schema.specs.Laws.{TextsLaw, create_statements}
 use Rattle.land_tables_schema.specs.Making.{AreEmpty, Defines, DefinesAll, IsMade}
 use Rattle.sqlite.proofs.Callers.{command_of, runs_as}
 use Rattle.sqlite.specs.Command.{Command}
@@ -64,11 +64,11 @@ record HasMore (s t : Schema) : Type 0 where
 same_tables : (s t : Schema) → t.tables ≡ s.tables → HasMore s t
 same_tables s t is = record { more = []; is = is ∙ sym (append-nil s.tables) }
 
-more_table : (s : Schema) (r : Result Table CompileError) → HasMore s (table_made s r)
+more_table : (s : Schema) (r : Result Table CompileError) → HasMore s (with_table_of s r)
 more_table s (Ok t) = record { more = (record t { tree = next_tree s }) ∷ []; is = refl }
 more_table s (Err e) = same_tables s s refl
 
-more_index : (s : Schema) (t : Table) (r : Result Index CompileError) → HasMore s (index_made s t r)
+more_index : (s : Schema) (t : Table) (r : Result Index CompileError) → HasMore s (with_index_of s t r)
 more_index s t (Ok i) = same_tables s (indexed s t i) refl
 more_index s t (Err e) = same_tables s s refl
 
@@ -76,11 +76,11 @@ more_on : (s : Schema) (text : List ℕ) (o : Option Table) → HasMore s (index
 more_on s text (Some t) = more_index s t (index_defined_by t text)
 more_on s text None = same_tables s s refl
 
-more_dropped : (s : Schema) (o : Option Index) → HasMore s (index_dropped s o)
+more_dropped : (s : Schema) (o : Option Index) → HasMore s (without_index_of s o)
 more_dropped s (Some i) = same_tables s (without_index s i.tree) refl
 more_dropped s None = same_tables s s refl
 
-more_as : (s : Schema) (text : List ℕ) (command : Command) → HasMore s (made_as s text command)
+more_as : (s : Schema) (text : List ℕ) (command : Command) → HasMore s (schema_after_command s text command)
 more_as s text CreateTable = more_table s (table_defined_by text)
 more_as s text (CreateIndex at) = more_on s text (slice_get s.tables at)
 more_as s text (DropIndex at) = more_dropped s (slice_get s.indexes at)
@@ -100,7 +100,7 @@ kept_before s t a b has kept = kept_in_front s.tables has.more a b (subst (λ ts
 
 -- the effect of a statement that compiles to this command
 record DoesAs (old new : Database) (text : List ℕ) (command : Command) : Type 0 where
-  schema : new.schema ≡ made_as old.schema text command
+  schema : new.schema ≡ schema_after_command old.schema text command
   empty : AreEmpty old → AreEmpty new
   kept : KeepsRows old.schema.tables old.trees new.trees
 
@@ -110,14 +110,14 @@ unfolding ExecutesIn
 ran sql old new count h = (h.0, h.1.is)
 
 module _ (old new : State) (text : List ℕ) (count : ℕ) where
-  defines_as : (command : Command) → command_of (understood old.now.schema text) ≡ command → IsChanging command (made_as old.now.schema text command) → Runs old new None command text [] count
+  defines_as : (command : Command) → command_of (understood old.now.schema text) ≡ command → IsChanging command (schema_after_command old.now.schema text command) → Runs old new None command text [] count
       → DoesAs old.now new.now text command
   defines_as CreateTable is fine w =
       let all = went w.changed in
       let first = went all.1 in
       let made = first.1 in
-      let by : made_as old.now.schema text CreateTable ≡ created old.now.schema made.table = ap (table_made old.now.schema) made.defined in
-      let schema : first.0.schema ≡ made_as old.now.schema text CreateTable = made.is ∙ sym by in
+      let by : schema_after_command old.now.schema text CreateTable ≡ created old.now.schema made.table = ap (with_table_of old.now.schema) made.defined in
+      let schema : first.0.schema ≡ schema_after_command old.now.schema text CreateTable = made.is ∙ sym by in
       let plain : lacks_sequence first.0.schema ≡ false = ap lacks_sequence schema ∙ fine in
       let now : new.now ≡ first.0 = ap (λ (p : Tally × Database). p.1) (same_value all.2) ∙ same_value (rw plain at first.2) in
       let same : new.now.schema ≡ created old.now.schema made.table = ap (λ (d : Database). d.schema) now ∙ made.is in
@@ -140,7 +140,7 @@ module _ (old new : State) (text : List ℕ) (count : ℕ) where
       go (Some table) place_is h =
           let all = went (rw place_is at h) in
           let made = all.1 in
-          let by : index_on schema text (slice_get schema.tables place) ≡ indexed schema table made.index = ap (index_on schema text) place_is ∙ ap (index_made schema table) made.defined in
+          let by : index_on schema text (slice_get schema.tables place) ≡ indexed schema table made.index = ap (index_on schema text) place_is ∙ ap (with_index_of schema table) made.defined in
           let now : new.now ≡ all.0 = ap (λ (p : Tally × Database). p.1) (same_value all.2) in
           let same : new.now.schema ≡ indexed schema table made.index = ap (λ (d : Database). d.schema) now ∙ made.is in
           let trees : new.now.trees ≡ all.0.trees = ap (λ (d : Database). d.trees) now in
@@ -164,7 +164,7 @@ module _ (old new : State) (text : List ℕ) (count : ℕ) where
           let same : new.now.schema ≡ without_index schema index.tree = ap (λ (d : Database). d.schema) now ∙ left.0 in
           let trees : new.now.trees ≡ all.0.trees = ap (λ (d : Database). d.trees) now in
           record {
-            schema = same ∙ sym (ap (index_dropped schema) place_is);
+            schema = same ∙ sym (ap (without_index_of schema) place_is);
             empty = λ none. moved new.now (without_index schema index.tree) all.0.trees same trees (still_empty old.now.trees all.0.trees schema.tables left.1 none);
             kept = subst (λ (x : Trees). KeepsRows schema.tables old.now.trees x) (sym trees) left.1;
           }
@@ -230,12 +230,12 @@ are_ready (text ∷ texts) s all =
     (λ _. record { plain = one.plain; whole = one.whole; changing = changing (command_of (understood s text)) (made_by s text) one.defining }, are_ready texts (made_by s text) all.1)
 
 -- the statements of the register create its tables
-pub texts_define : (s : Schema) (texts : List (List ℕ)) → s ≡ no_schema → texts ≡ land_texts → TextsLaw → AreReady s texts
-texts_define s texts s_is texts_is law = rw (s_is, texts_is) (are_ready land_texts no_schema law.creates)
+pub texts_define : (s : Schema) (texts : List (List ℕ)) → s ≡ no_schema → texts ≡ create_statements → TextsLaw → AreReady s texts
+texts_define s texts s_is texts_is law = rw (s_is, texts_is) (are_ready create_statements no_schema law.creates)
 
 none_there : (db : Database) (s : Schema) → db.schema ≡ s → s ≡ no_schema → AreEmpty db
 none_there db s db_is s_is = rw (db_is, s_is) tt
 
-pub texts_make : (old new : Database) (texts : List (List ℕ)) → old.schema ≡ no_schema → texts ≡ land_texts → TextsLaw → DefinesAll texts old new → IsMade new
+pub texts_make : (old new : Database) (texts : List (List ℕ)) → old.schema ≡ no_schema → texts ≡ create_statements → TextsLaw → DefinesAll texts old new → IsMade new
 texts_make old new texts old_is texts_is law did =
     record { schema = did.schema ∙ ap₂ made old_is texts_is ∙ law.makes; empty = did.empty (none_there old old.schema refl old_is) }

@@ -9,9 +9,9 @@ use Rattle.std.specs.Ordering.{is_eq, nat_cmp}
 use Rattle.std.specs.Prelude.{nat_eq, nat_lt}
 use Rattle.land_tables_schema.proofs.Named.{IsDrop, compiled_dropping, drop_by_name, drop_with, heard}
 use Rattle.land_tables_schema.proofs.Raisable.{first_but_for_indexes}
-use Rattle.land_tables_schema.specs.Definitions.{AreReady, IsChanging, IsReady, index_dropped, made, made_as, made_by}
-use Rattle.land_tables_schema.specs.Land.{IsFirst, IsRaisable, are_apart, first_with, is_apart, is_join, is_named, join_names, refuses_no_more, without_joins, without_named}
-use Rattle.land_tables_schema.specs.Laws.{drop_texts}
+use Rattle.land_tables_schema.specs.Definitions.{AreReady, IsChanging, IsReady, without_index_of, made, schema_after_command, made_by}
+use Rattle.land_tables_schema.specs.Schemas.{IsSchemaV1, IsMigratable, are_apart, schema_v1_with, is_apart, is_lookup_index, is_named, lookup_index_names, adds_no_constraint, without_lookup_indexes, without_named}
+use Rattle.land_tables_schema.specs.Laws.{drop_statements}
 use Rattle.sqlite.proofs.Callers.{command_of, statement_of}
 use Rattle.sqlite.specs.Command.{Command}
 use Rattle.sqlite.specs.Command.TheVariants.{DropIndex, Nothing}
@@ -130,15 +130,15 @@ drop_command None = Nothing
 drop_command (Some k) = DropIndex k
 
 -- if indexes differ by tree and name, dropping the first of a name drops all of that name
-loses : (text name : List ℕ) (is : List Index) → are_apart is ≡ true → (o : Option ℕ) → index_named (first_with [] is) name ≡ o
-    → made_as (first_with [] is) text (drop_command o) ≡ first_with [] (without_one name is)
-loses text name is apart None e = ap (λ l. first_with [] l) (sym (none_goes (λ (i : Index). same_name i.name name) is 0 e))
+loses : (text name : List ℕ) (is : List Index) → are_apart is ≡ true → (o : Option ℕ) → index_named (schema_v1_with [] is) name ≡ o
+    → schema_after_command (schema_v1_with [] is) text (drop_command o) ≡ schema_v1_with [] (without_one name is)
+loses text name is apart None e = ap (λ l. schema_v1_with [] l) (sym (none_goes (λ (i : Index). same_name i.name name) is 0 e))
 loses text name is apart (Some k) e =
     let p = placed (λ (i : Index). same_name i.name name) (λ (i : Index). list_all (is_apart i) is) is 0 k e apart in
     let at : k ≡ p.place = omega (arith, p.is) in
     let there : slice_get is k ≡ Some p.it = ap (slice_get is) at ∙ p.there in
-    ap (index_dropped (first_with [] is)) there
-    ∙ ap (λ l. first_with [] l)
+    ap (without_index_of (schema_v1_with [] is)) there
+    ∙ ap (λ l. schema_v1_with [] l)
     (same_filter (is_apart p.it) (λ (j : Index). not (nat_eq j.tree p.it.tree)) (λ (j : Index). not (same_name j.name name)) is
     (λ j h. ap not (told (same_name j.name p.it.name) (nat_eq j.tree p.it.tree) h ∙ alike j.name p.it.name name p.passes)) p.also)
 
@@ -153,21 +153,21 @@ record Heard (text : List ℕ) (r : Checked Compiled) (c : Command) : Type 0 whe
 -- a statement drops the index of a name, if there is one
 record Drops (text name : List ℕ) : Type 0 where
   it : IsDrop text name
-  absent : (indexes : List Index) → Heard text (heard text (compiled_dropping text name it (drop_with (first_with [] indexes) name None))) Nothing
-  present : (indexes : List Index) (k : ℕ) → Heard text (heard text (compiled_dropping text name it (drop_with (first_with [] indexes) name (Some k)))) (DropIndex k)
+  absent : (indexes : List Index) → Heard text (heard text (compiled_dropping text name it (drop_with (schema_v1_with [] indexes) name None))) Nothing
+  present : (indexes : List Index) (k : ℕ) → Heard text (heard text (compiled_dropping text name it (drop_with (schema_v1_with [] indexes) name (Some k)))) (DropIndex k)
 
 may_change : (o : Option ℕ) (after : Schema) → IsChanging (drop_command o) after
 may_change None after = tt
 may_change (Some k) after = tt
 
 abbrev Dropped : List ℕ → List ℕ → List Index → Type 0
-Dropped text name is = IsReady (first_with [] is) text × (made_by (first_with [] is) text ≡ first_with [] (without_one name is))
+Dropped text name is = IsReady (schema_v1_with [] is) text × (made_by (schema_v1_with [] is) text ≡ schema_v1_with [] (without_one name is))
 
 module _ (text name : List ℕ) (d : Drops text name) (is : List Index) (apart : are_apart is ≡ true) where
   abbrev schema : Schema
-  schema = first_with [] is
+  schema = schema_v1_with [] is
 
-  heard_as : (o : Option ℕ) → Heard text (heard text (compiled_dropping text name d.it (drop_with (first_with [] is) name o))) (drop_command o)
+  heard_as : (o : Option ℕ) → Heard text (heard text (compiled_dropping text name d.it (drop_with (schema_v1_with [] is) name o))) (drop_command o)
   heard_as None = d.absent is
   heard_as (Some k) = d.present is k
 
@@ -181,22 +181,22 @@ module _ (text name : List ℕ) (d : Drops text name) (is : List Index) (apart :
           whole = ap (statement_of text) same ∙ h.whole;
           changing = subst (λ (c : Command). IsChanging c (made_by schema text)) (sym command) (may_change o (made_by schema text));
         },
-        ap (made_as schema text) command ∙ loses text name is apart o e,
+        ap (schema_after_command schema text) command ∙ loses text name is apart o e,
       )
 
   dropped_one : Dropped text name is
   dropped_one = dropped_by (index_named schema name) refl
 
 dropped_all : (texts names : List (List ℕ)) → AllZip Drops texts names → (is : List Index) → are_apart is ≡ true
-    → AreReady (first_with [] is) texts × (made (first_with [] is) texts ≡ first_with [] (filter (λ i. not (is_named names i)) is))
-dropped_all [] [] drop is apart = (tt, ap (λ l. first_with [] l) (sym (all_stay is)))
+    → AreReady (schema_v1_with [] is) texts × (made (schema_v1_with [] is) texts ≡ schema_v1_with [] (filter (λ i. not (is_named names i)) is))
+dropped_all [] [] drop is apart = (tt, ap (λ l. schema_v1_with [] l) (sym (all_stay is)))
 dropped_all [] (n ∷ ns) drop is apart = absurd drop
 dropped_all (t ∷ ts) [] drop is apart = absurd drop
 dropped_all (t ∷ ts) (n ∷ ns) drop is apart =
     let one = dropped_one t n drop.0 is apart in
     let rest = dropped_all ts ns drop.1 (without_one n is) (apart_of (λ i. not (same_name i.name n)) is apart) in (
       (one.0, subst (λ s. AreReady s ts) (sym one.1) rest.0),
-      ap (λ s. made s ts) one.1 ∙ rest.1 ∙ ap (λ l. first_with [] l) (filter_twice (λ (i : Index). same_name i.name n) (is_named ns) is),
+      ap (λ s. made s ts) one.1 ∙ rest.1 ∙ ap (λ l. schema_v1_with [] l) (filter_twice (λ (i : Index). same_name i.name n) (is_named ns) is),
     )
 
 statement_in : (r : Checked Parsed) → is_ok r ≡ true → Parsed
@@ -287,20 +287,20 @@ role_role_dropped = record {
   present = λ indexes k. record { command = refl; plain = (refl, refl); whole = refl };
 }
 
-join_drops : AllZip Drops drop_texts join_names
+join_drops : AllZip Drops drop_statements lookup_index_names
 join_drops = (rrr_party_dropped, (rrr_unit_dropped, (parcel_unit_dropped, (member_party_dropped, (names_unit_dropped, (mutation_lodger_dropped, (role_role_dropped, tt)))))))
 
 -- the statements are ready to run, and drop the plain indexes of version 1
-pub drops_ready : (s : Schema) → IsRaisable s → AreReady s drop_texts × (made s drop_texts ≡ without_joins s)
+pub drops_ready : (s : Schema) → IsMigratable s → AreReady s drop_statements × (made s drop_statements ≡ without_lookup_indexes s)
 drops_ready s able =
-    subst (λ (x : Schema). AreReady x drop_texts × (made x drop_texts ≡ without_joins x)) (sym (first_but_for_indexes s able.first))
-    (dropped_all drop_texts join_names join_drops s.indexes able.apart)
+    subst (λ (x : Schema). AreReady x drop_statements × (made x drop_statements ≡ without_lookup_indexes x)) (sym (first_but_for_indexes s able.first))
+    (dropped_all drop_statements lookup_index_names join_drops s.indexes able.apart)
 
 -- without some indexes the schema still has version 1
-pub first_without : (names : List (List ℕ)) (s : Schema) → IsFirst s → IsFirst (without_named names s)
+pub first_without : (names : List (List ℕ)) (s : Schema) → IsSchemaV1 s → IsSchemaV1 (without_named names s)
 first_without names s first = record {
   tables = first.tables;
-  indexes = all_of (refuses_no_more s.tables) (λ i. not (is_named names i)) s.indexes first.indexes;
+  indexes = all_of (adds_no_constraint s.tables) (λ i. not (is_named names i)) s.indexes first.indexes;
   views = first.views;
 }
 
@@ -353,10 +353,10 @@ reaches (i ∷ is) n h = go (nat_eq i.tree 19) refl h (reaches is (max n (i.tree
     go false e h rest = rest h
 
 -- without the plain indexes of version 1, the next tree is that of `mandate`
-pub next_is : (s : Schema) → IsRaisable s → next_tree (without_joins s) ≡ 20
+pub next_is : (s : Schema) → IsMigratable s → next_tree (without_lookup_indexes s) ≡ 20
 next_is s able =
-    let left = filter (λ i. not (is_join i)) s.indexes in
-    let low = most left 19 (omega arith) (narrowed is_join (λ (i : Index). nat_lt i.tree 20) s.indexes able.before) in
-    let high = reaches left 19 (one_left is_join (λ (i : Index). nat_eq i.tree 19) s.indexes able.last) in
+    let left = filter (λ i. not (is_lookup_index i)) s.indexes in
+    let low = most left 19 (omega arith) (narrowed is_lookup_index (λ (i : Index). nat_lt i.tree 20) s.indexes able.before) in
+    let high = reaches left 19 (one_left is_lookup_index (λ (i : Index). nat_eq i.tree 19) s.indexes able.last) in
     let is : past_indexes 19 left ≡ 20 = omega (arith, low, high) in
-    ap (λ (x : Schema). next_tree (without_joins x)) (first_but_for_indexes s able.first) ∙ is
+    ap (λ (x : Schema). next_tree (without_lookup_indexes x)) (first_but_for_indexes s able.first) ∙ is

@@ -6,8 +6,8 @@ use Rattle.land_tables_schema.proofs.Casts.{cast_null, cast_whole}
 use Rattle.land_tables_schema.proofs.KnownSchemas.{but_for_indexes}
 use Rattle.land_tables_schema.proofs.Statements.{IsInsertion, inserts}
 use Rattle.land_tables_schema.proofs.Updates.{plainly}
-use Rattle.land_tables_schema.specs.Land.{HasFirstTables, IsLand, first_with, land_with}
-use Rattle.land_tables_schema.specs.Rows.Edition.{current_edition, edition_row}
+use Rattle.land_tables_schema.specs.Schemas.{ContainsSchemaV1, IsSchemaV2, schema_v1_with, schema_v2_with}
+use Rattle.land_tables_schema.specs.Rows.Edition.{v2_edition, edition_row}
 use Rattle.land_tables_schema.specs.Rows.Forms.{Appends}
 use Rattle.land_tables_schema.specs.Tables as table
 use Rattle.land_tables_schema.specs.declared.rows.tables.edition.TheConstants.{ALL, INSERT}
@@ -23,20 +23,20 @@ use Rattle.sqlite_value.specs.Order.{column}
 abbrev terms : List Term
 terms = lit (Int (pos 1)) ∷ lit Null ∷ lit (Int (pos 2)) ∷ []
 
-inserts_one : (indexes : List Index) → IsInsertion (land_with indexes) INSERT.now 0 table.edition terms 3
+inserts_one : (indexes : List Index) → IsInsertion (schema_v2_with indexes) INSERT.now 0 table.edition terms 3
 unfolding understood everything
 inserts_one indexes = record { command = refl; plain = (refl, refl); table = refl; one = λ _. refl; alone = λ _ _. refl }
 
-pub puts_in : (old new : State) (count : ℕ) → IsLand old.now.schema → Executes INSERT.now [] old new (Ok count) → Appends table.edition edition_row current_edition old.now new.now
-puts_in old new count land h =
+pub puts_in : (old new : State) (count : ℕ) → IsSchemaV2 old.now.schema → Executes INSERT.now [] old new (Ok count) → Appends table.edition edition_row v2_edition old.now new.now
+puts_in old new count has_tables h =
     let indexes = old.now.schema.indexes in
-    let has = but_for_indexes old.now.schema land in
-    appends table.edition edition_row current_edition (pos 1) (Null ∷ Int (pos 2) ∷ []) refl indexes old.now new.now
-    (inserts (land_with indexes) INSERT.now 0 table.edition terms 3 (inserts_one indexes) old new [] count has h) has (simp (cast_null, cast_whole))
+    let has = but_for_indexes old.now.schema has_tables in
+    appends table.edition edition_row v2_edition (pos 1) (Null ∷ Int (pos 2) ∷ []) refl indexes old.now new.now
+    (inserts (schema_v2_with indexes) INSERT.now 0 table.edition terms 3 (inserts_one indexes) old new [] count has h) has (simp (cast_null, cast_whole))
 
-asks_all : (more : List Table) (indexes : List Index) → Asks (first_with more indexes) ALL.now (plainly 0 [] (col 1 0 ∷ col 1 2 ∷ []))
+asks_all : (more : List Table) (indexes : List Index) → Asks (schema_v1_with more indexes) ALL.now (plainly 0 [] (col 1 0 ∷ col 1 2 ∷ []))
 unfolding understood everything
 asks_all more indexes = record { names = codes "id" ∷ codes "version" ∷ []; command = refl; unlisted = refl; plain = (refl, refl) }
 
-pub listing : IsListing HasFirstTables 0 ALL.now (col 1 0 ∷ col 1 2 ∷ []) (λ r. column r 0 ∷ column r 2 ∷ [])
+pub listing : IsListing ContainsSchemaV1 0 ALL.now (col 1 0 ∷ col 1 2 ∷ []) (λ r. column r 0 ∷ column r 2 ∷ [])
 listing = record { asks = in_first ALL.now (plainly 0 [] (col 1 0 ∷ col 1 2 ∷ [])) asks_all; read = λ db. refl; shows = λ r. refl }

@@ -5,11 +5,11 @@ use Rattle.std.specs.List.{AllByRecursion, IsDistinct}
 use Rattle.std.specs.Ordering.{int_eq}
 use Rattle.land_tables_schema.proofs.Changes.{with_editions, with_moments, with_parties, with_roles}
 use Rattle.land_tables_schema.proofs.Steps.{step_then, was_clean}
-use Rattle.land_tables_schema.specs.Land.{IsLand, made_schema}
+use Rattle.land_tables_schema.specs.Schemas.{IsSchemaV2, v2_schema}
 use Rattle.land_tables_schema.specs.Making.{IsMade}
 use Rattle.land_tables_schema.specs.Rows.Held.{HoldsRows, IsNew, Rows}
-use Rattle.land_tables_schema.specs.Rows.Edition.{current_edition, edition_row}
-use Rattle.land_tables_schema.specs.Rows.Forms.{Form, Holds, Adds, Appends}
+use Rattle.land_tables_schema.specs.Rows.Edition.{v2_edition, edition_row}
+use Rattle.land_tables_schema.specs.Rows.Forms.{Form, Holds, InsertsVersion, Appends}
 use Rattle.land_tables_schema.specs.Rows.Mandate.{mandates}
 use Rattle.land_tables_schema.specs.Rows.Member.{members}
 use Rattle.land_tables_schema.specs.Rows.Moments.{moment_row}
@@ -21,8 +21,8 @@ use Rattle.land_tables_schema.specs.Rows.Role.{roles}
 use Rattle.land_tables_schema.specs.Rows.Rrr.{rrrs}
 use Rattle.land_tables_schema.specs.Rows.Source.{sources}
 use Rattle.land_tables_schema.specs.Rows.Unit.{units}
-use Rattle.land_tables_schema.specs.Rows.Versions.{begun}
-use Rattle.land_tables_schema.specs.Steps.{IsStep}
+use Rattle.land_tables_schema.specs.Rows.Versions.{opened_version}
+use Rattle.land_tables_schema.specs.Steps.{IsTransactionStep}
 use Rattle.land_tables_schema.specs.Tables as table
 use Rattle.sqlite.specs.Effect.{Database}
 use Rattle.sqlite.specs.State.{HasCleanDisk, State}
@@ -31,7 +31,7 @@ use Rattle.sqlite_schema.specs.declared.schema.Table.{Table}
 use Rattle.sqlite_trees.specs.Tree.{Trees}
 
 -- the created schema is that of a register
-pub made_is_land : (s : Schema) → s ≡ made_schema → IsLand s
+pub made_is_land : (s : Schema) → s ≡ v2_schema → IsSchemaV2 s
 made_is_land s is = rw is (record { tables = refl; indexes = refl; views = refl })
 
 none_apart : IsDistinct int_eq []
@@ -42,7 +42,7 @@ none_apart = tt
 pub none_held : {X : Type 0} (form : Form X) (db : Trees) → db form.table.tree ≡ [] → Holds form db []
 none_held form db none = record { rows = rw none (IsPermutation-refl []); numbered = rw none (record { whole = refl; apart = none_apart }) }
 
-none_in : (db : Database) (s : Schema) → s ≡ made_schema → AllByRecursion (λ (t : Table). db.trees t.tree ≡ []) s.tables → AllByRecursion (λ (t : Table). db.trees t.tree ≡ []) made_schema.tables
+none_in : (db : Database) (s : Schema) → s ≡ v2_schema → AllByRecursion (λ (t : Table). db.trees t.tree ≡ []) s.tables → AllByRecursion (λ (t : Table). db.trees t.tree ≡ []) v2_schema.tables
 none_in db s is none = subst (λ (s : Schema). AllByRecursion (λ (t : Table). db.trees t.tree ≡ []) s.tables) is none
 
 abbrev no_rows : Rows
@@ -68,11 +68,11 @@ nothing_held db made =
     }
 
 -- the first rows, in order
-pub first_rows : (made a b c d : Database) → IsMade made → Appends table.edition edition_row current_edition made a → Appends table.moments moment_row (record { stamp = pos 0; next = 2 }) a b
-    → Adds parties (begun (record { number = 1; name = codes "Land Office"; kind = codes "nonNaturalPerson" }) (pos 0)) b c → Adds roles (begun (record { party = 1; role = codes "stateAdministrator" }) (pos 0)) c d → IsNew d
+pub first_rows : (made a b c d : Database) → IsMade made → Appends table.edition edition_row v2_edition made a → Appends table.moments moment_row (record { stamp = pos 0; next = 2 }) a b
+    → InsertsVersion parties (opened_version (record { number = 1; name = codes "Land Office"; kind = codes "nonNaturalPerson" }) (pos 0)) b c → InsertsVersion roles (opened_version (record { party = 1; role = codes "stateAdministrator" }) (pos 0)) c d → IsNew d
 first_rows made a b c d is edition moment party role =
     let none = nothing_held made is in
-    let one = with_editions made.trees a.trees no_rows none (current_edition ∷ []) edition.kept (edition.listed [] none.the_editions) in
+    let one = with_editions made.trees a.trees no_rows none (v2_edition ∷ []) edition.kept (edition.listed [] none.the_editions) in
     let two = with_moments a.trees b.trees _ one (record { stamp = pos 0; next = 2 } ∷ []) moment.kept (moment.listed [] one.the_moments) in
     let three = with_parties b.trees c.trees _ two _ party.kept (party.held [] two.the_parties) in
     let four = with_roles c.trees d.trees _ three _ role.kept (role.held [] three.the_roles) in
@@ -83,15 +83,15 @@ Anything old new = Unit {0}
 
 -- the calls that insert them, in order
 pub first_steps : {W X Y Z E : Type 0} {w : W} {x : X} {y : Y} {z : Z} (made a b c d : State) → (HasCleanDisk made → IsMade made.now)
-    → IsStep {X = W} {E = E} (Ok w) (Appends table.edition edition_row current_edition) made a
-    → IsStep {X = X} {E = E} (Ok x) (Appends table.moments moment_row (record { stamp = pos 0; next = 2 })) a b
-    → IsStep {X = Y} {E = E} (Ok y) (Adds parties (begun (record { number = 1; name = codes "Land Office"; kind = codes "nonNaturalPerson" }) (pos 0))) b c
-    → IsStep {X = Z} {E = E} (Ok z) (Adds roles (begun (record { party = 1; role = codes "stateAdministrator" }) (pos 0))) c d
-    → IsStep {X = Unit {0}} {E = E} (Ok tt) (λ _ new. IsNew new) made d
+    → IsTransactionStep {X = W} {E = E} (Ok w) (Appends table.edition edition_row v2_edition) made a
+    → IsTransactionStep {X = X} {E = E} (Ok x) (Appends table.moments moment_row (record { stamp = pos 0; next = 2 })) a b
+    → IsTransactionStep {X = Y} {E = E} (Ok y) (InsertsVersion parties (opened_version (record { number = 1; name = codes "Land Office"; kind = codes "nonNaturalPerson" }) (pos 0))) b c
+    → IsTransactionStep {X = Z} {E = E} (Ok z) (InsertsVersion roles (opened_version (record { party = 1; role = codes "stateAdministrator" }) (pos 0))) c d
+    → IsTransactionStep {X = Unit {0}} {E = E} (Ok tt) (λ _ new. IsNew new) made d
 first_steps {E = E} made a b c d is edition moment party role =
-    let two : IsStep {X = Unit {0}} {E = E} (Ok tt) Anything made b = step_then made a b edition moment (λ _ _ _. tt) in
-    let three : IsStep {X = Unit {0}} {E = E} (Ok tt) Anything made c = step_then made b c two party (λ _ _ _. tt) in
-    let four : IsStep {X = Unit {0}} {E = E} (Ok tt) Anything made d = step_then made c d three role (λ _ _ _. tt) in
+    let two : IsTransactionStep {X = Unit {0}} {E = E} (Ok tt) Anything made b = step_then made a b edition moment (λ _ _ _. tt) in
+    let three : IsTransactionStep {X = Unit {0}} {E = E} (Ok tt) Anything made c = step_then made b c two party (λ _ _ _. tt) in
+    let four : IsTransactionStep {X = Unit {0}} {E = E} (Ok tt) Anything made d = step_then made c d three role (λ _ _ _. tt) in
     record {
       done = λ clean.
           let at_c = was_clean c d role.survives clean in

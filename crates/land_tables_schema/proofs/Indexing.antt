@@ -5,9 +5,9 @@ use Rattle.std.specs.List.{AllByRecursion, list_any}
 use Rattle.std.proofs.lemmas.Bool.{false≢true}
 use Rattle.land_tables_schema.proofs.Named.{IsIndex, compiled_by, heard, index_by_name, index_with, index_without}
 use Rattle.land_tables_schema.proofs.Raisable.{but_for_indexes}
-use Rattle.land_tables_schema.specs.Definitions.{AreReady, IsChanging, IsReady, index_made, index_on, made, made_as, made_by}
-use Rattle.land_tables_schema.specs.Land.{IsLand, an_index, is_key_of, land_with, refuses_no_more}
-use Rattle.land_tables_schema.specs.Laws.{index_texts}
+use Rattle.land_tables_schema.specs.Definitions.{AreReady, IsChanging, IsReady, with_index_of, index_on, made, schema_after_command, made_by}
+use Rattle.land_tables_schema.specs.Schemas.{IsSchemaV2, an_index, is_key_of, schema_v2_with, adds_no_constraint}
+use Rattle.land_tables_schema.specs.Laws.{index_statements}
 use Rattle.land_tables_schema.specs.Tables as table
 use Rattle.land_tables_schema.specs.Tables.{land_tables}
 use Rattle.land_tables_schema.specs.declared.tables.mandate.TheConstants as mandate
@@ -56,34 +56,34 @@ record MakesPlain (text : List ℕ) : Type 0 where
   place : ℕ
   on : Table
   index : Index
-  command : command_of (understood (land_with []) text) ≡ CreateIndex place
-  plain : IsPlain (understood (land_with []) text)
-  whole : statement_of text (understood (land_with []) text) ≡ text
+  command : command_of (understood (schema_v2_with []) text) ≡ CreateIndex place
+  plain : IsPlain (understood (schema_v2_with []) text)
+  whole : statement_of text (understood (schema_v2_with []) text) ≡ text
   there : slice_get land_tables place ≡ Some on
   defined : index_defined_by on text ≡ Ok index
   common : index.is_unique ≡ false
-  taken : (indexes : List Index) (k : ℕ) → heard text (compiled_by text it (index_with (land_with indexes) it.def (Some k))) ≡ Err Exists
+  taken : (indexes : List Index) (k : ℕ) → heard text (compiled_by text it (index_with (schema_v2_with indexes) it.def (Some k))) ≡ Err Exists
 
 -- one more plain index rejects no more rows
-indexed_is_land : (s : Schema) (t : Table) (i : Index) → i.is_unique ≡ false → IsLand s → IsLand (indexed s t i)
-indexed_is_land s t i common land =
+indexed_is_land : (s : Schema) (t : Table) (i : Index) → i.is_unique ≡ false → IsSchemaV2 s → IsSchemaV2 (indexed s t i)
+indexed_is_land s t i common has_tables =
     let new : Index = record i { tree = next_tree s; table = t.tree } in
     record {
-      tables = land.tables;
-      indexes = list_all_push (refuses_no_more s.tables) s.indexes new land.indexes (ap (λ b. not b || list_any (is_key_of new) s.tables) common);
-      views = land.views;
+      tables = has_tables.tables;
+      indexes = list_all_push (adds_no_constraint s.tables) s.indexes new has_tables.indexes (ap (λ b. not b || list_any (is_key_of new) s.tables) common);
+      views = has_tables.views;
     }
 
 abbrev Indexed : List ℕ → Schema → Type 0
-Indexed text s = IsReady s text × IsLand (made_by s text)
+Indexed text s = IsReady s text × IsSchemaV2 (made_by s text)
 
-module _ (text : List ℕ) (m : MakesPlain text) (is : List Index) (land : IsLand (land_with is)) where
+module _ (text : List ℕ) (m : MakesPlain text) (is : List Index) (has_tables : IsSchemaV2 (schema_v2_with is)) where
   abbrev schema : Schema
-  schema = land_with is
+  schema = schema_v2_with is
 
-  made_as_known : (c : Command) (s : Schema) → c ≡ CreateIndex m.place → s ≡ indexed schema m.on m.index → made_as schema text c ≡ s
+  made_as_known : (c : Command) (s : Schema) → c ≡ CreateIndex m.place → s ≡ indexed schema m.on m.index → schema_after_command schema text c ≡ s
   made_as_known c s c_is s_is =
-      ap (made_as schema text) c_is ∙ ap (index_on schema text) m.there ∙ ap (index_made schema m.on) m.defined ∙ sym s_is
+      ap (schema_after_command schema text) c_is ∙ ap (index_on schema text) m.there ∙ ap (with_index_of schema m.on) m.defined ∙ sym s_is
 
   free_name : index_named schema m.it.def.name ≡ None → Indexed text schema
   free_name e =
@@ -94,29 +94,29 @@ module _ (text : List ℕ) (m : MakesPlain text) (is : List Index) (land : IsLan
           whole = ap (statement_of text) same ∙ m.whole;
           changing = subst (λ (c : Command). IsChanging c (made_by schema text)) (sym command) tt;
         },
-        subst IsLand (sym (made_as_known (command_of (understood schema text)) (indexed schema m.on m.index) command refl)) (indexed_is_land schema m.on m.index m.common land),
+        subst IsSchemaV2 (sym (made_as_known (command_of (understood schema text)) (indexed schema m.on m.index) command refl)) (indexed_is_land schema m.on m.index m.common has_tables),
       )
 
   taken_name : (k : ℕ) → index_named schema m.it.def.name ≡ Some k → Indexed text schema
   taken_name k e =
       let none = index_by_name text m.it schema (Some k) e ∙ m.taken is k in (
         λ ok. absurd (false≢true (sym (ap is_ok none) ∙ ok)),
-        subst IsLand (sym (ap (λ r. made_as schema text (command_of r)) none)) land,
+        subst IsSchemaV2 (sym (ap (λ r. schema_after_command schema text (command_of r)) none)) has_tables,
       )
 
   by_name : (o : Option ℕ) → index_named schema m.it.def.name ≡ o → Indexed text schema
   by_name None e = free_name e
   by_name (Some k) e = taken_name k e
 
-indexed_one : (text : List ℕ) → MakesPlain text → (s : Schema) → IsLand s → Indexed text s
-indexed_one text m s land =
-    let is = but_for_indexes s land in
-    subst (Indexed text) (sym is) (by_name text m s.indexes (subst IsLand is land) (index_named (land_with s.indexes) m.it.def.name) refl)
+indexed_one : (text : List ℕ) → MakesPlain text → (s : Schema) → IsSchemaV2 s → Indexed text s
+indexed_one text m s has_tables =
+    let is = but_for_indexes s has_tables in
+    subst (Indexed text) (sym is) (by_name text m s.indexes (subst IsSchemaV2 is has_tables) (index_named (schema_v2_with s.indexes) m.it.def.name) refl)
 
-indexed_all : (texts : List (List ℕ)) → AllByRecursion MakesPlain texts → (s : Schema) → IsLand s → AreReady s texts × IsLand (made s texts)
-indexed_all [] all s land = (tt, land)
-indexed_all (text ∷ texts) all s land =
-    let one = indexed_one text all.0 s land in
+indexed_all : (texts : List (List ℕ)) → AllByRecursion MakesPlain texts → (s : Schema) → IsSchemaV2 s → AreReady s texts × IsSchemaV2 (made s texts)
+indexed_all [] all s has_tables = (tt, has_tables)
+indexed_all (text ∷ texts) all s has_tables =
+    let one = indexed_one text all.0 s has_tables in
     let rest = indexed_all texts all.1 (made_by s text) one.1 in
     ((one.0, rest.0), rest.1)
 
@@ -280,12 +280,12 @@ mandate_agent_made = record {
   taken = λ indexes k. refl;
 }
 
-each_made : AllByRecursion MakesPlain index_texts
+each_made : AllByRecursion MakesPlain index_statements
 each_made = (rrr_party_made, (rrr_unit_made, (parcel_unit_made, (member_party_made, (names_unit_made, (mutation_lodger_made, (role_role_made, (mandate_agent_made, tt))))))))
 
 -- the statements are ready to run on a register, and it stays one
-pub indexes_ready : (s : Schema) → IsLand s → AreReady s index_texts × IsLand (made s index_texts)
-indexes_ready s land = indexed_all index_texts each_made s land
+pub indexes_ready : (s : Schema) → IsSchemaV2 s → AreReady s index_statements × IsSchemaV2 (made s index_statements)
+indexes_ready s has_tables = indexed_all index_statements each_made s has_tables
 
-pub plain_are_land : (s : Schema) → IsLand s → IsLand (made s index_texts)
-plain_are_land s land = (indexes_ready s land).1
+pub plain_are_land : (s : Schema) → IsSchemaV2 s → IsSchemaV2 (made s index_statements)
+plain_are_land s has_tables = (indexes_ready s has_tables).1

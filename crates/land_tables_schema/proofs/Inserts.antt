@@ -4,9 +4,9 @@ use Rattle.std.proofs.lemmas.List.Sorted.{IsPermutation-sym, IsPermutation-trans
 use Rattle.land_tables_schema.proofs.Numbers.{numbered_anyhow, numbered_more}
 use Rattle.land_tables_schema.proofs.Puts.{puts_are}
 use Rattle.land_tables_schema.proofs.Statements.{IsEdited, bare}
-use Rattle.land_tables_schema.specs.Land.{land_with}
-use Rattle.land_tables_schema.specs.Rows.Forms.{Form, Holds, Adds}
-use Rattle.land_tables_schema.specs.Rows.Looks.{columns_from}
+use Rattle.land_tables_schema.specs.Schemas.{schema_v2_with}
+use Rattle.land_tables_schema.specs.Rows.Forms.{Form, Holds, InsertsVersion}
+use Rattle.land_tables_schema.specs.Rows.ReadQueries.{columns_from}
 use Rattle.sqlite.specs.Cast.{cast_row}
 use Rattle.sqlite.specs.Edit.{edit_of}
 use Rattle.sqlite.specs.Effect.{Database}
@@ -22,8 +22,8 @@ was_free true h = absurd (let e = h in cc)
 was_free false h = refl
 
 module _ {X : Type 0} (form : Form X) (x : X) (fills : (id : ℤ) (x : X) → columns_from 1 form.width (Int id ∷ form.cells x) ≡ form.cells x) (indexes : List Index) (old new : Database)
-    (is : IsEdited (land_with indexes) (edit_of old.trees (bare form.table) [] Chosen 0 ((Null ∷ form.cells x) ∷ [])) old new)
-    (has : old.schema ≡ land_with indexes) (exact : cast_row (bare form.table) (Null ∷ form.cells x) ≡ Null ∷ form.cells x) where
+    (is : IsEdited (schema_v2_with indexes) (edit_of old.trees (bare form.table) [] Chosen 0 ((Null ∷ form.cells x) ∷ [])) old new)
+    (has : old.schema ≡ schema_v2_with indexes) (exact : cast_row (bare form.table) (Null ∷ form.cells x) ≡ Null ∷ form.cells x) where
   abbrev rows : List Row
   rows = old.trees form.table.tree
 
@@ -54,5 +54,5 @@ module _ {X : Type 0} (form : Form X) (x : X) (fills : (id : ℤ) (x : X) → co
     numbered = numbered_anyhow (made ∷ rows) (new.trees form.table.tree) moved (numbered_more (next_rowid rows) (form.cells x) rows (was_free (is_taken rows made) fresh) held.numbered);
   }
 
-  pub adds : Adds form x old new
+  pub adds : InsertsVersion form x old new
   adds = record { schema = is.schema_is ∙ sym has; held = holds; kept = is.others }

@@ -25,7 +25,7 @@ pub mod Parcels
 pub mod Parties
 pub mod Puts
 pub mod Raisable
-pub mod Raising
+pub mod SchemaMigration
 pub mod Refusals
 pub mod Rewrites
 pub mod Roles

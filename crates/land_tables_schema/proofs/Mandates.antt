@@ -6,8 +6,8 @@ use Rattle.land_tables_schema.proofs.Casts.{all_three, cast_null, cast_whole, sa
 use Rattle.land_tables_schema.proofs.Statements.{IsInsertion, IsUpdate}
 use Rattle.land_tables_schema.proofs.Updates.{plainly}
 use Rattle.land_tables_schema.proofs.Versions.{IsBeginning, IsClosing, begin_terms, close_terms, columns_of}
-use Rattle.land_tables_schema.specs.Land.{IsLand, land_with}
-use Rattle.land_tables_schema.specs.Rows.Looks.{columns_from}
+use Rattle.land_tables_schema.specs.Schemas.{IsSchemaV2, schema_v2_with}
+use Rattle.land_tables_schema.specs.Rows.ReadQueries.{columns_from}
 use Rattle.land_tables_schema.specs.Rows.Mandate.{is_mandate, mandate_cells}
 use Rattle.land_tables_schema.specs.Rows.Versions.{never, whole}
 use Rattle.land_tables_schema.specs.Tables as table
@@ -22,7 +22,7 @@ use Rattle.sqlite_tied.specs.Compute.{everything}
 use Rattle.sqlite_typed.proofs.TestLemmas.{at_ints, then_term, last_term}
 use Rattle.sqlite_value.specs.declared.keys.Collation.TheVariants.{Binary}
 
-inserts_one : (indexes : List Index) → IsInsertion (land_with indexes) BEGIN.now 11 table.mandate (begin_terms 2) 5
+inserts_one : (indexes : List Index) → IsInsertion (schema_v2_with indexes) BEGIN.now 11 table.mandate (begin_terms 2) 5
 unfolding understood everything
 inserts_one indexes = record { command = refl; plain = (refl, refl); table = refl; one = λ _. refl; alone = λ _ _. refl }
 
@@ -32,7 +32,7 @@ beginning = record { insertion = inserts_one; fills = λ id v. refl; shows = λ 
 abbrev pub where_it_stands : List Term
 where_it_stands = op2 (Compare Eq Binary) (col 1 1) (col 0 0) ∷ op2 (Compare Eq Binary) (col 1 2) (col 0 1) ∷ op2 (Compare Eq Binary) (col 1 4) (lit (Int never)) ∷ []
 
-updates_it : (indexes : List Index) → IsUpdate (land_with indexes) CLOSE.now 11 table.mandate (plainly 20 where_it_stands (close_terms 2 2))
+updates_it : (indexes : List Index) → IsUpdate (schema_v2_with indexes) CLOSE.now 11 table.mandate (plainly 20 where_it_stands (close_terms 2 2))
 unfolding understood everything
 updates_it indexes = record { command = refl; plain = (refl, refl); table = refl; alone = λ _ _ _. refl }
 
@@ -52,9 +52,9 @@ closing principal agent = record {
   };
 }
 
-asks_all : (indexes : List Index) → Asks (land_with indexes) ALL.now (plainly 20 [] (columns_of 1 1 4))
+asks_all : (indexes : List Index) → Asks (schema_v2_with indexes) ALL.now (plainly 20 [] (columns_of 1 1 4))
 unfolding understood everything
 asks_all indexes = record { names = codes "principal" ∷ codes "agent" ∷ codes "since" ∷ codes "until" ∷ []; command = refl; unlisted = refl; plain = (refl, refl) }
 
-pub listing : IsListing IsLand 20 ALL.now (columns_of 1 1 4) (columns_from 1 4)
+pub listing : IsListing IsSchemaV2 20 ALL.now (columns_of 1 1 4) (columns_from 1 4)
 listing = record { asks = in_land ALL.now (plainly 20 [] (columns_of 1 1 4)) asks_all; read = λ db. refl; shows = λ r. refl }

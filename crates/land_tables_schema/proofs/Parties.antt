@@ -6,8 +6,8 @@ use Rattle.land_tables_schema.proofs.Casts.{cast_null, cast_whole, same_number}
 use Rattle.land_tables_schema.proofs.Statements.{IsInsertion, IsUpdate}
 use Rattle.land_tables_schema.proofs.Updates.{plainly}
 use Rattle.land_tables_schema.proofs.Versions.{IsBeginning, IsClosing, begin_terms, close_terms, columns_of}
-use Rattle.land_tables_schema.specs.Land.{HasFirstTables, first_with, land_with}
-use Rattle.land_tables_schema.specs.Rows.Looks.{columns_from}
+use Rattle.land_tables_schema.specs.Schemas.{ContainsSchemaV1, schema_v1_with, schema_v2_with}
+use Rattle.land_tables_schema.specs.Rows.ReadQueries.{columns_from}
 use Rattle.land_tables_schema.specs.Rows.Party.{is_party, party_cells}
 use Rattle.land_tables_schema.specs.Rows.Versions.{never, whole}
 use Rattle.land_tables_schema.specs.Tables.{party}
@@ -23,7 +23,7 @@ use Rattle.sqlite_tied.specs.Compute.{everything}
 use Rattle.sqlite_typed.proofs.TestLemmas.{at_ints, then_term, last_term}
 use Rattle.sqlite_value.specs.declared.keys.Collation.TheVariants.{Binary}
 
-inserts_one : (indexes : List Index) → IsInsertion (land_with indexes) BEGIN.now 2 party (begin_terms 3) 6
+inserts_one : (indexes : List Index) → IsInsertion (schema_v2_with indexes) BEGIN.now 2 party (begin_terms 3) 6
 unfolding understood everything
 inserts_one indexes = record { command = refl; plain = (refl, refl); table = refl; one = λ _. refl; alone = λ _ _. refl }
 
@@ -33,7 +33,7 @@ beginning = record { insertion = inserts_one; fills = λ id v. refl; shows = λ 
 abbrev pub where_it_stands : List Term
 where_it_stands = op2 (Compare Eq Binary) (col 1 1) (col 0 0) ∷ op2 (Compare Eq Binary) (col 1 5) (lit (Int never)) ∷ []
 
-updates_it : (indexes : List Index) → IsUpdate (land_with indexes) CLOSE.now 2 party (plainly 2 where_it_stands (close_terms 3 1))
+updates_it : (indexes : List Index) → IsUpdate (schema_v2_with indexes) CLOSE.now 2 party (plainly 2 where_it_stands (close_terms 3 1))
 unfolding understood everything
 updates_it indexes = record { command = refl; plain = (refl, refl); table = refl; alone = λ _ _ _. refl }
 
@@ -51,9 +51,9 @@ closing number = record {
   };
 }
 
-asks_all : (more : List Table) (indexes : List Index) → Asks (first_with more indexes) ALL.now (plainly 2 [] (columns_of 1 1 5))
+asks_all : (more : List Table) (indexes : List Index) → Asks (schema_v1_with more indexes) ALL.now (plainly 2 [] (columns_of 1 1 5))
 unfolding understood everything
 asks_all more indexes = record { names = codes "number" ∷ codes "name" ∷ codes "kind" ∷ codes "since" ∷ codes "until" ∷ []; command = refl; unlisted = refl; plain = (refl, refl) }
 
-pub listing : IsListing HasFirstTables 2 ALL.now (columns_of 1 1 5) (columns_from 1 5)
+pub listing : IsListing ContainsSchemaV1 2 ALL.now (columns_of 1 1 5) (columns_from 1 5)
 listing = record { asks = in_first ALL.now (plainly 2 [] (columns_of 1 1 5)) asks_all; read = λ db. refl; shows = λ r. refl }

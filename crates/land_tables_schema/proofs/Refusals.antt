@@ -1,7 +1,7 @@
 -- Statements that a store rejects before it reads.
 use Rattle.std.proofs.Common.{◌≡◌, ◌∙◌, inl, inr, sym, ℕ, List, [], IsTrue}
 use Rattle.land_tables_schema.proofs.Looking.{unchanged_left}
-use Rattle.land_tables_schema.specs.Rows.Looks.{IsLeft}
+use Rattle.land_tables_schema.specs.Rows.ReadQueries.{IsLeft}
 use Rattle.sqlite.specs.State.{IsNotRun, IsUnchanged, State, store_error}
 use Rattle.sqlite.specs.declared.error.Error.{Error}
 use Rattle.sqlite.specs.declared.error.Error.TheVariants.{SqlInputError}

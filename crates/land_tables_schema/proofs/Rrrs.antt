@@ -6,8 +6,8 @@ use Rattle.land_tables_schema.proofs.Casts.{cast_null, cast_text_or_null, cast_w
 use Rattle.land_tables_schema.proofs.Statements.{IsInsertion, IsUpdate}
 use Rattle.land_tables_schema.proofs.Updates.{plainly}
 use Rattle.land_tables_schema.proofs.Versions.{IsBeginning, IsClosing, begin_terms, close_terms, columns_of}
-use Rattle.land_tables_schema.specs.Land.{HasFirstTables, first_with, land_with}
-use Rattle.land_tables_schema.specs.Rows.Looks.{columns_from}
+use Rattle.land_tables_schema.specs.Schemas.{ContainsSchemaV1, schema_v1_with, schema_v2_with}
+use Rattle.land_tables_schema.specs.Rows.ReadQueries.{columns_from}
 use Rattle.land_tables_schema.specs.Rows.Rrr.{is_rrr, rrr_cells}
 use Rattle.land_tables_schema.specs.Rows.Versions.{never, whole}
 use Rattle.land_tables_schema.specs.Tables.{rrr}
@@ -23,7 +23,7 @@ use Rattle.sqlite_tied.specs.Compute.{everything}
 use Rattle.sqlite_typed.proofs.TestLemmas.{at_ints, then_term, last_term}
 use Rattle.sqlite_value.specs.declared.keys.Collation.TheVariants.{Binary}
 
-inserts_one : (indexes : List Index) → IsInsertion (land_with indexes) BEGIN.now 7 rrr (begin_terms 11) 14
+inserts_one : (indexes : List Index) → IsInsertion (schema_v2_with indexes) BEGIN.now 7 rrr (begin_terms 11) 14
 unfolding understood everything
 inserts_one indexes = record { command = refl; plain = (refl, refl); table = refl; one = λ _. refl; alone = λ _ _. refl }
 
@@ -33,7 +33,7 @@ beginning = record { insertion = inserts_one; fills = λ id v. refl; shows = λ 
 abbrev pub where_it_stands : List Term
 where_it_stands = op2 (Compare Eq Binary) (col 1 1) (col 0 0) ∷ op2 (Compare Eq Binary) (col 1 13) (lit (Int never)) ∷ []
 
-updates_it : (indexes : List Index) → IsUpdate (land_with indexes) CLOSE.now 7 rrr (plainly 12 where_it_stands (close_terms 11 1))
+updates_it : (indexes : List Index) → IsUpdate (schema_v2_with indexes) CLOSE.now 7 rrr (plainly 12 where_it_stands (close_terms 11 1))
 unfolding understood everything
 updates_it indexes = record { command = refl; plain = (refl, refl); table = refl; alone = λ _ _ _. refl }
 
@@ -51,9 +51,9 @@ closing number = record {
   };
 }
 
-asks_all : (more : List Table) (indexes : List Index) → Asks (first_with more indexes) ALL.now (plainly 12 [] (columns_of 1 1 13))
+asks_all : (more : List Table) (indexes : List Index) → Asks (schema_v1_with more indexes) ALL.now (plainly 12 [] (columns_of 1 1 13))
 unfolding understood everything
 asks_all more indexes = record { names = codes "number" ∷ codes "unit" ∷ codes "party" ∷ codes "class" ∷ codes "num" ∷ codes "den" ∷ codes "amount" ∷ codes "currency" ∷ codes "place" ∷ codes "words" ∷ codes "source" ∷ codes "since" ∷ codes "until" ∷ []; command = refl; unlisted = refl; plain = (refl, refl) }
 
-pub listing : IsListing HasFirstTables 12 ALL.now (columns_of 1 1 13) (columns_from 1 13)
+pub listing : IsListing ContainsSchemaV1 12 ALL.now (columns_of 1 1 13) (columns_from 1 13)
 listing = record { asks = in_first ALL.now (plainly 12 [] (columns_of 1 1 13)) asks_all; read = λ db. refl; shows = λ r. refl }

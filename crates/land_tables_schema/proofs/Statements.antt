@@ -101,9 +101,9 @@ module _ (schema : Schema) (text : List ℕ) (place : ℕ) (t : Table) (q : Quer
   abbrev command : Command
   command = Update place (record { lets = []; body = q })
 
-  updated : (w : Writes old new None command (statement_of text (understood schema text)) params count) (table : Option Table) → slice_get schema.tables place ≡ table → table ≡ Some (bare t)
+  with_changes : (w : Writes old new None command (statement_of text (understood schema text)) params count) (table : Option Table) → slice_get schema.tables place ≡ table → table ≡ Some (bare t)
       → Does old.step_limit (mode_of old) params (record old.now { schema = schema }) (statement_of text (understood schema text)) None command (Ok (w.tally, new.now)) → IsUpdated schema t q params old.now new.now
-  updated w table table_is so h =
+  with_changes w table table_is so h =
       let done = went (rw (table_is, so) at h) in
       let now = ap (λ (p : Tally × Database). p.1) (same_value (went (went done.2).2).2) in
       let found = went done.1 in
@@ -127,4 +127,4 @@ module _ (schema : Schema) (text : List ℕ) (place : ℕ) (t : Table) (q : Quer
   pub updates : Executes text params old new (Ok count) → IsUpdated schema t q params old.now new.now
   updates h =
       let w = runs_as text params old new schema has command is.command is.plain count h in
-      updated w _ refl is.table (subst (λ s. Does old.step_limit (mode_of old) params (record old.now { schema = s }) (statement_of text (understood schema text)) None command (Ok (w.tally, new.now))) has w.changed)
+      with_changes w _ refl is.table (subst (λ s. Does old.step_limit (mode_of old) params (record old.now { schema = s }) (statement_of text (understood schema text)) None command (Ok (w.tally, new.now))) has w.changed)

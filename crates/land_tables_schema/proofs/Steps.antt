@@ -1,6 +1,6 @@
 -- Calls inside a transaction, in order.
 use Rattle.std.proofs.Common.{◌≡◌, inl, inr, ℕ, List, Ok, Err, Result, OnOk, IsErr, IsTrue, Bool, true, false, refl, sym, ◌∙◌, arith}
-use Rattle.land_tables_schema.specs.Steps.{IsStep}
+use Rattle.land_tables_schema.specs.Steps.{IsTransactionStep}
 use Rattle.sqlite.proofs.StateLemmas.{survives_then}
 use Rattle.sqlite.specs.Effect.{Database}
 use Rattle.sqlite.specs.Held.{Held, state}
@@ -13,7 +13,7 @@ use Rattle.sqlite_value.specs.Order.{Row}
 rolled_back_keeps : (old new : State) → IsRolledBack old new → KeepsCommit old new
 rolled_back_keeps old new h = record { was_open = h.was_open; committed = λ t. (h.undone t).1 }
 
-shows_keeps : (old new : State) {now : Database} {mode : Bool} → Shows old new now old.committed mode → KeepsCommit old new
+shows_keeps : (old new : State) {now : Database} {autocommit : Bool} → Shows old new now old.committed autocommit → KeepsCommit old new
 shows_keeps old new h = record { was_open = λ _. h.was_open; committed = λ _. h.committed_is }
 
 executed_keeps : (old new : State) (sql : List ℕ) (params : Row) (r : Result ℕ Error) → ExecutesInside 0 sql params old new r → KeepsCommit old new
@@ -33,7 +33,7 @@ pub was_clean : (a b : State) → Survives a b (λ _. ⊥) → HasCleanDisk b �
 was_clean a b s clean = omega (arith, s.clean)
 
 -- the effect of no call
-pub no_step : {X E : Type 0} (x : X) (Done : Database → Database → Type 0) (a : State) → (HasCleanDisk a → Done a.now a.now) → IsStep {X = X} {E = E} (Ok x) Done a a
+pub no_step : {X E : Type 0} (x : X) (Done : Database → Database → Type 0) (a : State) → (HasCleanDisk a → Done a.now a.now) → IsTransactionStep {X = X} {E = E} (Ok x) Done a a
 no_step x Done a done = record {
   done = done;
   inside = λ _. refl;
@@ -42,8 +42,8 @@ no_step x Done a done = record {
 }
 
 -- a successful call after others
-pub step_then : {X Y Z E : Type 0} {x : X} {y : Y} {z : Z} {First Next All : Database → Database → Type 0} (a b c : State) → IsStep {X = X} {E = E} (Ok x) First a b → IsStep {X = Y} {E = E} (Ok y) Next b c
-    → (HasCleanDisk c → First a.now b.now → Next b.now c.now → All a.now c.now) → IsStep {X = Z} {E = E} (Ok z) All a c
+pub step_then : {X Y Z E : Type 0} {x : X} {y : Y} {z : Z} {First Next All : Database → Database → Type 0} (a b c : State) → IsTransactionStep {X = X} {E = E} (Ok x) First a b → IsTransactionStep {X = Y} {E = E} (Ok y) Next b c
+    → (HasCleanDisk c → First a.now b.now → Next b.now c.now → All a.now c.now) → IsTransactionStep {X = Z} {E = E} (Ok z) All a c
 step_then a b c first next all =
     let was = was_clean b c next.survives in
     record {
@@ -54,8 +54,8 @@ step_then a b c first next all =
     }
 
 -- a failed call after others
-pub step_fails : {X Y Z E F : Type 0} {x : X} {next : Result Y F} {First Next All : Database → Database → Type 0} (a b c : State) (r : Result Z E) → IsErr r → IsStep {X = X} {E = E} (Ok x) First a b → IsStep next Next b c
-    → IsStep r All a c
+pub step_fails : {X Y Z E F : Type 0} {x : X} {next : Result Y F} {First Next All : Database → Database → Type 0} (a b c : State) (r : Result Z E) → IsErr r → IsTransactionStep {X = X} {E = E} (Ok x) First a b → IsTransactionStep next Next b c
+    → IsTransactionStep r All a c
 step_fails a b c (Err e) failed first next =
     let was = was_clean b c next.survives in
     record {
@@ -67,7 +67,7 @@ step_fails a b c (Err e) failed first next =
 step_fails a b c (Ok z) failed first next = absurd (let is = failed in cc)
 
 -- the effect, in another form
-pub step_says : {X E : Type 0} {Did Done : Database → Database → Type 0} (a b : State) (r : Result X E) → IsStep r Did a b → (HasCleanDisk b → Did a.now b.now → Done a.now b.now) → IsStep r Done a b
+pub step_says : {X E : Type 0} {Did Done : Database → Database → Type 0} (a b : State) (r : Result X E) → IsTransactionStep r Did a b → (HasCleanDisk b → Did a.now b.now → Done a.now b.now) → IsTransactionStep r Done a b
 step_says a b (Ok x) step says = record { done = λ clean. says clean (step.done clean); inside = step.inside; kept = step.kept; survives = step.survives }
 step_says a b (Err e) step says = record { done = λ _. tt; inside = step.inside; kept = step.kept; survives = step.survives }
 
@@ -88,17 +88,17 @@ module _ {S : Type 0} (g : Ghosts S) (old new : Held S) (sql : List ℕ) (params
 
   mode_inside : (b : Bool) → (state g old).in_transaction ≡ b → (r : Result ℕ Error) → IsRefused r → Runs r → OnOk r ((state g new).in_transaction ≡ (state g old).in_transaction)
   mode_inside b is (Err f) none runs = tt
-  mode_inside true is (Ok count) none runs = (runs (rw is refl)).1.mode ∙ sym is
+  mode_inside true is (Ok count) none runs = (runs (rw is refl)).1.autocommit ∙ sym is
   mode_inside false is (Ok count) none runs = absurd (let refused = (none is).0 in cc)
 
   keeps_inside : (b : Bool) → (state g old).in_transaction ≡ b → (r : Result ℕ Error) → IsRefused r → Runs r → KeepsCommit (state g old) (state g new)
   keeps_inside true is r none runs = executed_keeps (state g old) (state g new) sql params r (runs (rw is refl))
   keeps_inside false is r none runs = rw (none is).1 (record { was_open = λ t. t; committed = λ _. refl })
 
-  -- One statement satisfies `IsStep`, if its effect is known when it succeeds. Without a transaction it is
+  -- One statement satisfies `IsTransactionStep`, if its effect is known when it succeeds. Without a transaction it is
   -- rejected, and nothing changes.
   pub statement_steps : (r : Result ℕ Error) → IsRefused r → (HasCleanDisk (state g new) → Runs r) → Survives (state g old) (state g new) (λ _. ⊥) → (HasCleanDisk (state g old) → IsDoing)
-      → IsStep r Done (state g old) (state g new)
+      → IsTransactionStep r Done (state g old) (state g new)
   statement_steps r none runs safe does = record {
     done = λ clean. done_inside (state g old).in_transaction refl r none (runs clean) (does (was_clean (state g old) (state g new) safe clean));
     inside = λ clean. mode_inside (state g old).in_transaction refl r none (runs clean);

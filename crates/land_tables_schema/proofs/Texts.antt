@@ -2,8 +2,8 @@
 use Rattle.std.proofs.Common.{◌≡◌, ◌∙◌, ℕ, List, [], ◌∷◌, ◌++◌, ap, drop, refl, subst, sym, take}
 use Rattle.land_tables_schema.proofs.Dropping.{drops_ready, next_is}
 use Rattle.land_tables_schema.specs.Definitions.{AreDefinitions, IsDefinition, made, made_by}
-use Rattle.land_tables_schema.specs.Land.{first_indexes, first_schema, first_with, made_indexes, made_schema, no_schema, with_mandates, without_joins}
-use Rattle.land_tables_schema.specs.Laws.{TableTextsLaw, TextsLaw, VersionsLaw, first_texts, index_texts, land_texts}
+use Rattle.land_tables_schema.specs.Schemas.{v1_indexes, v1_schema, schema_v1_with, v2_indexes, v2_schema, no_schema, with_mandates, without_lookup_indexes}
+use Rattle.land_tables_schema.specs.Laws.{TableTextsLaw, TextsLaw, VersionsLaw, first_texts, index_statements, create_statements}
 use Rattle.land_tables_schema.specs.Tables.{land_tables}
 use Rattle.land_tables_schema.specs.declared.tables.edition.TheConstants as edition
 use Rattle.land_tables_schema.specs.declared.tables.mandate.TheConstants as mandate
@@ -23,11 +23,11 @@ use Rattle.sqlite_tied.specs.Compute.{everything}
 
 -- the first tables, and the first of all indexes
 abbrev so_far : ℕ → ℕ → Schema
-so_far tables indexes = record { tables = take tables land_tables; indexes = take indexes made_indexes; views = [] }
+so_far tables indexes = record { tables = take tables land_tables; indexes = take indexes v2_indexes; views = [] }
 
 -- the tables of version 1, and the first of its indexes
 abbrev first_so_far : ℕ → Schema
-first_so_far indexes = first_with [] (take indexes first_indexes)
+first_so_far indexes = schema_v1_with [] (take indexes v1_indexes)
 
 -- a statement is a CREATE that turns one schema into another
 record Makes (s : Schema) (text : List ℕ) (next : Schema) : Type 0 where
@@ -161,30 +161,30 @@ done : (last : Schema) → Finish last last []
 done last = record { definitions = tt; made_is = refl }
 
 -- the plain indexes
-indexes_finish : Finish made_schema (so_far 12 10) index_texts
+indexes_finish : Finish v2_schema (so_far 12 10) index_statements
 indexes_finish =
     one_more rrr_party_indexed (one_more rrr_unit_indexed (one_more parcel_unit_indexed (one_more member_party_indexed
-    (one_more names_unit_indexed (one_more mutation_lodger_indexed (one_more role_role_indexed (one_more mandate_agent_indexed (done made_schema))))))))
+    (one_more names_unit_indexed (one_more mutation_lodger_indexed (one_more role_role_indexed (one_more mandate_agent_indexed (done v2_schema))))))))
 
 -- the tables of version 1, and then other statements
-tables_first : (last : Schema) (texts : List (List ℕ)) → Finish last (so_far 11 9) texts → Finish last no_schema (take 11 land_texts ++ texts)
+tables_first : (last : Schema) (texts : List (List ℕ)) → Finish last (so_far 11 9) texts → Finish last no_schema (take 11 create_statements ++ texts)
 tables_first last texts rest =
     one_more edition_made (one_more moments_made (one_more party_made (one_more role_made (one_more member_made
     (one_more unit_made (one_more parcel_made (one_more rrr_made (one_more source_made (one_more mutation_made
     (one_more names_made rest))))))))))
 
-finish : Finish made_schema no_schema land_texts
-finish = tables_first made_schema (drop 11 land_texts) (one_more mandate_made indexes_finish)
+finish : Finish v2_schema no_schema create_statements
+finish = tables_first v2_schema (drop 11 create_statements) (one_more mandate_made indexes_finish)
 
-first_finish : Finish first_schema no_schema first_texts
+first_finish : Finish v1_schema no_schema first_texts
 first_finish =
-    tables_first first_schema (take 7 index_texts)
+    tables_first v1_schema (take 7 index_statements)
     (one_more first_rrr_party (one_more first_rrr_unit (one_more first_parcel_unit (one_more first_member_party
-    (one_more first_names_unit (one_more first_mutation_lodger (one_more first_role_role (done first_schema))))))))
+    (one_more first_names_unit (one_more first_mutation_lodger (one_more first_role_role (done v1_schema))))))))
 
 -- Without the plain indexes, and with `mandate`, schema version 1 is the schema of a new register before its
 -- plain indexes.
-first_with_mandates : with_mandates (without_joins first_schema) ≡ so_far 12 10
+first_with_mandates : with_mandates (without_lookup_indexes v1_schema) ≡ so_far 12 10
 unfolding everything
 first_with_mandates = refl
 
@@ -215,7 +215,7 @@ unfolding everything
 versions_differ = record {
   makes = first_finish.made_is;
   raisable = record { first = record { tables = refl; indexes = refl; views = refl }; apart = refl; before = refl; last = refl };
-  raises = ap (λ s. made s index_texts) first_with_mandates ∙ indexes_finish.made_is;
+  raises = ap (λ s. made s index_statements) first_with_mandates ∙ indexes_finish.made_is;
   drops = λ s able. (drops_ready s able).1;
   next = next_is;
 }

@@ -7,9 +7,9 @@ use Rattle.land_tables_schema.proofs.Numbers.{numbered_anyhow, numbered_same}
 use Rattle.land_tables_schema.proofs.Puts.{puts_are}
 use Rattle.land_tables_schema.proofs.Rewrites.{among_is, filter_by, turned_are, without_is}
 use Rattle.land_tables_schema.proofs.Statements.{IsUpdated, bare}
-use Rattle.land_tables_schema.specs.Land.{land_with}
-use Rattle.land_tables_schema.specs.Rows.Forms.{Form, Holds, Turns, AreNumbered}
-use Rattle.land_tables_schema.specs.Rows.Looks.{columns_from}
+use Rattle.land_tables_schema.specs.Schemas.{schema_v2_with}
+use Rattle.land_tables_schema.specs.Rows.Forms.{Form, Holds, UpdatesRows, AreNumbered}
+use Rattle.land_tables_schema.specs.Rows.ReadQueries.{columns_from}
 use Rattle.sqlite.specs.Cast.{cast_row}
 use Rattle.sqlite.specs.Edit.{edit_of}
 use Rattle.sqlite.specs.Effect.{Database}
@@ -29,7 +29,7 @@ use Rattle.sqlite_trees.specs.View.{is_int}
 use Rattle.sqlite_value.proofs.OrderLemmas.{value_cmp-Int}
 use Rattle.sqlite_value.specs.Order.{Row, value_cmp}
 
--- a query of one table without DISTINCT, ORDER BY, LIMIT and GROUP BY
+-- a query of one table without DISTINCT, ORDER BY, MAX_COORDINATE and GROUP BY
 abbrev pub plainly : ℕ → List Term → List Term → Query
 plainly tree filter project =
     record { from = inner tree end; filter = filter; group = None; project = project; distinct = false; collations = []; order = []; limit = lit (Int (negsuc 0)); offset = lit (Int (pos 0)) }
@@ -216,7 +216,7 @@ module _ {X : Type 0} (form : Form X) (filter project : List Term) (params : Row
         }
 
 module _ {X : Type 0} (form : Form X) (filter project : List Term) (params : Row) (passing : X → Bool) (turn : X → X) (is : IsTurning form filter project params passing turn) (indexes : List Index) (old new : Database)
-    (did : IsUpdated (land_with indexes) form.table (plainly form.table.tree filter project) params old new) (has : old.schema ≡ land_with indexes) where
+    (did : IsUpdated (schema_v2_with indexes) form.table (plainly form.table.tree filter project) params old new) (has : old.schema ≡ schema_v2_with indexes) where
   news_written : (edit_of old.trees (bare form.table) (ids_of did.found) Given 1 did.found).news ≡ map (λ s. cast_row (bare form.table) (drop 1 s)) did.found
   news_written = numbered_given _ _
 
@@ -230,5 +230,5 @@ module _ {X : Type 0} (form : Form X) (filter project : List Term) (params : Row
       (subst (λ news. are_fresh left news ≡ true) news_written did.edited_so.fresh)
       new.trees (did.edited_so.rows ∙ ap (put_all left) news_written)
 
-  pub turns : Turns form (turned passing turn) old new
+  pub turns : UpdatesRows form (turned passing turn) old new
   turns = record { schema = did.edited_so.schema_is ∙ sym has; held = held_turned; kept = did.edited_so.others }

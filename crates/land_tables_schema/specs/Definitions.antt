@@ -16,35 +16,35 @@ use Rattle.sqlite_schema.specs.declared.schema.Schema.{Schema}
 use Rattle.sqlite_schema.specs.declared.schema.Table.{Table}
 
 -- adds the table that a statement defines; leaves the schema unchanged if the statement defines none
-abbrev pub table_made : Schema → Result Table CompileError → Schema
-table_made s (Ok t) = created s t
-table_made s (Err e) = s
+abbrev pub with_table_of : Schema → Result Table CompileError → Schema
+with_table_of s (Ok t) = created s t
+with_table_of s (Err e) = s
 
 -- adds the index that a statement defines; leaves the schema unchanged if the statement defines none
-abbrev pub index_made : Schema → Table → Result Index CompileError → Schema
-index_made s t (Ok i) = indexed s t i
-index_made s t (Err e) = s
+abbrev pub with_index_of : Schema → Table → Result Index CompileError → Schema
+with_index_of s t (Ok i) = indexed s t i
+with_index_of s t (Err e) = s
 
 -- adds an index to an existing table; leaves the schema unchanged without that table
 abbrev pub index_on : Schema → List ℕ → Option Table → Schema
-index_on s text (Some t) = index_made s t (index_defined_by t text)
+index_on s text (Some t) = with_index_of s t (index_defined_by t text)
 index_on s text None = s
 
 -- drops an index by its tree
-abbrev pub index_dropped : Schema → Option Index → Schema
-index_dropped s (Some i) = without_index s i.tree
-index_dropped s None = s
+abbrev pub without_index_of : Schema → Option Index → Schema
+without_index_of s (Some i) = without_index s i.tree
+without_index_of s None = s
 
 -- the schema after a statement that compiles to this command
-abbrev pub made_as : Schema → List ℕ → Command → Schema
-made_as s text CreateTable = table_made s (table_defined_by text)
-made_as s text (CreateIndex at) = index_on s text (slice_get s.tables at)
-made_as s text (DropIndex at) = index_dropped s (slice_get s.indexes at)
-made_as s text _ = s
+abbrev pub schema_after_command : Schema → List ℕ → Command → Schema
+schema_after_command s text CreateTable = with_table_of s (table_defined_by text)
+schema_after_command s text (CreateIndex at) = index_on s text (slice_get s.tables at)
+schema_after_command s text (DropIndex at) = without_index_of s (slice_get s.indexes at)
+schema_after_command s text _ = s
 
 -- the schema after one statement
 abbrev pub made_by : Schema → List ℕ → Schema
-made_by s text = made_as s text (command_of (understood s text))
+made_by s text = schema_after_command s text (command_of (understood s text))
 
 -- the schema after these statements, in order
 abbrev pub made : Schema → List (List ℕ) → Schema

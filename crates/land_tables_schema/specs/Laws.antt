@@ -2,12 +2,12 @@
 use Rattle.std.specs.List.{list_all}
 use Rattle.std.specs.Prelude.{◌≡◌, ◌↔◌, ◌++◌, ℕ, List, Ok, drop, map, take, true}
 use Rattle.land_tables_schema.specs.Definitions.{AreDefinitions, made}
-use Rattle.land_tables_schema.specs.Land.{HasFirstTables, IsFirst, IsLand, IsRaisable, MayBeLand}
-use Rattle.land_tables_schema.specs.Land.{first_schema, land_with, made_schema, no_schema, refuses_no_more}
-use Rattle.land_tables_schema.specs.Land.{with_mandates, without_joins}
+use Rattle.land_tables_schema.specs.Schemas.{ContainsSchemaV1, IsSchemaV1, IsSchemaV2, IsMigratable, MayBeRegisterSchema}
+use Rattle.land_tables_schema.specs.Schemas.{v1_schema, schema_v2_with, v2_schema, no_schema, adds_no_constraint}
+use Rattle.land_tables_schema.specs.Schemas.{with_mandates, without_lookup_indexes}
 use Rattle.land_tables_schema.specs.Tables as table
 use Rattle.land_tables_schema.specs.Tables.{land_tables}
-use Rattle.land_tables_schema.specs.declared.tables.TheConstants.{DROPS, TEXTS}
+use Rattle.land_tables_schema.specs.declared.tables.TheConstants.{ALL_DROPS, ALL_CREATES}
 use Rattle.land_tables_schema.specs.declared.tables.edition.TheConstants as edition
 use Rattle.land_tables_schema.specs.declared.tables.mandate.TheConstants as mandate
 use Rattle.land_tables_schema.specs.declared.tables.member.TheConstants as member
@@ -45,53 +45,53 @@ pub record TableTextsLaw : Type 0 where
   pub the_mandate : Defines mandate.CREATE.now table.mandate
 
 -- the statements that create a register, in the order in which they run
-abbrev pub land_texts : List (List ℕ)
-land_texts = map (λ t. t.now) TEXTS
+abbrev pub create_statements : List (List ℕ)
+create_statements = map (λ t. t.now) ALL_CREATES
 
 -- the statements that create the plain indexes
-abbrev pub index_texts : List (List ℕ)
-index_texts = drop 12 land_texts
+abbrev pub index_statements : List (List ℕ)
+index_statements = drop 12 create_statements
 
 -- the statements that drop the plain indexes of version 1
-abbrev pub drop_texts : List (List ℕ)
-drop_texts = map (λ t. t.now) DROPS
+abbrev pub drop_statements : List (List ℕ)
+drop_statements = map (λ t. t.now) ALL_DROPS
 
 -- the statements of schema version 1: all tables except `mandate`, and the plain indexes on them
 abbrev pub first_texts : List (List ℕ)
-first_texts = take 11 land_texts ++ take 7 index_texts
+first_texts = take 11 create_statements ++ take 7 index_statements
 
 -- a migrated schema of version 1: the plain indexes are dropped, `mandate` is added, and then all plain
 -- indexes are created by their statements
 abbrev pub raised : Schema → Schema
-raised s = made (with_mandates (without_joins s)) index_texts
+raised s = made (with_mandates (without_lookup_indexes s)) index_statements
 
 -- each statement is one CREATE and nothing else, and together they turn the empty schema into that of a new
 -- register
 pub record TextsLaw : Type 0 where
-  pub creates : AreDefinitions no_schema land_texts
-  pub makes : made no_schema land_texts ≡ made_schema
+  pub creates : AreDefinitions no_schema create_statements
+  pub makes : made no_schema create_statements ≡ v2_schema
 
 -- a schema is a register's if and only if it has the register's tables, no views, and only indexes that
 -- reject no more rows than the primary keys do
 abbrev pub IndexLaw : Type 0
 IndexLaw =
-    (s : Schema) → IsLand s ↔ ((s ≡ land_with s.indexes)
-    × (list_all (refuses_no_more land_tables) s.indexes ≡ true))
+    (s : Schema) → IsSchemaV2 s ↔ ((s ≡ schema_v2_with s.indexes)
+    × (list_all (adds_no_constraint land_tables) s.indexes ≡ true))
 
 -- The schema of a new register is a migrated schema of version 1: the statements of version 1 create a schema
 -- that can be migrated, and its migration is what all statements create. The DROP statements drop the plain
 -- indexes, and then the next tree is that of `mandate`.
 pub record VersionsLaw : Type 0 where
-  pub makes : made no_schema first_texts ≡ first_schema
-  pub raisable : IsRaisable first_schema
-  pub raises : raised first_schema ≡ made_schema
-  pub drops : (s : Schema) → IsRaisable s → made s drop_texts ≡ without_joins s
-  pub next : (s : Schema) → IsRaisable s → next_tree (without_joins s) ≡ table.mandate.tree
+  pub makes : made no_schema first_texts ≡ v1_schema
+  pub raisable : IsMigratable v1_schema
+  pub raises : raised v1_schema ≡ v2_schema
+  pub drops : (s : Schema) → IsMigratable s → made s drop_statements ≡ without_lookup_indexes s
+  pub next : (s : Schema) → IsMigratable s → next_tree (without_lookup_indexes s) ≡ table.mandate.tree
 
 -- Each schema of a register, in version 1 or 2, may be a register's; and a migrated schema of version 1 is
 -- one of version 2.
 pub record SchemasLaw : Type 0 where
-  pub land : (s : Schema) → IsLand s → MayBeLand s
-  pub first : (s : Schema) → IsFirst s → MayBeLand s
-  pub tables : (s : Schema) → MayBeLand s → HasFirstTables s
-  pub raised : (s : Schema) → IsFirst s → IsLand (raised s)
+  pub has_tables : (s : Schema) → IsSchemaV2 s → MayBeRegisterSchema s
+  pub first : (s : Schema) → IsSchemaV1 s → MayBeRegisterSchema s
+  pub tables : (s : Schema) → MayBeRegisterSchema s → ContainsSchemaV1 s
+  pub raised : (s : Schema) → IsSchemaV1 s → IsSchemaV2 (raised s)

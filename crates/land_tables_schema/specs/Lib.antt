@@ -2,7 +2,7 @@
 pub mod Columns
 pub mod Connections
 pub mod Definitions
-pub mod Land
+pub mod Schemas
 pub mod Laws
 pub mod Making
 pub mod Rows

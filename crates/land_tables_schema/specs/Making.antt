@@ -2,7 +2,7 @@
 use Rattle.std.specs.Prelude.{◌≡◌, ℕ, List, []}
 use Rattle.std.specs.List.{AllByRecursion}
 use Rattle.land_tables_schema.specs.Definitions.{made, made_by}
-use Rattle.land_tables_schema.specs.Land.{made_schema}
+use Rattle.land_tables_schema.specs.Schemas.{v2_schema}
 use Rattle.sqlite.specs.Effect.{Database}
 use Rattle.sqlite_catalog.specs.Change.{KeepsRows}
 use Rattle.sqlite_schema.specs.declared.schema.Table.{Table}
@@ -25,5 +25,5 @@ pub record DefinesAll (texts : List (List ℕ)) (old new : Database) : Type 0 wh
 
 -- the tables and indexes of a new register exist, without any row
 pub record IsMade (db : Database) : Type 0 where
-  pub schema : db.schema ≡ made_schema
+  pub schema : db.schema ≡ v2_schema
   pub empty : AreEmpty db

@@ -2,7 +2,7 @@
 pub mod Edition
 pub mod Forms
 pub mod Held
-pub mod Looks
+pub mod ReadQueries
 pub mod Mandate
 pub mod Member
 pub mod Moments
@@ -10,7 +10,7 @@ pub mod Mutation
 pub mod Names
 pub mod Parcel
 pub mod Party
-pub mod Raising
+pub mod SchemaMigration
 pub mod Role
 pub mod Rrr
 pub mod Source

@@ -76,10 +76,10 @@ mandate =
     versioned (codes "mandate") 20 (1 ∷ 2 ∷ []) (number (codes "principal") ∷ number (codes "agent") ∷ [])
 
 -- the tables of schema version 1, in the order of their creation
-abbrev pub first_tables : List Table
-first_tables =
+abbrev pub v1_tables : List Table
+v1_tables =
     edition ∷ moments ∷ party ∷ role ∷ member ∷ unit ∷ parcel ∷ rrr ∷ source ∷ mutation ∷ names ∷ []
 
 -- all tables, in the order of their creation
 abbrev pub land_tables : List Table
-land_tables = first_tables ++ mandate ∷ []
+land_tables = v1_tables ++ mandate ∷ []

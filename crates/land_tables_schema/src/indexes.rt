@@ -1,11 +1,11 @@
 //! Checks that the indexes of a schema reject no row that the primary keys of its tables allow.
 ghost use Rattle.std.specs.List.{list_all, list_any};
 ghost use Rattle.std.specs.Prelude.{◌≡◌};
-ghost use Rattle.land_tables_schema.specs.Land.{are_apart, comes_before, is_apart, is_join, is_key_of};
-ghost use Rattle.land_tables_schema.specs.Land.{is_last_key, is_on, refuses_no_more, spares};
+ghost use Rattle.land_tables_schema.specs.Schemas.{are_apart, precedes_mandates, is_apart, is_lookup_index, is_key_of};
+ghost use Rattle.land_tables_schema.specs.Schemas.{is_last_key_index, is_on, adds_no_constraint, constrains_no_row_of};
 ghost use Rattle.sqlite_schema.specs.Names.{same_name};
 
-use crate::tables::{join_names, mandate};
+use crate::tables::{lookup_index_names, mandate};
 use sqlite_schema::names::same_name;
 use sqlite_schema::schema::{Index, Table};
 
@@ -24,17 +24,17 @@ fn is_key_index(tables: &[Table], index: &Index) -> bool
 }
 
 /// Returns whether an index rejects no row that the primary keys of these tables allow.
-fn refuses_no_more(tables: &[Table], index: &Index) -> bool
-    ensures { result ≡ refuses_no_more tables.now index.now }
+fn adds_no_constraint(tables: &[Table], index: &Index) -> bool
+    ensures { result ≡ adds_no_constraint tables.now index.now }
 {
     !index.is_unique || is_key_index(tables, index)
 }
 
 /// Returns whether no index rejects a row that the primary keys of these tables allow.
-pub fn refuse_no_more(tables: &[Table], indexes: &[Index]) -> bool
-    ensures { result ≡ list_all (refuses_no_more tables.now) indexes.now }
+pub fn add_no_constraints(tables: &[Table], indexes: &[Index]) -> bool
+    ensures { result ≡ list_all (adds_no_constraint tables.now) indexes.now }
 {
-    indexes.iter().all(|index| refuses_no_more(tables, index))
+    indexes.iter().all(|index| adds_no_constraint(tables, index))
 }
 
 /// Returns whether an index is on one of these tables.
@@ -45,17 +45,17 @@ fn is_on(tables: &[Table], index: &Index) -> bool
 }
 
 /// Returns whether an index rejects no row of these tables that their primary keys allow.
-fn spares(tables: &[Table], index: &Index) -> bool
-    ensures { result ≡ spares tables.now index.now }
+fn constrains_no_row_of(tables: &[Table], index: &Index) -> bool
+    ensures { result ≡ constrains_no_row_of tables.now index.now }
 {
-    !is_on(tables, index) || refuses_no_more(tables, index)
+    !is_on(tables, index) || adds_no_constraint(tables, index)
 }
 
 /// Returns whether no index rejects a row of these tables that their primary keys allow.
-pub fn spare(tables: &[Table], indexes: &[Index]) -> bool
-    ensures { result ≡ list_all (spares tables.now) indexes.now }
+pub fn constrain_no_rows_of(tables: &[Table], indexes: &[Index]) -> bool
+    ensures { result ≡ list_all (constrains_no_row_of tables.now) indexes.now }
 {
-    indexes.iter().all(|index| spares(tables, index))
+    indexes.iter().all(|index| constrains_no_row_of(tables, index))
 }
 
 /// Returns whether an index has one of these names. SQLite compares names case-insensitively.
@@ -68,10 +68,10 @@ fn is_named(names: &[&str], index: &Index) -> bool
 }
 
 /// Returns whether an index has the name of a plain index of schema version 1.
-fn is_join(index: &Index) -> bool
-    ensures { result ≡ is_join index.now }
+fn is_lookup_index(index: &Index) -> bool
+    ensures { result ≡ is_lookup_index index.now }
 {
-    is_named(join_names(), index)
+    is_named(lookup_index_names(), index)
 }
 
 /// Returns whether two indexes have the same tree if and only if they have the same name.
@@ -100,32 +100,32 @@ pub fn are_apart(indexes: &[Index]) -> bool
 }
 
 /// Returns whether an index is a plain index of schema version 1, or its tree comes before that of `mandate`.
-fn comes_before(index: &Index) -> bool
-    ensures { result ≡ comes_before index.now }
+fn precedes_mandates(index: &Index) -> bool
+    ensures { result ≡ precedes_mandates index.now }
 {
-    is_join(index) || index.tree < mandate::SHAPE.tree
+    is_lookup_index(index) || index.tree < mandate::SHAPE.tree
 }
 
 /// Returns whether each index is a plain index of schema version 1, or its tree comes before that of
 /// `mandate`.
-pub fn come_before(indexes: &[Index]) -> bool
-    ensures { result ≡ list_all comes_before indexes.now }
+pub fn precede_mandates(indexes: &[Index]) -> bool
+    ensures { result ≡ list_all precedes_mandates indexes.now }
 {
-    indexes.iter().all(|index| comes_before(index))
+    indexes.iter().all(|index| precedes_mandates(index))
 }
 
 /// Returns whether an index is not a plain index of schema version 1, and its tree comes directly before that
 /// of `mandate`.
-fn is_last_key(index: &Index) -> bool
-    ensures { result ≡ is_last_key index.now }
+fn is_last_key_index(index: &Index) -> bool
+    ensures { result ≡ is_last_key_index index.now }
 {
-    !is_join(index) && index.tree == mandate::SHAPE.tree - 1
+    !is_lookup_index(index) && index.tree == mandate::SHAPE.tree - 1
 }
 
 /// Returns whether one of these indexes is not a plain index of schema version 1, and its tree comes directly
 /// before that of `mandate`.
-pub fn have_last_key(indexes: &[Index]) -> bool
-    ensures { result ≡ list_any is_last_key indexes.now }
+pub fn has_last_key_index(indexes: &[Index]) -> bool
+    ensures { result ≡ list_any is_last_key_index indexes.now }
 {
-    indexes.iter().any(|index| is_last_key(index))
+    indexes.iter().any(|index| is_last_key_index(index))
 }

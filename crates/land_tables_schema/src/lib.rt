@@ -3,7 +3,7 @@
 #![tactic(auto)]
 
 pub mod columns;
-pub mod first_version;
+pub mod schema_v1;
 pub mod indexes;
 pub mod keys;
 pub mod laws;

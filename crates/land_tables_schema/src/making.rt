@@ -2,12 +2,12 @@
 ghost use Rattle.std.specs.Prelude.{◌≡◌, map};
 ghost use Rattle.land_tables_schema.specs.Connections.{InTransaction, SameReference};
 ghost use Rattle.land_tables_schema.specs.Definitions.{AreReady, IsReady};
-ghost use Rattle.land_tables_schema.specs.Land.{no_schema};
+ghost use Rattle.land_tables_schema.specs.Schemas.{no_schema};
 ghost use Rattle.land_tables_schema.specs.Making.{Defines, DefinesAll, IsMade};
 ghost use Rattle.sqlite.specs.Held.{state};
 ghost use Rattle.sqlite.specs.State.{HasCleanDisk};
 
-use crate::laws::texts_make_the_tables;
+use crate::laws::statements_create_schema;
 use crate::tables::texts;
 use sqlite::{Alter, Error, Transaction};
 
@@ -36,12 +36,12 @@ pub(crate) fn define_all<S: Alter>(tx: &mut Transaction<'_, S>, texts: &[&str]) 
 
 /// Creates the register's tables and plain indexes, without rows, in an empty store. Commits nothing; after
 /// an error the caller drops the transaction, which rolls it back.
-pub fn make_tables<S: Alter>(tx: &mut Transaction<'_, S>) -> Result<(), Error>
+pub fn create_schema<S: Alter>(tx: &mut Transaction<'_, S>) -> Result<(), Error>
     requires { HasCleanDisk (state S.Store tx.old.conn.now) → (state S.Store tx.old.conn.now).now.schema
         ≡ no_schema }
     ensures same_reference { SameReference tx.old tx.new }
     ensures step { InTransaction S.Store result (λ _ new. IsMade new) tx.old tx.new }
 {
-    texts_make_the_tables();
+    statements_create_schema();
     define_all(tx, texts())
 }

@@ -4,5 +4,5 @@
 pub mod cells;
 pub mod creation;
 pub mod openness;
-pub mod raising;
+pub mod schema_migration;
 pub mod tables;

@@ -1,10 +1,10 @@
 //! Recognizes the schema of a register.
 ghost use Rattle.std.specs.Prelude.{◌≡◌, ◌↔◌, IsTrue, map};
-ghost use Rattle.land_tables_schema.specs.Land.{IsLand, no_schema};
+ghost use Rattle.land_tables_schema.specs.Schemas.{IsSchemaV2, no_schema};
 ghost use Rattle.land_tables_schema.specs.Shapes.{table_of};
 
 use crate::columns::are_columns;
-use crate::indexes::refuse_no_more;
+use crate::indexes::add_no_constraints;
 use crate::keys::{are_rows, is_plain};
 use crate::shape::TableShape;
 use crate::tables::shapes;
@@ -38,11 +38,11 @@ pub(crate) fn are_tables(tables: &[Table], shapes: &[TableShape<'_>]) -> bool
 
 /// Returns whether a schema has exactly the register's tables, and no views. It may have any plain indexes,
 /// and unique indexes only on the columns of a primary key.
-pub fn is_land(schema: &Schema) -> bool
-    ensures { IsTrue result ↔ IsLand schema.now }
+pub fn is_schema_v2(schema: &Schema) -> bool
+    ensures { IsTrue result ↔ IsSchemaV2 schema.now }
 {
     are_tables(schema.tables.as_slice(), shapes())
-        && refuse_no_more(schema.tables.as_slice(), schema.indexes.as_slice())
+        && add_no_constraints(schema.tables.as_slice(), schema.indexes.as_slice())
         && schema.views.is_empty()
 }
 

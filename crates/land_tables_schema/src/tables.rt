@@ -1,10 +1,10 @@
 //! The tables of the register, and the SQL statements that create them.
 
 ghost use Rattle.std.specs.Prelude.{◌≡◌, map};
-ghost use Rattle.land_tables_schema.specs.Laws.{drop_texts, index_texts, land_texts};
-ghost use Rattle.land_tables_schema.specs.Land.{join_names};
+ghost use Rattle.land_tables_schema.specs.Laws.{drop_statements, index_statements, create_statements};
+ghost use Rattle.land_tables_schema.specs.Schemas.{lookup_index_names};
 ghost use Rattle.land_tables_schema.specs.Shapes.{table_of};
-ghost use Rattle.land_tables_schema.specs.Tables.{first_tables, land_tables};
+ghost use Rattle.land_tables_schema.specs.Tables.{v1_tables, land_tables};
 
 use crate::shape::TableShape;
 
@@ -41,7 +41,7 @@ const TABLES: &[TableShape<'static>] = &[
 
 /// The SQL statements that create the tables, those of schema version 1 first, and then the plain indexes for
 /// joins and lookups, that of `mandate` last. Run in order on an empty store, they create the whole schema.
-pub const TEXTS: [&str; 20] = [
+pub const ALL_CREATES: [&str; 20] = [
     edition::CREATE,
     moments::CREATE,
     party::CREATE,
@@ -65,7 +65,7 @@ pub const TEXTS: [&str; 20] = [
 ];
 
 /// The SQL statements that drop the plain indexes of schema version 1, if they exist.
-pub const DROPS: [&str; 7] = [
+pub const ALL_DROPS: [&str; 7] = [
     "DROP INDEX IF EXISTS rrr_party",
     "DROP INDEX IF EXISTS rrr_unit",
     "DROP INDEX IF EXISTS parcel_unit",
@@ -76,7 +76,7 @@ pub const DROPS: [&str; 7] = [
 ];
 
 /// The names of the plain indexes of schema version 1.
-pub const JOINS: [&str; 7] = [
+pub const INDEX_NAMES: [&str; 7] = [
     "rrr_party",
     "rrr_unit",
     "parcel_unit",
@@ -94,36 +94,36 @@ pub fn shapes() -> &'static [TableShape<'static>]
 }
 
 /// Returns the shapes of the tables of schema version 1, in the order of their creation.
-pub fn first_shapes() -> &'static [TableShape<'static>]
-    ensures { map table_of result.now ≡ first_tables }
+pub fn v1_shapes() -> &'static [TableShape<'static>]
+    ensures { map table_of result.now ≡ v1_tables }
 {
     &TABLES[..11]
 }
 
 /// Returns the SQL statements that create the tables and the indexes, in the order in which they run.
 pub fn texts() -> &'static [&'static str]
-    ensures { map (λ t. t.now) result.now ≡ land_texts }
+    ensures { map (λ t. t.now) result.now ≡ create_statements }
 {
-    &TEXTS
+    &ALL_CREATES
 }
 
 /// Returns the SQL statements that create the plain indexes, in the order in which they run.
-pub fn index_texts() -> &'static [&'static str]
-    ensures { map (λ t. t.now) result.now ≡ index_texts }
+pub fn index_statements() -> &'static [&'static str]
+    ensures { map (λ t. t.now) result.now ≡ index_statements }
 {
-    &TEXTS[12..]
+    &ALL_CREATES[12..]
 }
 
 /// Returns the SQL statements that drop the plain indexes of schema version 1.
-pub fn drop_texts() -> &'static [&'static str]
-    ensures { map (λ t. t.now) result.now ≡ drop_texts }
+pub fn drop_statements() -> &'static [&'static str]
+    ensures { map (λ t. t.now) result.now ≡ drop_statements }
 {
-    &DROPS
+    &ALL_DROPS
 }
 
 /// The names of the plain indexes of schema version 1.
-pub fn join_names() -> &'static [&'static str]
-    ensures { map (λ t. t.now) result.now ≡ join_names }
+pub fn lookup_index_names() -> &'static [&'static str]
+    ensures { map (λ t. t.now) result.now ≡ lookup_index_names }
 {
-    &JOINS
+    &INDEX_NAMES
 }

@@ -76,7 +76,7 @@ fn requests(alloc: Global, rows: &[&Row]) -> Result<Vec<Request>, Stop> {
 }
 
 /// Returns the replies of a keeper to requests. The rows determine the readings of the clock.
-fn answered_by(
+fn replies_of_keeper(
     alloc: Global,
     keeper: &mut PlainKeeper,
     rows: &[&Row],
@@ -92,7 +92,7 @@ fn answered_by(
 /// Returns the replies to requests on a new register. The rows determine the readings of the clock.
 pub fn answered(alloc: Global, rows: &[&Row], requests: &[Request]) -> Result<Vec<Reply>, Stop> {
     let mut keeper = PlainKeeper::new(alloc)?;
-    answered_by(alloc, &mut keeper, rows, requests)
+    replies_of_keeper(alloc, &mut keeper, rows, requests)
 }
 
 /// Returns the index of the first row with a different reply, if any.
@@ -113,22 +113,22 @@ fn wrong_reply(alloc: Global, rows: &[&Row], requests: &[Request]) -> Result<Opt
     Ok(wrong_row(alloc, rows, replies.as_slice())?)
 }
 
-fn wrong_of(alloc: Global, rows: &[&Row]) -> Result<Option<usize>, Stop> {
+fn first_wrong_row(alloc: Global, rows: &[&Row]) -> Result<Option<usize>, Stop> {
     let requests = requests(alloc, rows)?;
     wrong_reply(alloc, rows, requests.as_slice())
 }
 
-fn wrong_of_all(alloc: Global, base: &[&[Row]], rows: &[Row]) -> Result<Option<usize>, Stop> {
+fn first_wrong_row_of_all(alloc: Global, base: &[&[Row]], rows: &[Row]) -> Result<Option<usize>, Stop> {
     let rows = all_of(alloc, base, rows)?;
-    wrong_of(alloc, rows.as_slice())
+    first_wrong_row(alloc, rows.as_slice())
 }
 
 /// Runs rows on a keeper, and checks the replies in full.
 fn play_over(alloc: Global, keeper: &mut PlainKeeper, rows: &[&Row]) -> Result<(), Stop> {
     let requests = requests(alloc, rows)?;
-    let replies = answered_by(alloc, keeper, rows, requests.as_slice())?;
+    let replies = replies_of_keeper(alloc, keeper, rows, requests.as_slice())?;
     match wrong_row(alloc, rows, replies.as_slice())? {
-        Some(place) => Err(Stop::Unlike("row", place)),
+        Some(place) => Err(Stop::Mismatch("row", place)),
         None => Ok(()),
     }
 }
@@ -149,8 +149,8 @@ pub fn keeper_after(alloc: Global, parts: &[&[Row]]) -> Result<PlainKeeper, Stop
 /// Runs the rows of the base and then these, in order, on a new register, and checks the replies in full. The
 /// index in an error counts from the first row of the base.
 pub fn play_rows(alloc: Global, base: &[&[Row]], rows: &[Row]) -> Result<(), Stop> {
-    match wrong_of_all(alloc, base, rows)? {
-        Some(place) => Err(Stop::Unlike("row", place)),
+    match first_wrong_row_of_all(alloc, base, rows)? {
+        Some(place) => Err(Stop::Mismatch("row", place)),
         None => Ok(()),
     }
 }

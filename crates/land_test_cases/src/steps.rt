@@ -165,7 +165,7 @@ const MANDATED: &[Row] = &[Row(1000, BEN, Do(Mandate(6)), "done 6 made [] at 101
 pub const WITH_MANDATE: &[&[Row]] = &[ENROLLED, GROUPED, REGISTERED, LODGED, MORTGAGED, MANDATED];
 
 /// Runs rows on a new register, and checks the replies in full.
-pub fn play_anew(alloc: Global, rows: &[Row]) -> Result<(), Stop> {
+pub fn play_on_new_register(alloc: Global, rows: &[Row]) -> Result<(), Stop> {
     play_rows(alloc, &[], rows)
 }
 

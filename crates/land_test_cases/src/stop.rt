@@ -11,7 +11,7 @@ pub enum Stop {
     /// A value of a row is invalid: its name.
     Unmade(&'static str),
     /// A result differs from the expected one: its name and its index.
-    Unlike(&'static str, usize),
+    Mismatch(&'static str, usize),
 }
 
 impl From<AllocError> for Stop {
@@ -46,6 +46,6 @@ pub fn expect(is_well: bool, name: &'static str, place: usize) -> Result<(), Sto
     if is_well {
         Ok(())
     } else {
-        Err(Stop::Unlike(name, place))
+        Err(Stop::Mismatch(name, place))
     }
 }

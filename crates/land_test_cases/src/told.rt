@@ -182,7 +182,7 @@ fn write_whole(line: &mut String, reply: &Reply) -> Result<(), AllocError> {
 }
 
 /// Returns a reply in one line, in full. Error: out of memory, also if the reply is 501.
-pub fn told_whole(alloc: Global, reply: &Reply) -> Result<String, AllocError> {
+pub fn full_line_of(alloc: Global, reply: &Reply) -> Result<String, AllocError> {
     let mut line = String::new(alloc);
     write_whole(&mut line, reply)?;
     Ok(line)

@@ -4,7 +4,7 @@ use crate::asked::OFFICE;
 use crate::rows::keeper_after;
 use crate::steps::{ANNA, BANK, BEN, NORA, SAM, WITH_FIELD, WITH_GARDEN, WITH_MANDATE};
 use crate::stop::{Stop, expect};
-use crate::told::told_whole;
+use crate::told::full_line_of;
 use land_core::ask::{Ask, Request};
 use land_core::caller::Caller;
 use land_core::kind::Kind;
@@ -106,7 +106,7 @@ fn told_by<K: Keeper>(
         return Err(Stop::Unmade("a request that is well formed"));
     }
     let reply = answer(alloc, keeper, NOW, &request);
-    Ok(told_whole(alloc, &reply)?)
+    Ok(full_line_of(alloc, &reply)?)
 }
 
 /// Two registers through time, and the callers whose replies differ.

@@ -1,7 +1,7 @@
 //! Streams of requests to a keeper.
 use land_desk::serve::{DeskFault, Served, serve};
 use land_keep::keeper::Keeper;
-use land_test_scenario::doubles::{Pieces, Readings, Sink};
+use land_test_scenario::doubles::{ChunkReader, ClockReadings, Sink};
 use std::alloc::Global;
 
 /// Serves a stream with a keeper and the clock at 1000. Clears the output of the stream before.
@@ -12,11 +12,11 @@ pub fn serve_stream<K: Keeper>(
     told: &mut Sink,
 ) -> Result<Served, DeskFault> {
     told.taken.clear();
-    let mut reader = Pieces {
+    let mut reader = ChunkReader {
         left: input,
         piece: 4096,
         reads: u64::MAX,
     };
-    let mut clock = Readings { left: &[] };
+    let mut clock = ClockReadings { left: &[] };
     serve(alloc, &mut reader, told, keeper, &mut clock)
 }

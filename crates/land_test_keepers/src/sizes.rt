@@ -10,16 +10,16 @@ use land_keep::store_fault::StoreFault;
 use land_select::sql_keeper::SqlKeeper;
 use land_sheet::extracts::extract::extract_to;
 use land_sheet::extracts::fault::ExtractFault;
-use land_test_scenario::playing::{open_sink, play};
+use land_test_scenario::run_scenario::{open_sink, play};
 use land_test_scenario::stop::{Stop, expect};
-use land_test_scenario::talk::{OFFICE, Talk};
+use land_test_scenario::talk::{OFFICE, Transcript};
 use std::alloc::{AllocError, Global};
 use std::fmt::Write;
 
 /// Requests with their replies, and the next number and stamp of the register that gets them.
 #[derive(Drop)]
 struct Requests {
-    talk: Talk,
+    talk: Transcript,
     text: String,
     next: u64,
     stamp: u64,
@@ -29,7 +29,7 @@ impl Requests {
     /// Returns no requests, for a new register whose clock is at 1000.
     fn new(alloc: Global) -> Result<Requests, AllocError> {
         Ok(Requests {
-            talk: Talk::new(alloc)?,
+            talk: Transcript::new(alloc)?,
             text: String::with_capacity(alloc, 4096)?,
             next: 2,
             stamp: 1000,
@@ -54,7 +54,7 @@ impl Requests {
         let stamp = self.stamp;
         write!(self.text, "],\"number\":{number},\"stamp\":{stamp}}}")?;
         self.stamp = stamp.saturating_add(1);
-        self.talk.tell_text(self.text.as_str())?;
+        self.talk.expect_object(self.text.as_str())?;
         self.talk.mark("an act", 0)?;
         Ok(number)
     }
@@ -99,7 +99,7 @@ impl Requests {
             "{{\"made\":[],\"number\":{agent},\"stamp\":{stamp}}}"
         )?;
         self.stamp = stamp.saturating_add(1);
-        self.talk.tell_text(self.text.as_str())?;
+        self.talk.expect_object(self.text.as_str())?;
         self.talk.mark("a mandate", 0)
     }
 
@@ -115,7 +115,7 @@ impl Requests {
             write!(self.text, "{number}")?;
         }
         self.text.push_str("]}")?;
-        self.talk.tell_text(self.text.as_str())?;
+        self.talk.expect_object(self.text.as_str())?;
         self.talk.mark("a list", 0)
     }
 }
@@ -233,7 +233,7 @@ fn expect_extract<K: Keeper>(
                 ..
             },
         ) => Err(Stop::Memory),
-        Err(_) => Err(Stop::Unlike("a long extract", 1)),
+        Err(_) => Err(Stop::Mismatch("a long extract", 1)),
     }
 }
 

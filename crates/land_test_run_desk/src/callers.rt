@@ -1,9 +1,9 @@
 //! TCP clients on this host, with clocks of the test.
 use crate::conclusion::conclude;
-use crate::connections::served;
+use crate::connections::serve_new_register;
 use land_desk::service::callers::Callers;
-use land_desk::service::stopwatch::Stopwatch;
-use land_test_scenario::calls::{ENROL, ENROLLED, expect_told};
+use land_desk::service::timer::RequestTimer;
+use land_test_scenario::calls::{ENROL, ENROLLED, expect_output};
 use land_test_scenario::stop::{Stop, expect};
 use std::alloc::{AllocError, Global};
 use std::cell::Cell;
@@ -16,12 +16,12 @@ use std::{io, time};
 
 /// A clock that advances by a number of seconds at each reading.
 #[derive(Drop)]
-struct Ticks {
+struct TickingClock {
     step: u64,
     seconds: Cell<u64>,
 }
 
-impl time::Clock for Ticks {
+impl time::Clock for TickingClock {
     fn monotonic(&self) -> io::Result<Duration> {
         let seconds = self.seconds.get().saturating_add(self.step);
         self.seconds.set(seconds);
@@ -34,7 +34,7 @@ impl time::Clock for Ticks {
 }
 
 /// The input of a client: requests, each with padding, and its reply, or `None` if the connection is dropped.
-struct Bringing {
+struct AcceptCase {
     step: u64,
     requests: usize,
     request: &'static [u8],
@@ -58,8 +58,8 @@ const FAULTY: &[u8] = b"HELLO\r\n\r\n";
 const FAULT: &[u8] =
     b"HTTP/1.1 400 Bad Request\r\nContent-Type: application/json\r\nContent-Length: 13\r\nConnection: close\r\n\r\n{\"fault\":140}";
 
-const BRINGINGS: &[Bringing] = &[
-    Bringing {
+const ACCEPT_CASES: &[AcceptCase] = &[
+    AcceptCase {
         step: 0,
         requests: 1,
         request: ENROL,
@@ -67,7 +67,7 @@ const BRINGINGS: &[Bringing] = &[
         told: Some(ENROLLED),
     },
     // The fourth chunk is read 57 seconds after the first one.
-    Bringing {
+    AcceptCase {
         step: 19,
         requests: 1,
         request: LIST,
@@ -75,7 +75,7 @@ const BRINGINGS: &[Bringing] = &[
         told: Some(LISTED),
     },
     // After a minute it is not read.
-    Bringing {
+    AcceptCase {
         step: 20,
         requests: 1,
         request: LIST,
@@ -83,7 +83,7 @@ const BRINGINGS: &[Bringing] = &[
         told: None,
     },
     // Each request has a minute of its own.
-    Bringing {
+    AcceptCase {
         step: 19,
         requests: 2,
         request: LIST,
@@ -91,7 +91,7 @@ const BRINGINGS: &[Bringing] = &[
         told: Some(LISTED_TWICE),
     },
     // The last reply is sent, though more input arrived than is read before it.
-    Bringing {
+    AcceptCase {
         step: 0,
         requests: 1,
         request: FAULTY,
@@ -101,7 +101,7 @@ const BRINGINGS: &[Bringing] = &[
 ];
 
 /// Returns the input of a client.
-fn brought(alloc: Global, row: &Bringing) -> Result<Vec<u8>, AllocError> {
+fn input_of_case(alloc: Global, row: &AcceptCase) -> Result<Vec<u8>, AllocError> {
     let mut bytes = Vec::new(alloc);
     for _request in 0..row.requests {
         bytes.extend_from_slice(row.request)?;
@@ -114,7 +114,7 @@ fn brought(alloc: Global, row: &Bringing) -> Result<Vec<u8>, AllocError> {
 
 /// Returns the output that a client gets. If memory runs out, the server may close the connection with the
 /// request unread, which resets it.
-fn told_to(caller: &mut TcpStream, alloc: Global) -> Result<Vec<u8>, Stop> {
+fn reply_to(caller: &mut TcpStream, alloc: Global) -> Result<Vec<u8>, Stop> {
     let mut told = Vec::new(alloc);
     match caller.read_to_end(&mut told) {
         Ok(_) => Ok(told),
@@ -123,34 +123,34 @@ fn told_to(caller: &mut TcpStream, alloc: Global) -> Result<Vec<u8>, Stop> {
 }
 
 /// Sends the input of a client of this process, shuts down its writing side, and serves it.
-fn call(rt: &HostRuntime, listener: TcpListener, row: &Bringing) -> Result<TcpStream, Stop> {
+fn call(rt: &HostRuntime, listener: TcpListener, row: &AcceptCase) -> Result<TcpStream, Stop> {
     let mut caller = TcpStream::connect(rt, listener.local_addr()?)?;
-    caller.write_all(&brought(rt.alloc(), row)?)?;
+    caller.write_all(&input_of_case(rt.alloc(), row)?)?;
     caller.shutdown(Shutdown::Write)?;
-    let watch = Stopwatch::new(Ticks {
+    let watch = RequestTimer::new(TickingClock {
         step: row.step,
         seconds: Cell::new(0),
     });
     let mut callers = Callers::new(listener, &watch);
-    let ending = served(rt.alloc(), &mut callers, 1)?;
+    let ending = serve_new_register(rt.alloc(), &mut callers, 1)?;
     expect(ending == Ok(()), "the ending", 0)?;
     Ok(caller)
 }
 
 /// Checks that a client on this host gets its reply.
-fn expect_call(rt: &HostRuntime, place: usize, row: &Bringing) -> Result<(), Stop> {
+fn expect_call(rt: &HostRuntime, place: usize, row: &AcceptCase) -> Result<(), Stop> {
     let listener = TcpListener::bind(rt, "127.0.0.1:0")?;
     let mut caller = call(rt, listener, row)?;
-    let told = told_to(&mut caller, rt.alloc());
+    let told = reply_to(&mut caller, rt.alloc());
     match row.told {
-        Some(wanted) => expect_told(place, &told?, wanted),
+        Some(wanted) => expect_output(place, &told?, wanted),
         None => expect(told.is_err(), "the end", place),
     }
 }
 
 /// Checks all clients.
 fn loopback(rt: &HostRuntime) -> Result<(), Stop> {
-    for (place, row) in BRINGINGS.iter().enumerate() {
+    for (place, row) in ACCEPT_CASES.iter().enumerate() {
         expect_call(rt, place, row)?;
     }
     Ok(())

@@ -3,21 +3,21 @@ use crate::conclusion::conclude;
 use land_desk::service::connections::Connections;
 use land_desk::service::serving::{ServiceFault, serve_connections};
 use land_keep::plain_keeper::PlainKeeper;
-use land_test_scenario::calls::{CALLS, Call, Calls, expect_all_told, serve_calls, sinks};
-use land_test_scenario::doubles::Readings;
+use land_test_scenario::calls::{CALLS, Call, Calls, expect_all_outputs, serve_calls, sinks};
+use land_test_scenario::doubles::ClockReadings;
 use land_test_scenario::stop::{Stop, expect};
 use std::alloc::Global;
 use std::rt::HostRuntime;
 use std::test::Fail;
 
 /// Serves a number of connections with a new register.
-pub(crate) fn served<L: Connections>(
+pub(crate) fn serve_new_register<L: Connections>(
     alloc: Global,
     listener: &mut L,
     connections: u32,
 ) -> Result<Result<(), ServiceFault>, Stop> {
     let mut keeper = PlainKeeper::new(alloc)?;
-    let mut clock = Readings { left: &[] };
+    let mut clock = ClockReadings { left: &[] };
     Ok(serve_connections(alloc, listener, connections, &mut keeper, &mut clock))
 }
 
@@ -34,19 +34,19 @@ fn expect_served(
         sinks: sinks.iter_mut(),
     };
     let mut keeper = PlainKeeper::new(alloc)?;
-    let mut clock = Readings { left: &[] };
-    let served = serve_calls(alloc, &mut all, connections, &mut keeper, &mut clock);
-    expect(served == ending, "the ending", 0)?;
-    expect_all_told(calls, &sinks)
+    let mut clock = ClockReadings { left: &[] };
+    let serve_new_register = serve_calls(alloc, &mut all, connections, &mut keeper, &mut clock);
+    expect(serve_new_register == ending, "the ending", 0)?;
+    expect_all_outputs(calls, &sinks)
 }
 
 #[test]
-fn a_connection_that_breaks_off_ends_alone(rt: HostRuntime) -> Result<(), Fail> {
+fn a_dropped_connection_ends_only_itself(rt: HostRuntime) -> Result<(), Fail> {
     conclude(&rt, expect_served(rt.alloc(), CALLS, 5, Ok(())))
 }
 
 #[test]
-fn a_connection_that_cannot_be_had_is_told(rt: HostRuntime) -> Result<(), Fail> {
+fn a_failed_accept_is_reported(rt: HostRuntime) -> Result<(), Fail> {
     let outcome = expect_served(rt.alloc(), &CALLS[..1], 2, Err(ServiceFault::Accept));
     conclude(&rt, outcome)
 }

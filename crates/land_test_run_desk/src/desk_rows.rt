@@ -37,8 +37,8 @@ fn requests_have_limits(rt: HostRuntime) -> Result<(), Fail> {
 }
 
 #[test]
-fn bodies_are_so_deep(rt: HostRuntime) -> Result<(), Fail> {
-    conclude(&rt, long_requests::bodies_are_so_deep(rt.alloc()))
+fn bodies_have_depth_limits(rt: HostRuntime) -> Result<(), Fail> {
+    conclude(&rt, long_requests::bodies_have_depth_limits(rt.alloc()))
 }
 
 #[test]
@@ -98,17 +98,17 @@ fn readers_fail(rt: HostRuntime) -> Result<(), Fail> {
 }
 
 #[test]
-fn what_was_read_ahead_is_not_read_again(rt: HostRuntime) -> Result<(), Fail> {
+fn read_ahead_is_not_read_again(rt: HostRuntime) -> Result<(), Fail> {
     conclude(
         &rt,
-        streams::what_was_read_ahead_is_not_read_again(rt.alloc()),
+        streams::read_ahead_is_not_read_again(rt.alloc()),
     )
 }
 
 #[test]
-fn a_reader_is_not_asked_after_the_last_reply(rt: HostRuntime) -> Result<(), Fail> {
+fn a_reader_is_not_called_after_the_last_reply(rt: HostRuntime) -> Result<(), Fail> {
     conclude(
         &rt,
-        last_reads::a_reader_is_not_asked_after_the_last_reply(rt.alloc()),
+        last_reads::a_reader_is_not_called_after_the_last_reply(rt.alloc()),
     )
 }

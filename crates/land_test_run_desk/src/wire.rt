@@ -37,8 +37,8 @@ fn rows_have_the_fields_of_their_objects(rt: HostRuntime) -> Result<(), Fail> {
 }
 
 #[test]
-fn what_is_no_json_is_130(rt: HostRuntime) -> Result<(), Fail> {
-    conclude(&rt, faults::what_is_no_json_is_130(rt.alloc()))
+fn invalid_json_is_130(rt: HostRuntime) -> Result<(), Fail> {
+    conclude(&rt, faults::invalid_json_is_130(rt.alloc()))
 }
 
 #[test]
@@ -65,10 +65,10 @@ fn wrong_texts_and_words_are_133_and_134(rt: HostRuntime) -> Result<(), Fail> {
 }
 
 #[test]
-fn wrong_lists_are_told_after_their_elements(rt: HostRuntime) -> Result<(), Fail> {
+fn wrong_lists_are_reported_after_their_elements(rt: HostRuntime) -> Result<(), Fail> {
     conclude(
         &rt,
-        faults::wrong_lists_are_told_after_their_elements(rt.alloc()),
+        faults::wrong_lists_are_reported_after_their_elements(rt.alloc()),
     )
 }
 
@@ -78,8 +78,8 @@ fn levels_are_read_up_to_127(rt: HostRuntime) -> Result<(), Fail> {
 }
 
 #[test]
-fn bytes_that_are_no_text_are_130(rt: HostRuntime) -> Result<(), Fail> {
-    conclude(&rt, faults::bytes_that_are_no_text_are_130(rt.alloc()))
+fn invalid_utf8_is_130(rt: HostRuntime) -> Result<(), Fail> {
+    conclude(&rt, faults::invalid_utf8_is_130(rt.alloc()))
 }
 
 #[test]

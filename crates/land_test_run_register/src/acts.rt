@@ -86,7 +86,7 @@ fn is_sound(alloc: Global, register: &Register) -> Result<bool, AllocError>
 }
 
 /// Plans an act on a slice of the register, which is sound.
-fn planned(
+fn plan_of(
     alloc: Global,
     register: &Register,
     act: &Act,
@@ -151,7 +151,7 @@ fn is_made(
     requires formed { is_well_formed act.now ≡ true }
     requires sound { IsSound register.old }
 {
-    let outcome = planned(alloc, register, act, stamp);
+    let outcome = plan_of(alloc, register, act, stamp);
     is_outcome(alloc, register, &outcome, line)
 }
 
@@ -210,12 +210,12 @@ fn take_all(alloc: Global, register: &mut Register, next: u64, steps: &[Step]) -
 }
 
 /// Takes all steps on a register with the citizens Anna, Ben and Sam as parties 2 to 4.
-fn take_anew(alloc: Global, next: u64, steps: &[Step]) -> Result<(), Stop> {
+fn take_from_scratch(alloc: Global, next: u64, steps: &[Step]) -> Result<(), Stop> {
     let mut register = Register::new(alloc)?;
     take_all(alloc, &mut register, next, steps)
 }
 
 /// Takes all steps on a register of the three persons, and asserts that each result is the expected one.
 fn assert_steps(rt: &impl Abort, alloc: Global, next: u64, steps: &[Step]) -> Result<(), Fail> {
-    conclude(rt, take_anew(alloc, next, steps))
+    conclude(rt, take_from_scratch(alloc, next, steps))
 }

@@ -37,22 +37,22 @@ fn alike_pairs(rt: HostRuntime) -> Result<(), Fail> {
 }
 
 #[test]
-fn who_holds_nothing_is_told_nothing_of_the_garden(rt: HostRuntime) -> Result<(), Fail> {
+fn a_party_without_rights_sees_nothing_of_the_garden(rt: HostRuntime) -> Result<(), Fail> {
     conclude(&rt, play_rows(rt.alloc(), WITH_GARDEN, OF_NEITHER))
 }
 
 #[test]
-fn who_holds_nothing_is_told_nothing_of_the_field(rt: HostRuntime) -> Result<(), Fail> {
+fn a_party_without_rights_sees_nothing_of_the_field(rt: HostRuntime) -> Result<(), Fail> {
     conclude(&rt, play_rows(rt.alloc(), WITH_FIELD, OF_NEITHER))
 }
 
 #[test]
-fn who_holds_nothing_is_told_nothing_of_a_mandate(rt: HostRuntime) -> Result<(), Fail> {
+fn a_party_without_rights_sees_nothing_of_a_mandate(rt: HostRuntime) -> Result<(), Fail> {
     conclude(&rt, play_rows(rt.alloc(), WITH_MANDATE, OF_NEITHER))
 }
 
 #[test]
-fn an_owner_is_told_which_world_it_is(rt: HostRuntime) -> Result<(), Fail> {
+fn an_owner_sees_the_difference_of_the_worlds(rt: HostRuntime) -> Result<(), Fail> {
     conclude(&rt, play_rows(rt.alloc(), WITH_GARDEN, OF_GARDEN))?;
     conclude(&rt, play_rows(rt.alloc(), WITH_FIELD, OF_FIELD))
 }

@@ -10,6 +10,6 @@ pub fn conclude(rt: &impl Abort, outcome: Result<(), Stop>) -> Result<(), Fail> 
         Ok(()) => Ok(()),
         Err(Stop::Memory) => Err("no memory")?,
         Err(Stop::Unmade(name)) => panic!(rt; "{name} cannot be made"),
-        Err(Stop::Unlike(name, place)) => panic!(rt; "{name}: {place}"),
+        Err(Stop::Mismatch(name, place)) => panic!(rt; "{name}: {place}"),
     }
 }

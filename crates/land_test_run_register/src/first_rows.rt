@@ -10,7 +10,7 @@ use land_test_cases::asked::RowAct::Enrol;
 use land_test_cases::asked::RowAsk::{Do, List, View};
 use land_test_cases::asked::{OFFICE, RowAsk};
 use land_test_cases::rows::Row;
-use land_test_cases::steps::{ANNA, BEN, play_anew};
+use land_test_cases::steps::{ANNA, BEN, play_on_new_register};
 use std::test::Fail;
 
 const ENROL: RowAsk = Do(Enrol(NaturalPerson, "Anna"));
@@ -39,7 +39,7 @@ const DENIED: &[Row] = &[
 
 #[test]
 fn a_stranger_and_a_missing_role_are_denied(rt: HostRuntime) -> Result<(), Fail> {
-    conclude(&rt, play_anew(rt.alloc(), DENIED))
+    conclude(&rt, play_on_new_register(rt.alloc(), DENIED))
 }
 
 const RISING: &[Row] = &[
@@ -57,8 +57,8 @@ const RISING: &[Row] = &[
 ];
 
 #[test]
-fn stamps_rise_whatever_the_clock_reads(rt: HostRuntime) -> Result<(), Fail> {
-    conclude(&rt, play_anew(rt.alloc(), RISING))
+fn stamps_increase_for_any_reading_of_the_clock(rt: HostRuntime) -> Result<(), Fail> {
+    conclude(&rt, play_on_new_register(rt.alloc(), RISING))
 }
 
 const ITSELF: &[Row] = &[
@@ -76,7 +76,7 @@ const ITSELF: &[Row] = &[
 
 #[test]
 fn a_citizen_sees_itself(rt: HostRuntime) -> Result<(), Fail> {
-    conclude(&rt, play_anew(rt.alloc(), ITSELF))
+    conclude(&rt, play_on_new_register(rt.alloc(), ITSELF))
 }
 
 const PAST: &[Row] = &[
@@ -91,7 +91,7 @@ const PAST: &[Row] = &[
 
 #[test]
 fn the_past_is_read_at_its_moment(rt: HostRuntime) -> Result<(), Fail> {
-    conclude(&rt, play_anew(rt.alloc(), PAST))
+    conclude(&rt, play_on_new_register(rt.alloc(), PAST))
 }
 
 const ENDING_IN_A_DENIAL: &[Row] = &[
@@ -101,6 +101,6 @@ const ENDING_IN_A_DENIAL: &[Row] = &[
 
 #[test]
 fn a_run_may_be_empty_or_end_in_a_denial(rt: HostRuntime) -> Result<(), Fail> {
-    conclude(&rt, play_anew(rt.alloc(), &[]))?;
-    conclude(&rt, play_anew(rt.alloc(), ENDING_IN_A_DENIAL))
+    conclude(&rt, play_on_new_register(rt.alloc(), &[]))?;
+    conclude(&rt, play_on_new_register(rt.alloc(), ENDING_IN_A_DENIAL))
 }

@@ -220,12 +220,12 @@ fn is_told(alloc: Global, fault: FractionFault, text: &str) -> Result<bool, Allo
 }
 
 /// A fault, its number and its text.
-struct Told(FractionFault, u16, &'static str);
+struct ExpectedReply(FractionFault, u16, &'static str);
 
-const FAULTS: &[Told] = &[
-    Told(FractionFault::Zero, 101, "a fraction is above zero"),
-    Told(FractionFault::AboveOne, 102, "a fraction is at most one"),
-    Told(
+const FAULTS: &[ExpectedReply] = &[
+    ExpectedReply(FractionFault::Zero, 101, "a fraction is above zero"),
+    ExpectedReply(FractionFault::AboveOne, 102, "a fraction is at most one"),
+    ExpectedReply(
         FractionFault::TooFine,
         103,
         "the denominator in lowest terms is above 1000000000",

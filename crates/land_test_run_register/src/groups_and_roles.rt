@@ -133,7 +133,7 @@ const NO_GROUP: &[Row] = &[
 ];
 
 #[test]
-fn what_is_no_group_is_not_regrouped(rt: HostRuntime) -> Result<(), Fail> {
+fn only_groups_are_regrouped(rt: HostRuntime) -> Result<(), Fail> {
     conclude(&rt, play_with_group(rt.alloc(), NO_GROUP))
 }
 

@@ -34,7 +34,7 @@ const LATE: &[Row] = &[
 ];
 
 #[test]
-fn now_goes_on_after_the_last_change(rt: HostRuntime) -> Result<(), Fail> {
+fn now_continues_after_the_last_change(rt: HostRuntime) -> Result<(), Fail> {
     conclude(&rt, play_rows(rt.alloc(), WITH_GARDEN, LATE))
 }
 
@@ -60,7 +60,7 @@ const USUFRUCT: &[Row] = &[
 ];
 
 #[test]
-fn who_has_the_fruits_is_no_owner(rt: HostRuntime) -> Result<(), Fail> {
+fn a_usufructuary_is_not_an_owner(rt: HostRuntime) -> Result<(), Fail> {
     conclude(&rt, play_with_group(rt.alloc(), USUFRUCT))
 }
 
@@ -80,6 +80,6 @@ const BANK_IN_GROUP: &[Row] = &[
 ];
 
 #[test]
-fn a_bank_sees_its_groups_as_a_citizen_alone(rt: HostRuntime) -> Result<(), Fail> {
+fn a_bank_sees_its_groups_only_as_a_citizen(rt: HostRuntime) -> Result<(), Fail> {
     conclude(&rt, play_with_group(rt.alloc(), BANK_IN_GROUP))
 }

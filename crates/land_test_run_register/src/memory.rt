@@ -107,7 +107,7 @@ fn enrol_late(alloc: Global) -> Result<(), Stop> {
 }
 
 #[test]
-fn what_is_prepared_changes_nothing_before_it_is_finished(rt: HostRuntime) -> Result<(), Fail> {
+fn a_prepared_act_changes_nothing_before_it_is_finished(rt: HostRuntime) -> Result<(), Fail> {
     conclude(&rt, enrol_late(rt.alloc()))
 }
 
@@ -122,7 +122,7 @@ enum Outcome {
 }
 
 /// Returns whether a reply is this line, or `None` if memory ran out.
-fn answered_so(alloc: Global, reply: &Reply, line: &str) -> Result<Option<bool>, AllocError> {
+fn has_reply_line(alloc: Global, reply: &Reply, line: &str) -> Result<Option<bool>, AllocError> {
     match reply {
         Reply::Store(501) => Ok(None),
         _ => Ok(Some(is_told(alloc, reply, line)?)),
@@ -130,7 +130,7 @@ fn answered_so(alloc: Global, reply: &Reply, line: &str) -> Result<Option<bool>,
 }
 
 /// Returns whether a request gets this reply, or `None` if memory ran out.
-fn asked_once(
+fn send_once(
     alloc: Global,
     keeper: &mut PlainKeeper,
     request: &Request,
@@ -139,11 +139,11 @@ fn asked_once(
     requires { is_well_formed_request request.now ≡ true }
 {
     let reply = answer(alloc, keeper, 1000, request);
-    answered_so(alloc, &reply, line)
+    has_reply_line(alloc, &reply, line)
 }
 
 /// Repeats a request. Checks that nothing has changed before.
-fn asked_again(
+fn send_again(
     alloc: Global,
     keeper: &mut PlainKeeper,
     last: i64,
@@ -155,7 +155,7 @@ fn asked_again(
     if keeper.last() != last || keeper.is_closed() {
         return Ok(Outcome::Wrong);
     }
-    match asked_once(alloc, keeper, request, line)? {
+    match send_once(alloc, keeper, request, line)? {
         Some(true) => Ok(Outcome::Late),
         Some(false) => Ok(Outcome::Wrong),
         None => Err(AllocError),
@@ -172,10 +172,10 @@ fn asked(
     requires { is_well_formed_request request.now ≡ true }
 {
     let last = keeper.last();
-    match asked_once(alloc, keeper, request, line)? {
+    match send_once(alloc, keeper, request, line)? {
         Some(true) => Ok(Outcome::AtOnce),
         Some(false) => Ok(Outcome::Wrong),
-        None => asked_again(alloc, keeper, last, request, line),
+        None => send_again(alloc, keeper, last, request, line),
     }
 }
 
@@ -183,7 +183,7 @@ fn asked(
 struct Row(Caller, RowAsk, &'static str);
 
 /// Sends a request that is well formed.
-fn asked_well(
+fn send_well_formed(
     alloc: Global,
     keeper: &mut PlainKeeper,
     request: &Request,
@@ -195,33 +195,33 @@ fn asked_well(
     Ok(asked(alloc, keeper, request, line)?)
 }
 
-fn asked_row(alloc: Global, keeper: &mut PlainKeeper, row: &Row) -> Result<Outcome, Stop> {
+fn send_row(alloc: Global, keeper: &mut PlainKeeper, row: &Row) -> Result<Outcome, Stop> {
     let request = request(alloc, row.0, &row.1)?;
-    asked_well(alloc, keeper, &request, row.2)
+    send_well_formed(alloc, keeper, &request, row.2)
 }
 
 /// Sends the requests in order, and returns whether one had to be repeated.
 fn is_late(alloc: Global, keeper: &mut PlainKeeper, rows: &[Row]) -> Result<bool, Stop> {
     let mut late = false;
     for (place, row) in rows.iter().enumerate() {
-        match asked_row(alloc, keeper, row)? {
+        match send_row(alloc, keeper, row)? {
             Outcome::AtOnce => {}
             Outcome::Late => late = true,
-            Outcome::Wrong => return Err(Stop::Unlike("row", place)),
+            Outcome::Wrong => return Err(Stop::Mismatch("row", place)),
         }
     }
     Ok(late)
 }
 
-fn is_late_anew(alloc: Global, rows: &[Row]) -> Result<bool, Stop> {
+fn is_late_from_scratch(alloc: Global, rows: &[Row]) -> Result<bool, Stop> {
     let mut keeper = PlainKeeper::new(alloc)?;
     is_late(alloc, &mut keeper, rows)
 }
 
 /// Sends the requests to a new register, where each reply has to be the expected one. If one had to be
 /// repeated, returns out of memory.
-fn ask_anew(alloc: Global, rows: &[Row]) -> Result<(), Stop> {
-    if is_late_anew(alloc, rows)? {
+fn ask_from_scratch(alloc: Global, rows: &[Row]) -> Result<(), Stop> {
+    if is_late_from_scratch(alloc, rows)? {
         Err(Stop::Memory)
     } else {
         Ok(())
@@ -229,8 +229,8 @@ fn ask_anew(alloc: Global, rows: &[Row]) -> Result<(), Stop> {
 }
 
 /// Sends the requests to a new register, and compares the replies in full.
-fn assert_told(rt: &impl Abort, alloc: Global, rows: &[Row]) -> Result<(), Fail> {
-    conclude(rt, ask_anew(alloc, rows))
+fn assert_replies(rt: &impl Abort, alloc: Global, rows: &[Row]) -> Result<(), Fail> {
+    conclude(rt, ask_from_scratch(alloc, rows))
 }
 
 const GROUPING: &[Row] = &[
@@ -248,8 +248,8 @@ const GROUPING: &[Row] = &[
 ];
 
 #[test]
-fn after_want_of_memory_the_same_group_is_made(rt: HostRuntime) -> Result<(), Fail> {
-    assert_told(&rt, rt.alloc(), GROUPING)
+fn after_out_of_memory_the_same_group_is_created(rt: HostRuntime) -> Result<(), Fail> {
+    assert_replies(&rt, rt.alloc(), GROUPING)
 }
 
 const REGROUPING: &[Row] = &[
@@ -268,8 +268,8 @@ const REGROUPING: &[Row] = &[
 ];
 
 #[test]
-fn after_want_of_memory_the_same_group_is_regrouped(rt: HostRuntime) -> Result<(), Fail> {
-    assert_told(&rt, rt.alloc(), REGROUPING)
+fn after_out_of_memory_the_same_group_is_regrouped(rt: HostRuntime) -> Result<(), Fail> {
+    assert_replies(&rt, rt.alloc(), REGROUPING)
 }
 
 const ROLES: &[Row] = &[
@@ -284,8 +284,8 @@ const ROLES: &[Row] = &[
 ];
 
 #[test]
-fn after_want_of_memory_the_same_role_begins_and_ends(rt: HostRuntime) -> Result<(), Fail> {
-    assert_told(&rt, rt.alloc(), ROLES)
+fn after_out_of_memory_the_same_role_starts_and_ends(rt: HostRuntime) -> Result<(), Fail> {
+    assert_replies(&rt, rt.alloc(), ROLES)
 }
 
 const REGISTERING: &[Row] = &[
@@ -308,8 +308,8 @@ const REGISTERING: &[Row] = &[
 ];
 
 #[test]
-fn after_want_of_memory_the_same_sheet_is_shown(rt: HostRuntime) -> Result<(), Fail> {
-    assert_told(&rt, rt.alloc(), REGISTERING)
+fn after_out_of_memory_the_same_sheet_is_returned(rt: HostRuntime) -> Result<(), Fail> {
+    assert_replies(&rt, rt.alloc(), REGISTERING)
 }
 
 const ANNA_AS_NOTARY: Caller = Caller {
@@ -344,8 +344,8 @@ const LODGING: &[Row] = &[
 ];
 
 #[test]
-fn after_want_of_memory_the_same_transfer_is_approved(rt: HostRuntime) -> Result<(), Fail> {
-    assert_told(&rt, rt.alloc(), LODGING)
+fn after_out_of_memory_the_same_transfer_is_approved(rt: HostRuntime) -> Result<(), Fail> {
+    assert_replies(&rt, rt.alloc(), LODGING)
 }
 
 const LENDING: &[Row] = &[
@@ -372,8 +372,8 @@ const LENDING: &[Row] = &[
 ];
 
 #[test]
-fn after_want_of_memory_the_same_mortgage_is_approved(rt: HostRuntime) -> Result<(), Fail> {
-    assert_told(&rt, rt.alloc(), LENDING)
+fn after_out_of_memory_the_same_mortgage_is_approved(rt: HostRuntime) -> Result<(), Fail> {
+    assert_replies(&rt, rt.alloc(), LENDING)
 }
 
 const ANNA_AS_SURVEYOR: Caller = Caller {
@@ -445,6 +445,6 @@ const SURVEYING: &[Row] = &[
 ];
 
 #[test]
-fn after_want_of_memory_the_same_parcels_are_cut_and_merged(rt: HostRuntime) -> Result<(), Fail> {
-    assert_told(&rt, rt.alloc(), SURVEYING)
+fn after_out_of_memory_the_same_parcels_are_cut_and_merged(rt: HostRuntime) -> Result<(), Fail> {
+    assert_replies(&rt, rt.alloc(), SURVEYING)
 }

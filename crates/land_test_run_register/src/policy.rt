@@ -15,15 +15,15 @@ fn the_farm_and_the_house_are_soundly_registered(rt: HostRuntime) -> Result<(), 
 }
 
 #[test]
-fn holders_see_what_is_in_their_units(rt: HostRuntime) -> Result<(), Fail> {
-    conclude(&rt, lists::holders_see_what_is_in_their_units(rt.alloc()))
+fn holders_see_the_contents_of_their_units(rt: HostRuntime) -> Result<(), Fail> {
+    conclude(&rt, lists::holders_see_the_contents_of_their_units(rt.alloc()))
 }
 
 #[test]
-fn creditors_see_what_is_in_the_units_of_their_mortgages(rt: HostRuntime) -> Result<(), Fail> {
+fn creditors_see_the_units_of_their_mortgages(rt: HostRuntime) -> Result<(), Fail> {
     conclude(
         &rt,
-        lists::creditors_see_what_is_in_the_units_of_their_mortgages(rt.alloc()),
+        lists::creditors_see_the_units_of_their_mortgages(rt.alloc()),
     )
 }
 
@@ -75,10 +75,10 @@ fn agents_see_as_their_principals_do(rt: HostRuntime) -> Result<(), Fail> {
 }
 
 #[test]
-fn agents_are_denied_what_none_of_their_circle_sees(rt: HostRuntime) -> Result<(), Fail> {
+fn agents_see_only_what_their_circle_sees(rt: HostRuntime) -> Result<(), Fail> {
     conclude(
         &rt,
-        mandates::agents_are_denied_what_none_of_their_circle_sees(rt.alloc()),
+        mandates::agents_see_only_what_their_circle_sees(rt.alloc()),
     )
 }
 
@@ -107,13 +107,13 @@ fn lodgers_and_holders_see_mutations(rt: HostRuntime) -> Result<(), Fail> {
 }
 
 #[test]
-fn who_lodges_what(rt: HostRuntime) -> Result<(), Fail> {
-    conclude(&rt, mutations::who_lodges_what(rt.alloc()))
+fn roles_lodge_their_contents(rt: HostRuntime) -> Result<(), Fail> {
+    conclude(&rt, mutations::roles_lodge_their_contents(rt.alloc()))
 }
 
 #[test]
-fn nobody_decides_what_it_lodged(rt: HostRuntime) -> Result<(), Fail> {
-    conclude(&rt, mutations::nobody_decides_what_it_lodged(rt.alloc()))
+fn no_party_decides_on_its_own_lodging(rt: HostRuntime) -> Result<(), Fail> {
+    conclude(&rt, mutations::no_party_decides_on_its_own_lodging(rt.alloc()))
 }
 
 #[test]
@@ -125,10 +125,10 @@ fn surveyors_lodge_subdivisions_and_mergers(rt: HostRuntime) -> Result<(), Fail>
 }
 
 #[test]
-fn what_is_surveyed_is_soundly_registered(rt: HostRuntime) -> Result<(), Fail> {
+fn surveyed_parcels_are_soundly_registered(rt: HostRuntime) -> Result<(), Fail> {
     conclude(
         &rt,
-        parcels::what_is_surveyed_is_soundly_registered(rt.alloc()),
+        parcels::surveyed_parcels_are_soundly_registered(rt.alloc()),
     )
 }
 
@@ -154,18 +154,18 @@ fn strangers_and_missing_roles_are_denied(rt: HostRuntime) -> Result<(), Fail> {
 }
 
 #[test]
-fn some_roles_are_told_of_the_present_alone(rt: HostRuntime) -> Result<(), Fail> {
+fn some_roles_see_only_the_present(rt: HostRuntime) -> Result<(), Fail> {
     conclude(
         &rt,
-        standing::some_roles_are_told_of_the_present_alone(rt.alloc()),
+        standing::some_roles_see_only_the_present(rt.alloc()),
     )
 }
 
 #[test]
-fn the_office_alone_burdens_units_and_lifts_burdens(rt: HostRuntime) -> Result<(), Fail> {
+fn only_the_office_burdens_units_and_lifts_burdens(rt: HostRuntime) -> Result<(), Fail> {
     conclude(
         &rt,
-        standing::the_office_alone_burdens_units_and_lifts_burdens(rt.alloc()),
+        standing::only_the_office_burdens_units_and_lifts_burdens(rt.alloc()),
     )
 }
 
@@ -207,8 +207,8 @@ fn a_surveyor_is_denied_by_rules_23_and_24(rt: HostRuntime) -> Result<(), Fail> 
 }
 
 #[test]
-fn what_is_absent_is_denied_by_rule_27(rt: HostRuntime) -> Result<(), Fail> {
-    conclude(&rt, views::what_is_absent_is_denied_by_rule_27(rt.alloc()))
+fn missing_objects_are_denied_by_rule_27(rt: HostRuntime) -> Result<(), Fail> {
+    conclude(&rt, views::missing_objects_are_denied_by_rule_27(rt.alloc()))
 }
 
 #[test]

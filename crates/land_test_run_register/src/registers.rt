@@ -6,10 +6,10 @@ use land_test_register::records::{
 use std::test::Fail;
 
 #[test]
-fn want_of_memory_leaves_the_changed_register(rt: HostRuntime) -> Result<(), Fail> {
+fn out_of_memory_leaves_the_changed_register(rt: HostRuntime) -> Result<(), Fail> {
     conclude(
         &rt,
-        changing::want_of_memory_leaves_the_changed_register(rt.alloc()),
+        changing::out_of_memory_leaves_the_changed_register(rt.alloc()),
     )
 }
 
@@ -57,10 +57,10 @@ fn a_new_register_is_sound(rt: HostRuntime) -> Result<(), Fail> {
 }
 
 #[test]
-fn want_of_memory_leaves_the_copied_register(rt: HostRuntime) -> Result<(), Fail> {
+fn out_of_memory_leaves_the_copied_register(rt: HostRuntime) -> Result<(), Fail> {
     conclude(
         &rt,
-        copies::want_of_memory_leaves_the_copied_register(rt.alloc()),
+        copies::out_of_memory_leaves_the_copied_register(rt.alloc()),
     )
 }
 
@@ -119,8 +119,8 @@ fn mandates_are_those_of_the_change(rt: HostRuntime) -> Result<(), Fail> {
 }
 
 #[test]
-fn somebody_is_state_administrator(rt: HostRuntime) -> Result<(), Fail> {
-    conclude(&rt, faults::somebody_is_state_administrator(rt.alloc()))
+fn there_is_a_state_administrator(rt: HostRuntime) -> Result<(), Fail> {
+    conclude(&rt, faults::there_is_a_state_administrator(rt.alloc()))
 }
 
 #[test]
@@ -137,18 +137,18 @@ fn only_groups_have_members(rt: HostRuntime) -> Result<(), Fail> {
 }
 
 #[test]
-fn the_lodger_of_a_mutation_stands(rt: HostRuntime) -> Result<(), Fail> {
+fn the_lodger_of_a_mutation_exists(rt: HostRuntime) -> Result<(), Fail> {
     conclude(
         &rt,
-        mutation_faults::the_lodger_of_a_mutation_stands(rt.alloc()),
+        mutation_faults::the_lodger_of_a_mutation_exists(rt.alloc()),
     )
 }
 
 #[test]
-fn the_source_of_a_mutation_stands(rt: HostRuntime) -> Result<(), Fail> {
+fn the_source_of_a_mutation_exists(rt: HostRuntime) -> Result<(), Fail> {
     conclude(
         &rt,
-        mutation_faults::the_source_of_a_mutation_stands(rt.alloc()),
+        mutation_faults::the_source_of_a_mutation_exists(rt.alloc()),
     )
 }
 
@@ -182,10 +182,10 @@ fn objects_are_shown(rt: HostRuntime) -> Result<(), Fail> {
 }
 
 #[test]
-fn nothing_is_shown_where_no_object_of_the_kind_stands(rt: HostRuntime) -> Result<(), Fail> {
+fn missing_objects_are_not_shown(rt: HostRuntime) -> Result<(), Fail> {
     conclude(
         &rt,
-        objects::nothing_is_shown_where_no_object_of_the_kind_stands(rt.alloc()),
+        objects::missing_objects_are_not_shown(rt.alloc()),
     )
 }
 
@@ -222,13 +222,13 @@ fn mortgages_of_a_unit_have_ranks_of_their_own(rt: HostRuntime) -> Result<(), Fa
 }
 
 #[test]
-fn parcels_refer_to_what_stands(rt: HostRuntime) -> Result<(), Fail> {
-    conclude(&rt, unit_faults::parcels_refer_to_what_stands(rt.alloc()))
+fn parcels_refer_to_existing_objects(rt: HostRuntime) -> Result<(), Fail> {
+    conclude(&rt, unit_faults::parcels_refer_to_existing_objects(rt.alloc()))
 }
 
 #[test]
-fn entries_refer_to_what_stands(rt: HostRuntime) -> Result<(), Fail> {
-    conclude(&rt, unit_faults::entries_refer_to_what_stands(rt.alloc()))
+fn entries_refer_to_existing_objects(rt: HostRuntime) -> Result<(), Fail> {
+    conclude(&rt, unit_faults::entries_refer_to_existing_objects(rt.alloc()))
 }
 
 #[test]

@@ -6,17 +6,17 @@ ghost use Rattle.std.specs.List.{list_all};
 ghost use Rattle.std.specs.Prelude.{◌≡◌, true, false, refl, int_lt, nat_le, length};
 
 use land_tables_history::sweeps::apart::{Span, are_apart};
-use land_tables_history::sweeps::cover::{Piece, is_covered};
-use land_tables_history::sweeps::sweep::{Judged, Lived, are_sound};
+use land_tables_history::sweeps::cover::{CoverageSpan, is_covered};
+use land_tables_history::sweeps::sweep::{SweepItem, LiveSpan, are_sound};
 use std::alloc::{AllocError, Global};
 use std::test::Fail;
 
 // ---- required intervals that are covered
 
-fn offered(key: u64, since: i64, until: i64) -> Piece
+fn offered(key: u64, since: i64, until: i64) -> CoverageSpan
     ensures { result ≡ record { first = key; second = 0; since = since; asked = false; until = until } }
 {
-    Piece {
+    CoverageSpan {
         first: key,
         second: 0,
         since,
@@ -25,10 +25,10 @@ fn offered(key: u64, since: i64, until: i64) -> Piece
     }
 }
 
-fn asked(key: u64, since: i64, until: i64) -> Piece
+fn asked(key: u64, since: i64, until: i64) -> CoverageSpan
     ensures { result ≡ record { first = key; second = 0; since = since; asked = true; until = until } }
 {
-    Piece {
+    CoverageSpan {
         first: key,
         second: 0,
         since,
@@ -38,7 +38,7 @@ fn asked(key: u64, since: i64, until: i64) -> Piece
 }
 
 /// Returns whether each key is provided whenever it is required.
-fn covers(alloc: Global, pieces: &[Piece]) -> Result<bool, AllocError>
+fn covers(alloc: Global, pieces: &[CoverageSpan]) -> Result<bool, AllocError>
     requires { list_all (λ x. int_lt x.since x.until) pieces.now ≡ true }
 {
     let mut copies = pieces.to_vec(alloc)?;
@@ -55,7 +55,7 @@ fn nothing_is_asked_for(rt: HostRuntime) -> Result<(), Fail> {
 
 /// A provided interval starts and ends with the required one, or a millisecond too late or too early.
 #[test]
-fn offers_begin_and_end_with_what_is_asked_for(rt: HostRuntime) -> Result<(), Fail> {
+fn provided_intervals_start_and_end_with_required_ones(rt: HostRuntime) -> Result<(), Fail> {
     assert!(&rt; covers(rt.alloc(), &[asked(1, 10, 20), offered(1, 10, 20)])?);
     assert!(&rt; !covers(rt.alloc(), &[asked(1, 10, 20), offered(1, 11, 20)])?);
     assert!(&rt; !covers(rt.alloc(), &[asked(1, 10, 20), offered(1, 10, 19)])?);
@@ -110,10 +110,10 @@ fn offers_of_two_keys(rt: HostRuntime) -> Result<(), Fail> {
 #[derive(Clone, Copy, Debug, PartialEq, Eq, PartialOrd, Ord)]
 struct Seat(u64);
 
-impl Judged for Seat {
+impl SweepItem for Seat {
     ghost is_sound = { λ there. nat_le (length there) 2 };
 
-    fn judge(_alloc: Global, there: &[Lived<Seat>]) -> Result<bool, AllocError> {
+    fn check_soundness(_alloc: Global, there: &[LiveSpan<Seat>]) -> Result<bool, AllocError> {
         Ok(there.len() <= 2)
     }
 
@@ -122,8 +122,8 @@ impl Judged for Seat {
     ghost in_any_order = { λ xs ys p. sym (ap (λ n. nat_le n 2) (length_permutation xs ys p)) };
 }
 
-fn taken(key: u64, since: i64, until: i64) -> Lived<Seat> {
-    Lived {
+fn taken(key: u64, since: i64, until: i64) -> LiveSpan<Seat> {
+    LiveSpan {
         key,
         since,
         until,
@@ -132,7 +132,7 @@ fn taken(key: u64, since: i64, until: i64) -> Lived<Seat> {
 }
 
 /// Returns whether at most two are current together under each key.
-fn are_few(alloc: Global, seats: &[Lived<Seat>]) -> Result<bool, AllocError> {
+fn are_few(alloc: Global, seats: &[LiveSpan<Seat>]) -> Result<bool, AllocError> {
     let mut copies = seats.to_vec(alloc)?;
     are_sound(alloc, &mut copies)
 }

@@ -122,7 +122,7 @@ const SHOWN: &[Row] = &[
 ];
 
 #[test]
-fn what_is_registered_is_shown(rt: HostRuntime) -> Result<(), Fail> {
+fn registered_objects_are_shown(rt: HostRuntime) -> Result<(), Fail> {
     conclude(&rt, play_with_garden(rt.alloc(), SHOWN))
 }
 

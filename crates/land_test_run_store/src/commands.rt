@@ -14,34 +14,34 @@ fn the_scenario_leaves_a_sound_register(rt: HostRuntime) -> Result<(), Fail> {
 }
 
 #[test]
-fn a_register_of_the_first_version_is_migrated_once(rt: HostRuntime) -> Result<(), Fail> {
+fn a_v1_register_is_migrated_once(rt: HostRuntime) -> Result<(), Fail> {
     conclude(
         &rt,
-        commands::a_register_of_the_first_version_is_migrated_once(&rt),
+        commands::a_v1_register_is_migrated_once(&rt),
     )
 }
 
 #[test]
-fn what_is_not_there_is_not_made(rt: HostRuntime) -> Result<(), Fail> {
-    conclude(&rt, commands::what_is_not_there_is_not_made(&rt))
+fn missing_files_are_not_created(rt: HostRuntime) -> Result<(), Fail> {
+    conclude(&rt, commands::missing_files_are_not_created(&rt))
 }
 
 #[test]
-fn what_is_no_file_cannot_be_opened(rt: HostRuntime) -> Result<(), Fail> {
-    conclude(&rt, commands::what_is_no_file_cannot_be_opened(&rt))
+fn non_files_cannot_be_opened(rt: HostRuntime) -> Result<(), Fail> {
+    conclude(&rt, commands::non_files_cannot_be_opened(&rt))
 }
 
 #[test]
-fn an_empty_file_is_no_register_and_stays_empty(rt: HostRuntime) -> Result<(), Fail> {
+fn an_empty_file_stays_empty(rt: HostRuntime) -> Result<(), Fail> {
     conclude(
         &rt,
-        commands::an_empty_file_is_no_register_and_stays_empty(&rt),
+        commands::an_empty_file_stays_empty(&rt),
     )
 }
 
 #[test]
-fn another_file_is_left_as_it_is(rt: HostRuntime) -> Result<(), Fail> {
-    conclude(&rt, commands::another_file_is_left_as_it_is(&rt))
+fn other_files_stay_unchanged(rt: HostRuntime) -> Result<(), Fail> {
+    conclude(&rt, commands::other_files_stay_unchanged(&rt))
 }
 
 #[test]
@@ -53,17 +53,17 @@ fn a_store_of_another_application_is_refused(rt: HostRuntime) -> Result<(), Fail
 }
 
 #[test]
-fn a_file_that_is_held_elsewhere_cannot_be_opened(rt: HostRuntime) -> Result<(), Fail> {
+fn an_open_file_cannot_be_opened_again(rt: HostRuntime) -> Result<(), Fail> {
     conclude(
         &rt,
-        commands::a_file_that_is_held_elsewhere_cannot_be_opened(&rt),
+        commands::an_open_file_cannot_be_opened_again(&rt),
     )
 }
 
 #[test]
-fn a_port_that_is_taken_cannot_be_listened_on(rt: HostRuntime) -> Result<(), Fail> {
+fn a_used_port_cannot_be_listened_on(rt: HostRuntime) -> Result<(), Fail> {
     conclude(
         &rt,
-        commands::a_port_that_is_taken_cannot_be_listened_on(&rt),
+        commands::a_used_port_cannot_be_listened_on(&rt),
     )
 }

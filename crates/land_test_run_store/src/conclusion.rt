@@ -10,6 +10,6 @@ pub fn conclude(rt: &impl Abort, outcome: Result<(), Stop>) -> Result<(), Fail> 
         Ok(()) => Ok(()),
         Err(Stop::Memory) => Err("no memory")?,
         Err(Stop::Call) => panic!(rt; "a call failed"),
-        Err(Stop::Unlike(name, place)) => panic!(rt; "{name}: {place}"),
+        Err(Stop::Mismatch(name, place)) => panic!(rt; "{name}: {place}"),
     }
 }

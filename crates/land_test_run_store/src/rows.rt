@@ -4,10 +4,10 @@ use land_test_store::rows::{openness, register, versions};
 use std::test::Fail;
 
 #[test]
-fn a_store_is_open_with_no_memory_left(rt: HostRuntime) -> Result<(), Fail> {
+fn a_store_is_open_when_out_of_memory(rt: HostRuntime) -> Result<(), Fail> {
     conclude(
         &rt,
-        openness::a_store_is_open_with_no_memory_left(rt.alloc()),
+        openness::a_store_is_open_when_out_of_memory(rt.alloc()),
     )
 }
 
@@ -17,14 +17,14 @@ fn a_new_register_has_its_first_rows(rt: HostRuntime) -> Result<(), Fail> {
 }
 
 #[test]
-fn versions_begin_and_are_closed(rt: HostRuntime) -> Result<(), Fail> {
-    conclude(&rt, versions::versions_begin_and_are_closed(rt.alloc()))
+fn versions_are_inserted_and_closed(rt: HostRuntime) -> Result<(), Fail> {
+    conclude(&rt, versions::versions_are_inserted_and_closed(rt.alloc()))
 }
 
 #[test]
-fn what_is_not_committed_is_not_there(rt: HostRuntime) -> Result<(), Fail> {
+fn uncommitted_rows_do_not_exist(rt: HostRuntime) -> Result<(), Fail> {
     conclude(
         &rt,
-        versions::what_is_not_committed_is_not_there(rt.alloc()),
+        versions::uncommitted_rows_do_not_exist(rt.alloc()),
     )
 }

@@ -1,6 +1,6 @@
 //! The register in tables.
 use crate::conclusion::conclude;
-use land_test_tables::tables::{again, creating, going_on, migrating, replies, rows, stamps};
+use land_test_tables::tables::{again, creating, continuing, migrating, replies, rows, stamps};
 use std::test::Fail;
 
 #[test]
@@ -26,14 +26,14 @@ fn a_register_is_made_once(rt: HostRuntime) -> Result<(), Fail> {
 
 #[test]
 fn a_new_register_goes_on(rt: HostRuntime) -> Result<(), Fail> {
-    conclude(&rt, going_on::a_new_register_goes_on(rt.alloc()))
+    conclude(&rt, continuing::a_new_register_goes_on(rt.alloc()))
 }
 
 #[test]
-fn a_register_of_the_first_version_is_migrated_once(rt: HostRuntime) -> Result<(), Fail> {
+fn a_v1_register_is_migrated_once(rt: HostRuntime) -> Result<(), Fail> {
     conclude(
         &rt,
-        migrating::a_register_of_the_first_version_is_migrated_once(rt.alloc()),
+        migrating::a_v1_register_is_migrated_once(rt.alloc()),
     )
 }
 

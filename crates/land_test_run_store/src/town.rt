@@ -9,9 +9,9 @@ fn a_command_serves_connections(rt: HostRuntime) -> Result<(), Fail> {
 }
 
 #[test]
-fn a_command_tells_that_a_connection_cannot_be_had(rt: HostRuntime) -> Result<(), Fail> {
+fn a_failed_accept_ends_the_command(rt: HostRuntime) -> Result<(), Fail> {
     conclude(
         &rt,
-        town::a_command_tells_that_a_connection_cannot_be_had(rt.alloc()),
+        town::a_failed_accept_ends_the_command(rt.alloc()),
     )
 }

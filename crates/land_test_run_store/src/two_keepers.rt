@@ -4,18 +4,18 @@ use land_test_keepers::keepers::two_keepers;
 use std::test::Fail;
 
 #[test]
-fn requests_are_told_their_first_fault(rt: HostRuntime) -> Result<(), Fail> {
+fn requests_get_their_first_fault(rt: HostRuntime) -> Result<(), Fail> {
     conclude(
         &rt,
-        two_keepers::requests_are_told_their_first_fault(rt.alloc()),
+        two_keepers::requests_get_their_first_fault(rt.alloc()),
     )
 }
 
 #[test]
-fn bodies_are_told_their_first_fault(rt: HostRuntime) -> Result<(), Fail> {
+fn bodies_get_their_first_fault(rt: HostRuntime) -> Result<(), Fail> {
     conclude(
         &rt,
-        two_keepers::bodies_are_told_their_first_fault(rt.alloc()),
+        two_keepers::bodies_get_their_first_fault(rt.alloc()),
     )
 }
 
@@ -56,18 +56,18 @@ fn parcels_are_cut_and_merged(rt: HostRuntime) -> Result<(), Fail> {
 }
 
 #[test]
-fn the_scenario_with_what_is_told_beside_its_first_steps(rt: HostRuntime) -> Result<(), Fail> {
+fn the_scenario_with_other_requests_after_its_first_steps(rt: HostRuntime) -> Result<(), Fail> {
     conclude(
         &rt,
-        two_keepers::the_scenario_with_what_is_told_beside_its_first_steps(rt.alloc()),
+        two_keepers::the_scenario_with_other_requests_after_its_first_steps(rt.alloc()),
     )
 }
 
 #[test]
-fn the_scenario_with_what_is_told_beside_its_last_steps(rt: HostRuntime) -> Result<(), Fail> {
+fn the_scenario_with_other_requests_after_its_last_steps(rt: HostRuntime) -> Result<(), Fail> {
     conclude(
         &rt,
-        two_keepers::the_scenario_with_what_is_told_beside_its_last_steps(rt.alloc()),
+        two_keepers::the_scenario_with_other_requests_after_its_last_steps(rt.alloc()),
     )
 }
 

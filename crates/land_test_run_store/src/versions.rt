@@ -1,6 +1,6 @@
 //! Decoded rows of the tables, and which histories are valid.
 use crate::conclusion::conclude;
-use land_test_store::versions::{contents, damages, lawful, lifespans, spellings, words};
+use land_test_store::versions::{contents, wrong_values, valid_history, lifespans, representations, words};
 use std::test::Fail;
 
 #[test]
@@ -12,18 +12,18 @@ fn contents_are_read_by_their_act(rt: HostRuntime) -> Result<(), Fail> {
 fn each_value_of_each_column_has_its_fault(rt: HostRuntime) -> Result<(), Fail> {
     conclude(
         &rt,
-        damages::each_value_of_each_column_has_its_fault(rt.alloc()),
+        wrong_values::each_value_of_each_column_has_its_fault(rt.alloc()),
     )
 }
 
 #[test]
-fn histories_are_lawful_or_not(rt: HostRuntime) -> Result<(), Fail> {
-    conclude(&rt, lawful::histories_are_lawful_or_not(rt.alloc()))
+fn histories_are_valid_or_not(rt: HostRuntime) -> Result<(), Fail> {
+    conclude(&rt, valid_history::histories_are_valid_or_not(rt.alloc()))
 }
 
 #[test]
 fn the_latest_moment_is_found(rt: HostRuntime) -> Result<(), Fail> {
-    conclude(&rt, lawful::the_latest_moment_is_found())
+    conclude(&rt, valid_history::the_latest_moment_is_found())
 }
 
 #[test]
@@ -43,19 +43,19 @@ fn lifespans_of_one_key_do_not_overlap(rt: HostRuntime) -> Result<(), Fail> {
 }
 
 #[test]
-fn other_keys_have_other_lifespans(rt: HostRuntime) -> Result<(), Fail> {
-    conclude(&rt, lifespans::other_keys_have_other_lifespans(rt.alloc()))
+fn other_keys_have_their_own_lifespans(rt: HostRuntime) -> Result<(), Fail> {
+    conclude(&rt, lifespans::other_keys_have_their_own_lifespans(rt.alloc()))
 }
 
 #[test]
-fn rows_say_the_same_however_spelled(rt: HostRuntime) -> Result<(), Fail> {
+fn representations_decode_alike(rt: HostRuntime) -> Result<(), Fail> {
     conclude(
         &rt,
-        spellings::rows_say_the_same_however_spelled(rt.alloc()),
+        representations::representations_decode_alike(rt.alloc()),
     )
 }
 
 #[test]
-fn each_word_stands_for_one_thing(rt: HostRuntime) -> Result<(), Fail> {
-    conclude(&rt, words::each_word_stands_for_one_thing(rt.alloc()))
+fn each_word_has_one_meaning(rt: HostRuntime) -> Result<(), Fail> {
+    conclude(&rt, words::each_word_has_one_meaning(rt.alloc()))
 }

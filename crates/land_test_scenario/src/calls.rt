@@ -1,9 +1,9 @@
 //! Test connections, each with its expected output.
 ghost use Rattle.std.specs.Prelude.{◌≡◌, List, Some, length, map, take};
-ghost use Rattle.land_desk.specs.Service.{AreWanted, Connection};
+ghost use Rattle.land_desk.specs.Service.{IsServedCount, Connection};
 
-use crate::doubles::{Pieces, Readings, Sink};
-use crate::playing::open_sink;
+use crate::doubles::{ChunkReader, ClockReadings, Sink};
+use crate::run_scenario::open_sink;
 use crate::stop::{Stop, expect};
 use crate::talk::common;
 use land_desk::service::connections::Connections;
@@ -87,13 +87,13 @@ pub struct Calls<'a> {
 }
 
 impl<'a> Connections for Calls<'a> {
-    type Reader = Pieces<'static>;
+    type Reader = ChunkReader<'static>;
 
     type Writer = &'a mut Sink;
 
     ghost coming = { λ it. Some (map (λ call. Some call.brings.now) it.calls.now) };
 
-    fn next_connection(&mut self) -> io::Result<(Pieces<'static>, &'a mut Sink)> {
+    fn accept_connection(&mut self) -> io::Result<(ChunkReader<'static>, &'a mut Sink)> {
         let Some((call, calls)) = self.calls.split_first() else {
             return Err(io::Error::from(io::ErrorKind::ConnectionAborted));
         };
@@ -101,7 +101,7 @@ impl<'a> Connections for Calls<'a> {
             return Err(io::Error::from(io::ErrorKind::ConnectionAborted));
         };
         self.calls = calls;
-        let reader = Pieces {
+        let reader = ChunkReader {
             left: call.brings,
             piece: 50,
             reads: call.reads,
@@ -109,7 +109,7 @@ impl<'a> Connections for Calls<'a> {
         Ok((reader, sink))
     }
 
-    fn close_connection(_reader: &mut Pieces<'static>, writer: &mut &'a mut Sink) {
+    fn close_connection(_reader: &mut ChunkReader<'static>, writer: &mut &'a mut Sink) {
         writer.is_ended = true;
     }
 }
@@ -121,9 +121,9 @@ pub fn serve_calls(
     calls: &mut Calls<'_>,
     connections: u32,
     keeper: &mut PlainKeeper,
-    clock: &mut Readings,
+    clock: &mut ClockReadings,
 ) -> Result<(), ServiceFault>
-    ensures { (xs : List Connection) × AreWanted (length xs) connections result
+    ensures { (xs : List Connection) × IsServedCount (length xs) connections result
         × (map (λ x. x.bytes) xs ≡ take (length xs) (map (λ call. Some call.brings.now) calls.old.calls.now)) }
 {
     serve_connections(alloc, calls, connections, keeper, clock)
@@ -141,7 +141,7 @@ pub fn sinks(alloc: Global, calls: &[Call]) -> Result<Vec<Sink>, AllocError> {
 }
 
 /// Checks the output of a connection. If a reply is 501 or is missing, the test stops with out of memory.
-pub fn expect_told(place: usize, taken: &[u8], wanted: &[u8]) -> Result<(), Stop> {
+pub fn expect_output(place: usize, taken: &[u8], wanted: &[u8]) -> Result<(), Stop> {
     let same = common(taken, wanted);
     if same == taken.len() && same < wanted.len() {
         return Err(Stop::Memory);
@@ -153,9 +153,9 @@ pub fn expect_told(place: usize, taken: &[u8], wanted: &[u8]) -> Result<(), Stop
 }
 
 /// Checks the output of each connection, and that those which were served are closed.
-pub fn expect_all_told(calls: &[Call], sinks: &[Sink]) -> Result<(), Stop> {
+pub fn expect_all_outputs(calls: &[Call], sinks: &[Sink]) -> Result<(), Stop> {
     for (place, (call, sink)) in calls.iter().zip(sinks.iter()).enumerate() {
-        expect_told(place, &sink.taken, call.told)?;
+        expect_output(place, &sink.taken, call.told)?;
         expect(sink.is_ended == call.is_ended, "the end", place)?;
     }
     Ok(())

@@ -8,13 +8,13 @@ use std::io::{Read, Write};
 /// A reader of known bytes. Returns at most `piece` bytes at a time, at least one, and fails after `reads`
 /// calls.
 #[derive(Drop)]
-pub struct Pieces<'a> {
+pub struct ChunkReader<'a> {
     pub left: &'a [u8],
     pub piece: usize,
     pub reads: u64,
 }
 
-impl Read for Pieces<'_> {
+impl Read for ChunkReader<'_> {
     ghost remaining = { λ it. Some it.left.now };
 
     fn read(&mut self, buf: &mut [u8]) -> io::Result<usize> {
@@ -62,11 +62,11 @@ impl Write for Sink {
 
 /// A clock that reads these moments in order, and then always 1000.
 #[derive(Clone, Copy)]
-pub struct Readings {
+pub struct ClockReadings {
     pub left: &'static [i64],
 }
 
-impl Clock for Readings {
+impl Clock for ClockReadings {
     ghost reads = { λ _ _ _. Unit {0} };
 
     fn read(&mut self) -> i64 {

@@ -18,11 +18,11 @@ const OFFICE: Caller = Caller {
 };
 
 /// The bytes of the request.
-pub const ENROL_ANNA: &[u8] =
+pub const ENROL_ANNA_REQUEST: &[u8] =
     b"POST /acts/enrol HTTP/1.1\r\nRegister-Party: 1\r\nRegister-Role: stateAdministrator\r\nContent-Length: 38\r\n\r\n{\"kind\":\"naturalPerson\",\"name\":\"Anna\"}";
 
 /// The bytes of the response.
-pub const ANNA_IS_ENROLLED: &[u8] =
+pub const ANNA_ENROLLED_RESPONSE: &[u8] =
     b"HTTP/1.1 200 OK\r\nContent-Type: application/json\r\nContent-Length: 36\r\n\r\n{\"made\":[2],\"number\":2,\"stamp\":1000}";
 
 /// Builds the request: the office enrols Anna.

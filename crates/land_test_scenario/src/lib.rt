@@ -9,7 +9,7 @@ pub mod first;
 pub mod lines;
 pub mod looks;
 pub mod mandates;
-pub mod playing;
+pub mod run_scenario;
 pub mod scenario;
 pub mod stop;
 pub mod talk;

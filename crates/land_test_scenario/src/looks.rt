@@ -8,7 +8,7 @@ use std::alloc::Global;
 pub struct Look(pub &'static str, pub &'static str);
 
 /// The queries after `STEPS`.
-const LOOKS: &[Look] = &[
+const QUERIES: &[Look] = &[
     Look("SELECT id, version FROM edition", "1|2|\n"),
     Look(
         "SELECT stamp, next FROM moments ORDER BY stamp",
@@ -136,7 +136,7 @@ const LOOKS: &[Look] = &[
 ];
 
 /// The queries after `MORE`: the rows that changed.
-const MORE_LOOKS: &[Look] = &[
+const QUERIES_AFTER_MORE: &[Look] = &[
     Look(
         "SELECT stamp, next FROM moments WHERE stamp > 1016 ORDER BY stamp",
         "1017|30|\n\
@@ -222,11 +222,11 @@ pub fn look_at<S: Alter>(
 }
 
 /// Checks the rows after `STEPS`.
-pub fn look_at_steps<S: Alter>(alloc: Global, conn: &mut Connection<S>) -> Result<(), Stop> {
-    look_at(alloc, conn, LOOKS)
+pub fn expect_rows_after_steps<S: Alter>(alloc: Global, conn: &mut Connection<S>) -> Result<(), Stop> {
+    look_at(alloc, conn, QUERIES)
 }
 
 /// Checks the rows that `MORE` changed.
-pub fn look_at_more<S: Alter>(alloc: Global, conn: &mut Connection<S>) -> Result<(), Stop> {
-    look_at(alloc, conn, MORE_LOOKS)
+pub fn expect_rows_after_more<S: Alter>(alloc: Global, conn: &mut Connection<S>) -> Result<(), Stop> {
+    look_at(alloc, conn, QUERIES_AFTER_MORE)
 }

@@ -1,5 +1,5 @@
 //! Mandates after the first twelve steps of the scenario, with the expected replies.
-use crate::talk::Told::{Denied, Refused, Shown};
+use crate::talk::ExpectedReply::{Denied, Refused, Shown};
 use crate::talk::{ANNA, BEN, NORA, NOTARY, Row};
 
 /// The bank as a citizen, for its own holdings.

@@ -12,7 +12,7 @@ pub enum Stop {
     /// A call failed that must succeed.
     Call,
     /// A check failed: its name, and its place.
-    Unlike(&'static str, usize),
+    Mismatch(&'static str, usize),
 }
 
 impl From<AllocError> for Stop {
@@ -53,6 +53,6 @@ pub fn expect(is_well: bool, name: &'static str, place: usize) -> Result<(), Sto
     if is_well {
         Ok(())
     } else {
-        Err(Stop::Unlike(name, place))
+        Err(Stop::Mismatch(name, place))
     }
 }

@@ -31,7 +31,7 @@ const PLAIN: &str = "text/plain; charset=utf-8";
 
 /// An expected reply.
 #[derive(Clone, Copy)]
-pub enum Told {
+pub enum ExpectedReply {
     /// 200: an object, numbers or a receipt.
     Shown(&'static str),
     /// 200: a title sheet.
@@ -43,7 +43,7 @@ pub enum Told {
     /// 400: the number of the fault.
     Fault(u16),
     /// 400 for a HEAD request: without a body, but with this length.
-    Unsaid(usize),
+    HeadFault(usize),
 }
 
 /// A request and its expected reply: its line without the version, the fields of its caller, its body.
@@ -51,7 +51,7 @@ pub struct Row(
     pub &'static str,
     pub &'static str,
     pub &'static [u8],
-    pub Told,
+    pub ExpectedReply,
 );
 
 /// The position of a row: its name and place, and its ends in the input and in the output.
@@ -65,7 +65,7 @@ pub struct Mark {
 
 /// Requests as one stream, and the expected replies as another.
 #[derive(Drop)]
-pub struct Talk {
+pub struct Transcript {
     pub input: Vec<u8>,
     pub output: String,
     pub marks: Vec<Mark>,
@@ -84,10 +84,10 @@ pub fn common(first: &[u8], second: &[u8]) -> usize {
     most
 }
 
-impl Talk {
+impl Transcript {
     /// Creates an empty list of requests.
-    pub fn new(alloc: Global) -> Result<Talk, AllocError> {
-        Ok(Talk {
+    pub fn new(alloc: Global) -> Result<Transcript, AllocError> {
+        Ok(Transcript {
             input: Vec::with_capacity(alloc, 65536)?,
             output: String::with_capacity(alloc, 65536)?,
             marks: Vec::with_capacity(alloc, 256)?,
@@ -139,26 +139,26 @@ impl Talk {
     }
 
     /// Appends an expected reply. `ends`: the connection closes after it.
-    pub fn tell(&mut self, told: Told, ends: bool) -> Result<(), AllocError> {
+    pub fn tell(&mut self, told: ExpectedReply, ends: bool) -> Result<(), AllocError> {
         match told {
-            Told::Shown(text) => write_reply(&mut self.output, "200 OK", JSON, ends, text),
-            Told::Sheet(text) => write_reply(&mut self.output, "200 OK", PLAIN, ends, text),
-            Told::Denied(number) => self.tell_number("403 Forbidden", "denied", number, ends),
-            Told::Refused(number) => self.tell_number("409 Conflict", "refused", number, ends),
-            Told::Fault(number) => self.tell_number("400 Bad Request", "fault", number, ends),
-            Told::Unsaid(length) => {
+            ExpectedReply::Shown(text) => write_reply(&mut self.output, "200 OK", JSON, ends, text),
+            ExpectedReply::Sheet(text) => write_reply(&mut self.output, "200 OK", PLAIN, ends, text),
+            ExpectedReply::Denied(number) => self.expect_number("403 Forbidden", "denied", number, ends),
+            ExpectedReply::Refused(number) => self.expect_number("409 Conflict", "refused", number, ends),
+            ExpectedReply::Fault(number) => self.expect_number("400 Bad Request", "fault", number, ends),
+            ExpectedReply::HeadFault(length) => {
                 write_head(&mut self.output, "400 Bad Request", JSON, ends, length)
             }
         }
     }
 
     /// Appends an expected 200 with a JSON body. The connection stays open.
-    pub fn tell_text(&mut self, text: &str) -> Result<(), AllocError> {
+    pub fn expect_object(&mut self, text: &str) -> Result<(), AllocError> {
         write_reply(&mut self.output, "200 OK", JSON, false, text)
     }
 
     /// Appends an expected reply that is a number.
-    fn tell_number(
+    fn expect_number(
         &mut self,
         status: &str,
         word: &str,
@@ -171,7 +171,7 @@ impl Talk {
     }
 
     /// Returns the name and the place of the first row with an unexpected reply, if any.
-    pub fn first_wrong(
+    pub fn first_mismatch(
         &self,
         served: &Result<Served, DeskFault>,
         taken: &[u8],

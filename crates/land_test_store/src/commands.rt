@@ -10,8 +10,8 @@ use land_core::kind::Kind;
 use land_core::role::Role;
 use land_select::sql_keeper::SqlKeeper;
 use land_tables::tables::Tables;
-use land_test_scenario::doubles::{Readings, Sink};
-use land_test_scenario::playing::{open_sink, play_steps};
+use land_test_scenario::doubles::{ClockReadings, Sink};
+use land_test_scenario::run_scenario::{open_sink, play_steps};
 use land_test_scenario::stop::{Stop, expect};
 use sqlite::{Alter, Connection};
 use std::fs;
@@ -24,7 +24,7 @@ struct Place(&'static str, &'static str);
 
 /// A command on a file.
 #[derive(Clone, Copy)]
-enum Deed {
+enum FileCommand {
     /// Creates a register.
     New,
     /// Checks the register.
@@ -39,7 +39,7 @@ enum Deed {
 
 /// A command on a file, with its exit status, its output, and its error output.
 #[derive(Clone, Copy)]
-struct Step(Deed, u8, &'static str, &'static str);
+struct Step(FileCommand, u8, &'static str, &'static str);
 
 /// The output of a check of a new register.
 const NEW_IS_SOUND: &str = "sound: last 0, next 2\n";
@@ -58,17 +58,17 @@ const NOT_OURS: &str = "land: fault 520\n";
 const OTHER_VERSION: &str = "land: fault 523\n";
 
 /// Returns the command line of a command.
-fn command(deed: Deed, file: &'static str) -> Command<'static> {
+fn command(deed: FileCommand, file: &'static str) -> Command<'static> {
     match deed {
-        Deed::New => Command::New { file },
-        Deed::Check => Command::Check { file },
-        Deed::Migrate => Command::Migrate { file },
-        Deed::Serve(port) => Command::Serve {
+        FileCommand::New => Command::New { file },
+        FileCommand::Check => Command::Check { file },
+        FileCommand::Migrate => Command::Migrate { file },
+        FileCommand::Serve(port) => Command::Serve {
             file,
             port,
             connections: 1,
         },
-        Deed::Extract(party, role, at) => Command::Extract {
+        FileCommand::Extract(party, role, at) => Command::Extract {
             file,
             clock: 1000,
             caller: Caller { party, role },
@@ -81,7 +81,7 @@ fn command(deed: Deed, file: &'static str) -> Command<'static> {
 /// Runs a command on a host, and returns its exit status.
 fn status<H: Host>(host: &mut H, command: Command<'_>, output: &mut Sink, errors: &mut Sink) -> u8 {
     let mut input: &[u8] = b"";
-    let mut clock = Readings { left: &[] };
+    let mut clock = ClockReadings { left: &[] };
     run_command(host, command, &mut input, output, errors, &mut clock)
 }
 
@@ -108,7 +108,7 @@ fn expect_end(
 }
 
 /// Runs a step and checks its result, with this output.
-fn take_on<H: Host>(
+fn run_step_with<H: Host>(
     host: &mut H,
     file: &'static str,
     place: usize,
@@ -121,33 +121,33 @@ fn take_on<H: Host>(
 }
 
 /// Runs a step and checks its result.
-fn take<H: Host>(host: &mut H, file: &'static str, place: usize, step: Step) -> Result<(), Stop> {
+fn run_step<H: Host>(host: &mut H, file: &'static str, place: usize, step: Step) -> Result<(), Stop> {
     let mut output = open_sink(host.alloc(), 64)?;
-    take_on(host, file, place, step, &mut output)
+    run_step_with(host, file, place, step, &mut output)
 }
 
 /// Runs steps in order and checks their results.
-fn take_all<H: Host>(host: &mut H, file: &'static str, steps: &[Step]) -> Result<(), Stop> {
+fn run_steps<H: Host>(host: &mut H, file: &'static str, steps: &[Step]) -> Result<(), Stop> {
     for (place, step) in steps.iter().enumerate() {
-        take(host, file, place, *step)?;
+        run_step(host, file, place, *step)?;
     }
     Ok(())
 }
 
 /// Deletes the files of a test, if they exist.
-fn clear(rt: &HostRuntime, place: Place) {
+fn delete_files(rt: &HostRuntime, place: Place) {
     let _ = fs::remove_file(rt, place.0);
     let _ = fs::remove_file(rt, place.1);
 }
 
 /// Writes these bytes to a new file.
 fn write(rt: &HostRuntime, place: Place, bytes: &[u8]) -> Result<(), Stop> {
-    clear(rt, place);
+    delete_files(rt, place);
     Ok(fs::write(rt, place.0, bytes)?)
 }
 
 /// Checks that a file still has these bytes, and no write-ahead log.
-fn expect_untouched(rt: &HostRuntime, place: Place, bytes: &[u8]) -> Result<(), Stop> {
+fn expect_unchanged(rt: &HostRuntime, place: Place, bytes: &[u8]) -> Result<(), Stop> {
     let has_log = fs::exists(rt, place.1)?;
     let read = fs::read(rt, place.0)?;
     expect(read.as_slice() == bytes && !has_log, place.0, usize::MAX)
@@ -180,22 +180,22 @@ impl Work for Trial<'_> {
 
     fn done_on<H: Host>(self, host: &mut H) -> Result<(), Stop> {
         match self.case {
-            Case::New => new_is_sound(self.rt, host),
-            Case::Played => played_is_sound(self.rt, host),
-            Case::Old => old_is_migrated(self.rt, host),
-            Case::Missing => missing_is_not_made(self.rt, host),
-            Case::NoFile => no_file_is_opened(host),
-            Case::Empty => empty_stays_empty(self.rt, host),
-            Case::Notes => notes_stay(self.rt, host),
-            Case::Foreign => foreign_is_refused(self.rt, host),
-            Case::Held => held_is_refused(self.rt, host),
-            Case::Taken => taken_is_refused(self.rt, host),
+            Case::New => check_new(self.rt, host),
+            Case::Played => check_played(self.rt, host),
+            Case::Old => check_migrated(self.rt, host),
+            Case::Missing => check_missing(self.rt, host),
+            Case::NoFile => check_non_files(host),
+            Case::Empty => check_empty(self.rt, host),
+            Case::Notes => check_notes(self.rt, host),
+            Case::Foreign => check_foreign(self.rt, host),
+            Case::Held => check_open_elsewhere(self.rt, host),
+            Case::Taken => check_used_port(self.rt, host),
         }
     }
 }
 
 /// Runs a test case on this host.
-fn tried(rt: &HostRuntime, case: Case) -> Result<(), Stop> {
+fn run_case(rt: &HostRuntime, case: Case) -> Result<(), Stop> {
     on_local_host(rt, Trial { rt, case })
 }
 
@@ -203,23 +203,23 @@ const NEW: Place = Place("land_new.land", "land_new.land-wal");
 
 /// A register is created only once.
 const MADE: &[Step] = &[
-    Step(Deed::New, 0, "", ""),
-    Step(Deed::Check, 0, NEW_IS_SOUND, ""),
-    Step(Deed::New, 1, "", HAS_TABLES),
-    Step(Deed::Check, 0, NEW_IS_SOUND, ""),
+    Step(FileCommand::New, 0, "", ""),
+    Step(FileCommand::Check, 0, NEW_IS_SOUND, ""),
+    Step(FileCommand::New, 1, "", HAS_TABLES),
+    Step(FileCommand::Check, 0, NEW_IS_SOUND, ""),
 ];
 
 /// Checks that a created register is sound, and is not created again.
-fn new_is_sound<H: Host>(rt: &HostRuntime, host: &mut H) -> Result<(), Stop> {
-    clear(rt, NEW);
-    take_all(host, NEW.0, MADE)?;
-    clear(rt, NEW);
+fn check_new<H: Host>(rt: &HostRuntime, host: &mut H) -> Result<(), Stop> {
+    delete_files(rt, NEW);
+    run_steps(host, NEW.0, MADE)?;
+    delete_files(rt, NEW);
     Ok(())
 }
 
 /// A new register is sound.
 pub fn a_new_register_is_sound(rt: &HostRuntime) -> Result<(), Stop> {
-    tried(rt, Case::New)
+    run_case(rt, Case::New)
 }
 
 /// Returns the reason for stopping a test if a store cannot be opened.
@@ -236,8 +236,8 @@ fn opened<H: Host>(
     host: &mut H,
     place: Place,
 ) -> Result<Connection<H::Store>, Stop> {
-    clear(rt, place);
-    match host.open_new(place.0) {
+    delete_files(rt, place);
+    match host.open_or_create(place.0) {
         Ok(conn) => Ok(conn),
         Err(fault) => Err(stop_of(fault)),
     }
@@ -285,22 +285,22 @@ const NO_ENTRIES: &str = "number,unit,party,name,class,share,amount,currency,ran
 
 /// Last stamp, next number and extracts after the scenario.
 const AFTER_STEPS: &[Step] = &[
-    Step(Deed::Check, 0, "sound: last 1017, next 30\n", ""),
-    Step(Deed::Extract(3, Role::Citizen, None), 0, ENTRIES, ""),
+    Step(FileCommand::Check, 0, "sound: last 1017, next 30\n", ""),
+    Step(FileCommand::Extract(3, Role::Citizen, None), 0, ENTRIES, ""),
     Step(
-        Deed::Extract(6, Role::CertifiedSurveyor, None),
+        FileCommand::Extract(6, Role::CertifiedSurveyor, None),
         0,
         NO_ENTRIES,
         "",
     ),
     Step(
-        Deed::Extract(3, Role::Citizen, Some(1018)),
+        FileCommand::Extract(3, Role::Citizen, Some(1018)),
         1,
         "",
         "land: fault 135\n",
     ),
     Step(
-        Deed::Extract(9, Role::Citizen, None),
+        FileCommand::Extract(9, Role::Citizen, None),
         1,
         "",
         "land: denied 1\n",
@@ -308,22 +308,22 @@ const AFTER_STEPS: &[Step] = &[
 ];
 
 /// Checks that the register is sound after the scenario, and its extracts.
-fn played_is_sound<H: Host>(rt: &HostRuntime, host: &mut H) -> Result<(), Stop> {
+fn check_played<H: Host>(rt: &HostRuntime, host: &mut H) -> Result<(), Stop> {
     play(rt, host, PLAYED)?;
-    take_all(host, PLAYED.0, AFTER_STEPS)?;
-    clear(rt, PLAYED);
+    run_steps(host, PLAYED.0, AFTER_STEPS)?;
+    delete_files(rt, PLAYED);
     Ok(())
 }
 
 /// The scenario leaves a sound register.
 pub fn the_scenario_leaves_a_sound_register(rt: &HostRuntime) -> Result<(), Stop> {
-    tried(rt, Case::Played)
+    run_case(rt, Case::Played)
 }
 
 const OLD: Place = Place("land_old.land", "land_old.land-wal");
 
 /// Plays the scenario on a new register in a file, and turns it into one of schema version 1.
-fn play_old<H: Host>(rt: &HostRuntime, host: &mut H) -> Result<(), Stop> {
+fn play_v1<H: Host>(rt: &HostRuntime, host: &mut H) -> Result<(), Stop> {
     let mut conn = played(rt, host, OLD)?;
     run(
         &mut conn,
@@ -333,93 +333,93 @@ fn play_old<H: Host>(rt: &HostRuntime, host: &mut H) -> Result<(), Stop> {
 
 /// A register of schema version 1 is migrated once, and then has version 2.
 const MIGRATED: &[Step] = &[
-    Step(Deed::Check, 1, "", OTHER_VERSION),
-    Step(Deed::Migrate, 0, "migrated: last 1017, next 30\n", ""),
-    Step(Deed::Check, 0, "sound: last 1017, next 30\n", ""),
-    Step(Deed::Migrate, 1, "", OTHER_VERSION),
-    Step(Deed::Check, 0, "sound: last 1017, next 30\n", ""),
-    Step(Deed::Extract(3, Role::Citizen, None), 0, ENTRIES, ""),
+    Step(FileCommand::Check, 1, "", OTHER_VERSION),
+    Step(FileCommand::Migrate, 0, "migrated: last 1017, next 30\n", ""),
+    Step(FileCommand::Check, 0, "sound: last 1017, next 30\n", ""),
+    Step(FileCommand::Migrate, 1, "", OTHER_VERSION),
+    Step(FileCommand::Check, 0, "sound: last 1017, next 30\n", ""),
+    Step(FileCommand::Extract(3, Role::Citizen, None), 0, ENTRIES, ""),
 ];
 
 /// Checks that only a register of schema version 1 is migrated.
-fn old_is_migrated<H: Host>(rt: &HostRuntime, host: &mut H) -> Result<(), Stop> {
-    play_old(rt, host)?;
-    take_all(host, OLD.0, MIGRATED)?;
-    clear(rt, OLD);
+fn check_migrated<H: Host>(rt: &HostRuntime, host: &mut H) -> Result<(), Stop> {
+    play_v1(rt, host)?;
+    run_steps(host, OLD.0, MIGRATED)?;
+    delete_files(rt, OLD);
     Ok(())
 }
 
 /// A register of schema version 1 is migrated once.
-pub fn a_register_of_the_first_version_is_migrated_once(rt: &HostRuntime) -> Result<(), Stop> {
-    tried(rt, Case::Old)
+pub fn a_v1_register_is_migrated_once(rt: &HostRuntime) -> Result<(), Stop> {
+    run_case(rt, Case::Old)
 }
 
 const MISSING: Place = Place("land_missing.land", "land_missing.land-wal");
 
 /// No register is opened if the file cannot be opened.
-const UNOPENED: &[Step] = &[
-    Step(Deed::Check, 1, "", CANNOT_OPEN),
-    Step(Deed::Migrate, 1, "", CANNOT_OPEN),
-    Step(Deed::Serve(1), 1, "", CANNOT_OPEN),
-    Step(Deed::Extract(1, Role::Citizen, None), 1, "", CANNOT_OPEN),
+const CANNOT_BE_OPENED: &[Step] = &[
+    Step(FileCommand::Check, 1, "", CANNOT_OPEN),
+    Step(FileCommand::Migrate, 1, "", CANNOT_OPEN),
+    Step(FileCommand::Serve(1), 1, "", CANNOT_OPEN),
+    Step(FileCommand::Extract(1, Role::Citizen, None), 1, "", CANNOT_OPEN),
 ];
 
 /// And none is created.
-const UNMADE: &[Step] = &[Step(Deed::New, 1, "", CANNOT_OPEN)];
+const CANNOT_BE_CREATED: &[Step] = &[Step(FileCommand::New, 1, "", CANNOT_OPEN)];
 
 /// Checks that no command creates a missing file.
-fn missing_is_not_made<H: Host>(rt: &HostRuntime, host: &mut H) -> Result<(), Stop> {
-    clear(rt, MISSING);
-    take_all(host, MISSING.0, UNOPENED)?;
+fn check_missing<H: Host>(rt: &HostRuntime, host: &mut H) -> Result<(), Stop> {
+    delete_files(rt, MISSING);
+    run_steps(host, MISSING.0, CANNOT_BE_OPENED)?;
     let is_there = fs::exists(rt, MISSING.0)?;
     let has_log = fs::exists(rt, MISSING.1)?;
     expect(!is_there && !has_log, MISSING.0, usize::MAX)
 }
 
 /// No command creates a missing file, except `new`.
-pub fn what_is_not_there_is_not_made(rt: &HostRuntime) -> Result<(), Stop> {
-    tried(rt, Case::Missing)
+pub fn missing_files_are_not_created(rt: &HostRuntime) -> Result<(), Stop> {
+    run_case(rt, Case::Missing)
 }
 
 /// Names that are not files: a folder, the empty name, a file in a missing folder.
 const NO_FILES: &[&str] = &[".", "", "no/such/folder"];
 
 /// Checks that no register is opened or created under such a name.
-fn no_file_is_opened<H: Host>(host: &mut H) -> Result<(), Stop> {
+fn check_non_files<H: Host>(host: &mut H) -> Result<(), Stop> {
     for name in NO_FILES {
-        take_all(host, name, UNOPENED)?;
-        take_all(host, name, UNMADE)?;
+        run_steps(host, name, CANNOT_BE_OPENED)?;
+        run_steps(host, name, CANNOT_BE_CREATED)?;
     }
     Ok(())
 }
 
 /// A name that is not a file cannot be opened.
-pub fn what_is_no_file_cannot_be_opened(rt: &HostRuntime) -> Result<(), Stop> {
-    tried(rt, Case::NoFile)
+pub fn non_files_cannot_be_opened(rt: &HostRuntime) -> Result<(), Stop> {
+    run_case(rt, Case::NoFile)
 }
 
 const EMPTY: Place = Place("land_empty.land", "land_empty.land-wal");
 
 /// A file without the tables of a register.
 const UNOWNED: &[Step] = &[
-    Step(Deed::Check, 1, "", NOT_OURS),
-    Step(Deed::Migrate, 1, "", NOT_OURS),
-    Step(Deed::Serve(1), 1, "", NOT_OURS),
+    Step(FileCommand::Check, 1, "", NOT_OURS),
+    Step(FileCommand::Migrate, 1, "", NOT_OURS),
+    Step(FileCommand::Serve(1), 1, "", NOT_OURS),
 ];
 
 /// Checks that an empty file is not a register and stays empty, until one is created in it.
-fn empty_stays_empty<H: Host>(rt: &HostRuntime, host: &mut H) -> Result<(), Stop> {
+fn check_empty<H: Host>(rt: &HostRuntime, host: &mut H) -> Result<(), Stop> {
     write(rt, EMPTY, b"")?;
-    take_all(host, EMPTY.0, UNOWNED)?;
-    expect_untouched(rt, EMPTY, b"")?;
-    take_all(host, EMPTY.0, MADE)?;
-    clear(rt, EMPTY);
+    run_steps(host, EMPTY.0, UNOWNED)?;
+    expect_unchanged(rt, EMPTY, b"")?;
+    run_steps(host, EMPTY.0, MADE)?;
+    delete_files(rt, EMPTY);
     Ok(())
 }
 
 /// An empty file is not a register and stays empty.
-pub fn an_empty_file_is_no_register_and_stays_empty(rt: &HostRuntime) -> Result<(), Stop> {
-    tried(rt, Case::Empty)
+pub fn an_empty_file_stays_empty(rt: &HostRuntime) -> Result<(), Stop> {
+    run_case(rt, Case::Empty)
 }
 
 const NOTES: Place = Place("land_notes.txt", "land_notes.txt-wal");
@@ -428,18 +428,18 @@ const NOTES: Place = Place("land_notes.txt", "land_notes.txt-wal");
 const NOTE: &[u8] = b"SQLite format 3, and no more\n";
 
 /// Checks that a file that is not a store stays unchanged.
-fn notes_stay<H: Host>(rt: &HostRuntime, host: &mut H) -> Result<(), Stop> {
+fn check_notes<H: Host>(rt: &HostRuntime, host: &mut H) -> Result<(), Stop> {
     write(rt, NOTES, NOTE)?;
-    take_all(host, NOTES.0, UNOPENED)?;
-    take_all(host, NOTES.0, UNMADE)?;
-    expect_untouched(rt, NOTES, NOTE)?;
-    clear(rt, NOTES);
+    run_steps(host, NOTES.0, CANNOT_BE_OPENED)?;
+    run_steps(host, NOTES.0, CANNOT_BE_CREATED)?;
+    expect_unchanged(rt, NOTES, NOTE)?;
+    delete_files(rt, NOTES);
     Ok(())
 }
 
 /// A file that is not a store stays unchanged.
-pub fn another_file_is_left_as_it_is(rt: &HostRuntime) -> Result<(), Stop> {
-    tried(rt, Case::Notes)
+pub fn other_files_stay_unchanged(rt: &HostRuntime) -> Result<(), Stop> {
+    run_case(rt, Case::Notes)
 }
 
 const FOREIGN: Place = Place("land_foreign.db", "land_foreign.db-wal");
@@ -457,68 +457,68 @@ fn make_foreign<H: Host>(rt: &HostRuntime, host: &mut H) -> Result<(), Stop> {
 }
 
 /// No register is created in it.
-const OWNED_ELSEWHERE: &[Step] = &[Step(Deed::New, 1, "", HAS_TABLES)];
+const OWNED_ELSEWHERE: &[Step] = &[Step(FileCommand::New, 1, "", HAS_TABLES)];
 
 /// Checks that a store of another application is not a register, and no register is created in it.
-fn foreign_is_refused<H: Host>(rt: &HostRuntime, host: &mut H) -> Result<(), Stop> {
+fn check_foreign<H: Host>(rt: &HostRuntime, host: &mut H) -> Result<(), Stop> {
     make_foreign(rt, host)?;
-    take_all(host, FOREIGN.0, UNOWNED)?;
-    take_all(host, FOREIGN.0, OWNED_ELSEWHERE)?;
-    take_all(host, FOREIGN.0, UNOWNED)?;
-    clear(rt, FOREIGN);
+    run_steps(host, FOREIGN.0, UNOWNED)?;
+    run_steps(host, FOREIGN.0, OWNED_ELSEWHERE)?;
+    run_steps(host, FOREIGN.0, UNOWNED)?;
+    delete_files(rt, FOREIGN);
     Ok(())
 }
 
 /// A store of another application is rejected.
 pub fn a_store_of_another_application_is_refused(rt: &HostRuntime) -> Result<(), Stop> {
-    tried(rt, Case::Foreign)
+    run_case(rt, Case::Foreign)
 }
 
 const HELD: Place = Place("land_held.land", "land_held.land-wal");
 
 /// Checks that a file cannot be opened while its tables are open elsewhere, and then closes them.
-fn take_while_held<H: Host>(host: &mut H, tables: Tables<H::Store>) -> Result<(), Stop> {
-    let found = take_all(host, HELD.0, UNOPENED);
-    let made = take_all(host, HELD.0, UNMADE);
+fn run_steps_while_open<H: Host>(host: &mut H, tables: Tables<H::Store>) -> Result<(), Stop> {
+    let found = run_steps(host, HELD.0, CANNOT_BE_OPENED);
+    let made = run_steps(host, HELD.0, CANNOT_BE_CREATED);
     drop(tables);
     found.and(made)
 }
 
 /// After closing, the register is unchanged.
-const LET_GO: &[Step] = &[Step(Deed::Check, 0, NEW_IS_SOUND, "")];
+const CLOSED_AGAIN: &[Step] = &[Step(FileCommand::Check, 0, NEW_IS_SOUND, "")];
 
 /// Checks that a file that is open elsewhere is rejected until it is closed.
-fn held_is_refused<H: Host>(rt: &HostRuntime, host: &mut H) -> Result<(), Stop> {
+fn check_open_elsewhere<H: Host>(rt: &HostRuntime, host: &mut H) -> Result<(), Stop> {
     let tables = made(rt, host, HELD)?;
-    take_while_held(host, tables)?;
-    take_all(host, HELD.0, LET_GO)?;
-    clear(rt, HELD);
+    run_steps_while_open(host, tables)?;
+    run_steps(host, HELD.0, CLOSED_AGAIN)?;
+    delete_files(rt, HELD);
     Ok(())
 }
 
 /// A file that is open elsewhere cannot be opened.
-pub fn a_file_that_is_held_elsewhere_cannot_be_opened(rt: &HostRuntime) -> Result<(), Stop> {
-    tried(rt, Case::Held)
+pub fn an_open_file_cannot_be_opened_again(rt: &HostRuntime) -> Result<(), Stop> {
+    run_case(rt, Case::Held)
 }
 
 const TAKEN: Place = Place("land_taken.land", "land_taken.land-wal");
 
 /// Checks that a register cannot be served on a port in use.
 fn serve_on<H: Host>(rt: &HostRuntime, host: &mut H, port: u16) -> Result<(), Stop> {
-    clear(rt, TAKEN);
-    take(host, TAKEN.0, 0, Step(Deed::New, 0, "", ""))?;
-    take(
+    delete_files(rt, TAKEN);
+    run_step(host, TAKEN.0, 0, Step(FileCommand::New, 0, "", ""))?;
+    run_step(
         host,
         TAKEN.0,
         1,
-        Step(Deed::Serve(port), 1, "", CANNOT_LISTEN),
+        Step(FileCommand::Serve(port), 1, "", CANNOT_LISTEN),
     )?;
-    clear(rt, TAKEN);
+    delete_files(rt, TAKEN);
     Ok(())
 }
 
 /// Checks the same on the port of a listener.
-fn serve_beside<H: Host>(
+fn serve_on_port_of<H: Host>(
     rt: &HostRuntime,
     host: &mut H,
     listener: &TcpListener,
@@ -528,12 +528,12 @@ fn serve_beside<H: Host>(
 }
 
 /// A port in use cannot be listened on.
-fn taken_is_refused<H: Host>(rt: &HostRuntime, host: &mut H) -> Result<(), Stop> {
+fn check_used_port<H: Host>(rt: &HostRuntime, host: &mut H) -> Result<(), Stop> {
     let listener = TcpListener::bind(rt, "127.0.0.1:0")?;
-    serve_beside(rt, host, &listener)
+    serve_on_port_of(rt, host, &listener)
 }
 
 /// A port in use cannot be listened on.
-pub fn a_port_that_is_taken_cannot_be_listened_on(rt: &HostRuntime) -> Result<(), Stop> {
-    tried(rt, Case::Taken)
+pub fn a_used_port_cannot_be_listened_on(rt: &HostRuntime) -> Result<(), Stop> {
+    run_case(rt, Case::Taken)
 }

@@ -9,9 +9,9 @@ use land_commands::words::command::Command;
 use land_desk::service::connections::Connections;
 use land_keep::store_fault::StoreFault;
 use land_tables::tables::Tables;
-use land_test_scenario::calls::{CALLS, Call, Calls, expect_all_told, sinks};
-use land_test_scenario::doubles::{Readings, Sink};
-use land_test_scenario::playing::open_sink;
+use land_test_scenario::calls::{CALLS, Call, Calls, expect_all_outputs, sinks};
+use land_test_scenario::doubles::{ClockReadings, Sink};
+use land_test_scenario::run_scenario::open_sink;
 use land_test_scenario::stop::{Stop, expect};
 use sqlite::{Connection, MemStore};
 use std::alloc::Global;
@@ -19,12 +19,12 @@ use std::io;
 
 /// A host with a register in memory under every name, and with connections that are accepted once.
 #[derive(Drop)]
-struct TownHost<L> {
+struct MemoryHost<L> {
     alloc: Global,
     visits: Option<L>,
 }
 
-impl<L: Connections + Drop> Host for TownHost<L> {
+impl<L: Connections + Drop> Host for MemoryHost<L> {
     type Store = MemStore;
 
     type Listener = L;
@@ -39,11 +39,11 @@ impl<L: Connections + Drop> Host for TownHost<L> {
         self.alloc
     }
 
-    fn open_new(&mut self, _file: &str) -> Result<Connection<MemStore>, ProgramFault> {
+    fn open_or_create(&mut self, _file: &str) -> Result<Connection<MemStore>, ProgramFault> {
         Ok(Connection::open_in_memory(self.alloc)?)
     }
 
-    fn open_found(&mut self, _file: &str) -> Result<Connection<MemStore>, ProgramFault> {
+    fn open_existing(&mut self, _file: &str) -> Result<Connection<MemStore>, ProgramFault> {
         let conn = Connection::open_in_memory(self.alloc)?;
         match Tables::create(conn) {
             Ok(tables) => Ok(tables.into_connection()),
@@ -57,7 +57,7 @@ impl<L: Connections + Drop> Host for TownHost<L> {
     }
 
     fn listen(&mut self, _port: u16) -> io::Result<L> {
-        match self.visits.take() {
+        match self.visits.run_step() {
             Some(visits) => Ok(visits),
             None => Err(io::Error::from(io::ErrorKind::AddrInUse)),
         }
@@ -81,12 +81,12 @@ fn status<L: Connections + Drop>(
         port: 8080,
         connections,
     };
-    let mut town = TownHost {
+    let mut town = MemoryHost {
         alloc,
         visits: Some(visits),
     };
     let mut input: &[u8] = b"";
-    let mut clock = Readings { left: &[] };
+    let mut clock = ClockReadings { left: &[] };
     run_command(&mut town, command, &mut input, output, errors, &mut clock)
 }
 
@@ -124,7 +124,7 @@ fn expect_service(alloc: Global, calls: &'static [Call], ending: Ending) -> Resu
         sinks: sinks.iter_mut(),
     };
     expect_end(alloc, visits, ending)?;
-    expect_all_told(calls, &sinks)
+    expect_all_outputs(calls, &sinks)
 }
 
 /// A command serves connections.
@@ -133,7 +133,7 @@ pub fn a_command_serves_connections(alloc: Global) -> Result<(), Stop> {
 }
 
 /// A command reports that a connection cannot be accepted.
-pub fn a_command_tells_that_a_connection_cannot_be_had(alloc: Global) -> Result<(), Stop> {
+pub fn a_failed_accept_ends_the_command(alloc: Global) -> Result<(), Stop> {
     let ending = Ending(2, 1, "land: input or output failed\n");
     expect_service(alloc, &CALLS[..1], ending)
 }

@@ -4,12 +4,12 @@
 
 mod cell;
 pub mod contents;
-pub mod damages;
+pub mod wrong_values;
 mod field;
 mod histories;
-pub mod lawful;
+pub mod valid_history;
 pub mod lifespans;
 mod sample;
-pub mod spellings;
+pub mod representations;
 mod table;
 pub mod words;

@@ -1,8 +1,8 @@
 //! Stores that are opened as registers, and corrupted ones that are refused.
-use crate::cases::playing::played;
-use crate::cases::stores::{expect_fault, run_on, store};
+use crate::cases::run_scenario::tables_after_scenario;
+use crate::cases::stores::{expect_fault, run_on, store_after_sql};
 use land_tables::tables::Tables;
-use land_test_scenario::looks::look_at_steps;
+use land_test_scenario::looks::expect_rows_after_steps;
 use land_test_scenario::stop::Stop;
 use sqlite::{Connection, MemStore};
 use std::alloc::Global;
@@ -311,7 +311,7 @@ const HARMLESS: &[Damage] = &[
 ];
 
 /// An active transaction.
-const BEGUN: &[Damage] = &[Damage("BEGIN", "ROLLBACK", 502)];
+const IN_TRANSACTION: &[Damage] = &[Damage("BEGIN", "ROLLBACK", 502)];
 
 /// SQL statements that are run on an empty store, which then holds no register.
 const OTHERS: &[&str] = &[
@@ -321,21 +321,21 @@ const OTHERS: &[&str] = &[
 ];
 
 /// Opens a store. Returns the number of the fault, 0 if it holds the register of the scenario, and the store.
-fn adopted(alloc: Global, conn: Connection<MemStore>) -> (u16, Connection<MemStore>) {
+fn adopt_fault(alloc: Global, conn: Connection<MemStore>) -> (u16, Connection<MemStore>) {
     match Tables::adopt(alloc, conn) {
         Ok(tables) => {
-            let is_last = tables.last() == 1017 && tables.next() == 30 && !tables.is_closed();
-            (if is_last { 0 } else { 1 }, tables.into_connection())
+            let has_scenario_end = tables.last() == 1017 && tables.next() == 30 && !tables.is_closed();
+            (if has_scenario_end { 0 } else { 1 }, tables.into_connection())
         }
         Err((conn, fault)) => (fault.number(), conn),
     }
 }
 
 /// Opens the store in the option, and puts it back.
-fn adopt_back(alloc: Global, left: &mut Option<Connection<MemStore>>) -> Result<u16, Stop> {
+fn adopt_in_place(alloc: Global, left: &mut Option<Connection<MemStore>>) -> Result<u16, Stop> {
     match left.take() {
         Some(conn) => {
-            let (fault, back) = adopted(alloc, conn);
+            let (fault, back) = adopt_fault(alloc, conn);
             *left = Some(back);
             Ok(fault)
         }
@@ -344,13 +344,13 @@ fn adopt_back(alloc: Global, left: &mut Option<Connection<MemStore>>) -> Result<
 }
 
 /// Corrupts the tables, opens them, and undoes the corruption. Returns the fault of opening.
-fn undone(
+fn fault_between(
     alloc: Global,
     left: &mut Option<Connection<MemStore>>,
     damage: &Damage,
 ) -> Result<u16, Stop> {
     run_on(left, damage.0)?;
-    let fault = adopt_back(alloc, left)?;
+    let fault = adopt_in_place(alloc, left)?;
     run_on(left, damage.1)?;
     Ok(fault)
 }
@@ -363,7 +363,7 @@ fn have_faults(
     damages: &[Damage],
 ) -> Result<(), Stop> {
     for (place, damage) in damages.iter().enumerate() {
-        expect_fault(undone(alloc, left, damage)?, damage.2, name, place)?;
+        expect_fault(fault_between(alloc, left, damage)?, damage.2, name, place)?;
     }
     Ok(())
 }
@@ -375,7 +375,7 @@ const DAMAGES: &[(&str, &[Damage])] = &[
     ("unsound", UNSOUND),
     ("mandate", MANDATES),
     ("harmless", HARMLESS),
-    ("begun", BEGUN),
+    ("begun", IN_TRANSACTION),
 ];
 
 /// Fails if some corruption does not have its fault.
@@ -387,38 +387,38 @@ fn all_have_faults(alloc: Global, left: &mut Option<Connection<MemStore>>) -> Re
 }
 
 /// Fails if the undone corruptions do not leave the rows of the scenario.
-fn look_on(alloc: Global, left: &mut Option<Connection<MemStore>>) -> Result<(), Stop> {
+fn check_scenario_rows(alloc: Global, left: &mut Option<Connection<MemStore>>) -> Result<(), Stop> {
     match left.as_mut() {
-        Some(conn) => look_at_steps(alloc, conn),
+        Some(conn) => expect_rows_after_steps(alloc, conn),
         None => Err(Stop::Call),
     }
 }
 
 /// Returns the store of the tables after the scenario.
-fn played_store(alloc: Global) -> Result<Option<Connection<MemStore>>, Stop> {
-    Ok(Some(played(alloc)?.into_connection()))
+fn store_after_scenario(alloc: Global) -> Result<Option<Connection<MemStore>>, Stop> {
+    Ok(Some(tables_after_scenario(alloc)?.into_connection()))
 }
 
-fn are_damaged(alloc: Global, left: &mut Option<Connection<MemStore>>) -> Result<(), Stop> {
+fn check_damages(alloc: Global, left: &mut Option<Connection<MemStore>>) -> Result<(), Stop> {
     all_have_faults(alloc, left)?;
-    look_on(alloc, left)
+    check_scenario_rows(alloc, left)
 }
 
 /// Each corruption has its fault, and undoing it leaves the rows of the scenario.
 pub fn damaged_tables_have_their_faults(alloc: Global) -> Result<(), Stop> {
-    let mut left = played_store(alloc)?;
-    are_damaged(alloc, &mut left)
+    let mut left = store_after_scenario(alloc)?;
+    check_damages(alloc, &mut left)
 }
 
 /// Returns the fault of opening a store after SQL statements.
-fn fault_after(alloc: Global, text: &str) -> Result<u16, Stop> {
-    Ok(adopted(alloc, store(alloc, text)?).0)
+fn fault_after_sql(alloc: Global, text: &str) -> Result<u16, Stop> {
+    Ok(adopt_fault(alloc, store_after_sql(alloc, text)?).0)
 }
 
 /// Stores that hold no register are refused.
 pub fn stores_of_others_are_520(alloc: Global) -> Result<(), Stop> {
     for (place, text) in OTHERS.iter().enumerate() {
-        expect_fault(fault_after(alloc, text)?, 520, "other", place)?;
+        expect_fault(fault_after_sql(alloc, text)?, 520, "other", place)?;
     }
     Ok(())
 }

@@ -4,7 +4,7 @@
 
 pub mod again;
 pub mod creating;
-pub mod going_on;
+pub mod continuing;
 pub mod migrating;
 pub mod replies;
 pub mod rows;

@@ -2,7 +2,7 @@
 use Rattle.std.proofs.Common.{◌≡◌, ℕ, List, [], ◌∷◌, Option, Some, None, refl, ◌∙◌, ap, true, false, cond, Bool, bytes_eq}
 use Rattle.std.proofs.lemmas.Slice.Eq.{bytes_eq-Decides}
 use Rattle.std.specs.List.{find}
-use Rattle.land_wire.specs.Routes.{is_part}
+use Rattle.land_wire.specs.Routes.{is_segment}
 use Rattle.land_wire.specs.Routes.ActWords.{act_of, act_word, acts}
 use Rattle.land_wire.specs.declared.routes.act_word.ActWord.{ActWord}
 use Rattle.land_wire.specs.declared.routes.act_word.ActWord.TheVariants as act
@@ -41,7 +41,7 @@ word_found bytes act.Discharge e = rw e refl
 word_found bytes act.Approve e = rw e refl
 word_found bytes act.Refuse e = rw e refl
 
-word_is_part : (a : ActWord) → is_part (act_word a) ≡ true
+word_is_part : (a : ActWord) → is_segment (act_word a) ≡ true
 word_is_part act.Enrol = refl
 word_is_part act.Group = refl
 word_is_part act.Regroup = refl
@@ -61,11 +61,11 @@ word_is_part act.Approve = refl
 word_is_part act.Refuse = refl
 
 -- bytes that are not a segment of a path are not the word of an act
-pub no_act : (bytes : List ℕ) → is_part bytes ≡ false → act_of bytes ≡ None
+pub no_act : (bytes : List ℕ) → is_segment bytes ≡ false → act_of bytes ≡ None
 no_act bytes e = by (act_of bytes) refl
   where
     by : (o : Option ActWord) → act_of bytes ≡ o → o ≡ None
     by None f = refl
     by (Some a) f =
-        let p : is_part bytes ≡ true = rw (act_found bytes a f) (word_is_part a) in
+        let p : is_segment bytes ≡ true = rw (act_found bytes a f) (word_is_part a) in
         absurd cc

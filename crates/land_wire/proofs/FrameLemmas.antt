@@ -7,7 +7,7 @@ use Rattle.httparse.specs.Spans.{IsRequestAt, IsRequestWithin, header_bytes}
 use Rattle.httparse.specs.declared.spans.HeaderSpan.{HeaderSpan}
 use Rattle.httparse.specs.declared.spans.RequestSpans.{RequestSpans}
 use Rattle.land_wire.specs.Fields.{values_named}
-use Rattle.land_wire.specs.Framing.Frame.{frame, body_length, IsOccurrence}
+use Rattle.land_wire.specs.Framing.Frame.{body_length_of, body_length, IsOccurrence}
 use Rattle.land_wire.specs.declared.framing.frame_fault.FrameFault.{FrameFault}
 use Rattle.land_wire.specs.declared.framing.frame_fault.FrameFault.TheVariants as fault
 use Rattle.land_wire.specs.declared.framing.named.Occurrence.{Occurrence}
@@ -31,9 +31,9 @@ frame_by count encodings lengths =
 
 pub frame_shown : (bytes : List ℕ) (headers : List HeaderSpan) (spans : RequestSpans) (h : RequestHead)
     → IsRequestWithin bytes headers spans → IsRequestAt bytes headers spans h
-    → frame h ≡ frame_by spans.headers (values_named (codes "transfer-encoding") (shown bytes headers spans))
+    → body_length_of h ≡ frame_by spans.headers (values_named (codes "transfer-encoding") (shown bytes headers spans))
     (values_named (codes "content-length") (shown bytes headers spans))
-unfolding frame
+unfolding body_length_of
 frame_shown bytes headers spans h ok at =
     let count = field_count bytes headers spans h ok at in
     let fields = sym at.fields in
@@ -80,20 +80,20 @@ abbrev pub lengths : List ℕ → List HeaderSpan → RequestSpans → List (Lis
 lengths bytes headers spans = values_named (codes "content-length") (shown bytes headers spans)
 
 pub frame_too_many : (bytes : List ℕ) (headers : List HeaderSpan) (spans : RequestSpans) (h : RequestHead)
-    → IsRequestWithin bytes headers spans → IsRequestAt bytes headers spans h → 64 < spans.headers → Err fault.Head ≡ frame h
+    → IsRequestWithin bytes headers spans → IsRequestAt bytes headers spans h → 64 < spans.headers → Err fault.Head ≡ body_length_of h
 frame_too_many bytes headers spans h ok at many =
     too_many spans.headers (encodings bytes headers spans) (lengths bytes headers spans) many ∙ sym (frame_shown bytes headers spans h ok at)
 
 pub frame_encoded : (bytes : List ℕ) (headers : List HeaderSpan) (spans : RequestSpans) (h : RequestHead) (o : Occurrence)
     → IsRequestWithin bytes headers spans → IsRequestAt bytes headers spans h → spans.headers ≤ 64
-    → IsOccurrence bytes (encodings bytes headers spans) o → o ≢ occurrence.Absent → Err fault.Encoding ≡ frame h
+    → IsOccurrence bytes (encodings bytes headers spans) o → o ≢ occurrence.Absent → Err fault.Encoding ≡ body_length_of h
 frame_encoded bytes headers spans h o ok at few is not_absent =
     encoded spans.headers (encodings bytes headers spans) (lengths bytes headers spans) few (stands bytes (encodings bytes headers spans) o is not_absent)
     ∙ sym (frame_shown bytes headers spans h ok at)
 
 pub frame_plain : (bytes : List ℕ) (headers : List HeaderSpan) (spans : RequestSpans) (h : RequestHead)
     → IsRequestWithin bytes headers spans → IsRequestAt bytes headers spans h → spans.headers ≤ 64
-    → encodings bytes headers spans ≡ [] → body_length (lengths bytes headers spans) ≡ frame h
+    → encodings bytes headers spans ≡ [] → body_length (lengths bytes headers spans) ≡ body_length_of h
 frame_plain bytes headers spans h ok at few none =
     plain spans.headers (encodings bytes headers spans) (lengths bytes headers spans) few none ∙ sym (frame_shown bytes headers spans h ok at)
 

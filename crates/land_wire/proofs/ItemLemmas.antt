@@ -11,16 +11,16 @@ use Rattle.httparse.specs.declared.spans.HeaderSpan.{HeaderSpan}
 use Rattle.httparse.specs.declared.spans.RequestSpans.{RequestSpans}
 use Rattle.land_wire.proofs.StreamLemmas.{at_front, within_front}
 use Rattle.land_wire.proofs.TargetLemmas.{never_some, open_not_never, never_none, some_request}
-use Rattle.land_wire.specs.Framing.Frame.{frame}
-use Rattle.land_wire.specs.Framing.Items.{Item, request, faulty, IsItem, AreItems, FailsAfter, is_last, IsRequestIn, IsFrontIn, IsFrontOf, IsReadFor, fault_front}
-use Rattle.land_wire.specs.Framing.Stream.{HasHead, IsFault, window, IsHeadIn, IsFoundFault, IsJustRead, IsOpen}
+use Rattle.land_wire.specs.Framing.Frame.{body_length_of}
+use Rattle.land_wire.specs.Framing.Items.{Item, request, faulty, IsItem, AreItems, IsBodyFault, is_last, IsRequestIn, IsNextIn, IsNextOf, ReadsUpTo, next_of_fault}
+use Rattle.land_wire.specs.Framing.Stream.{HasHead, IsHeadFault, window, IsHeadIn, IsHeadFaultOf, LastReadWasNeeded, IsPartialHead}
 use Rattle.land_wire.specs.declared.framing.frame_fault.FrameFault.{FrameFault}
 use Rattle.land_wire.specs.declared.framing.frame_fault.FrameFault.TheVariants as fault
-use Rattle.land_wire.specs.declared.framing.head.Found.{Found}
-use Rattle.land_wire.specs.declared.framing.head.Found.TheVariants as found
-use Rattle.land_wire.specs.declared.framing.item.Front.TheVariants as front
+use Rattle.land_wire.specs.declared.framing.head.HeadResult.{HeadResult}
+use Rattle.land_wire.specs.declared.framing.head.HeadResult.TheVariants as found
+use Rattle.land_wire.specs.declared.framing.item.NextItem.TheVariants as front
 
-pub some_byte : (bytes : List ℕ) (f : FrameFault) → IsFault bytes f → f ≢ fault.Cut → 0 < length bytes
+pub some_byte : (bytes : List ℕ) (f : FrameFault) → IsHeadFault bytes f → f ≢ fault.Cut → 0 < length bytes
 some_byte [] fault.Head is not_cut = absurd (never_some is)
 some_byte (b ∷ bytes) f is not_cut = omega arith
 some_byte [] fault.HeadLong is not_cut = omega (arith, is.1)
@@ -64,7 +64,7 @@ request_of bytes more headers spans n is =
 -- a fault after a whole head is at the front of the stream
 pub fault_of : (bytes more : List ℕ) (headers : List HeaderSpan) (spans : RequestSpans) (h : RequestHead) (f : FrameFault)
     → IsRequestWithin bytes headers spans → IsRequestAt bytes headers spans h → length (print_request h) ≤ 8192
-    → FailsAfter (drop spans.len bytes ++ more) (frame h) f → IsItem (bytes ++ more) (faulty f) []
+    → IsBodyFault (drop spans.len bytes ++ more) (body_length_of h) f → IsItem (bytes ++ more) (faulty f) []
 fault_of bytes more headers spans h f ok at small fails =
     let head = head_of bytes more headers spans h ok at small in
     (refl, head_some (bytes ++ more) h _ head, inr (h, drop spans.len bytes ++ more, head, fails))
@@ -81,14 +81,14 @@ whole_window bytes h rest has =
 never_at : (b : List ℕ) (h : RequestHead) (rest : List ℕ) → NeverHasRequest b → ReadsRequest b h rest → ⊥
 never_at b h rest never reads = never_none b never h rest reads
 
-no_head : (bytes : List ℕ) (h : RequestHead) (rest : List ℕ) (f : FrameFault) → HasHead bytes h rest → IsFault bytes f → ⊥
+no_head : (bytes : List ℕ) (h : RequestHead) (rest : List ℕ) (f : FrameFault) → HasHead bytes h rest → IsHeadFault bytes f → ⊥
 no_head bytes h rest fault.Head has is = never_at (window bytes) h _ is.0 (whole_window bytes h rest has)
 no_head bytes h rest fault.HeadLong has is = is.0.0 h _ (whole_window bytes h rest has)
 no_head bytes h rest fault.Cut has is = is.0.0 h _ (whole_window bytes h rest has)
 no_head bytes h rest fault.BodyLong has is = is
 no_head bytes h rest fault.Encoding has is = is
 
-one_fault : (bytes : List ℕ) (f g : FrameFault) → IsFault bytes f → IsFault bytes g → f ≡ g
+one_fault : (bytes : List ℕ) (f g : FrameFault) → IsHeadFault bytes f → IsHeadFault bytes g → f ≡ g
 one_fault bytes fault.Head fault.Head a b = refl
 one_fault bytes fault.Head fault.HeadLong a b = absurd (open_not_never (window bytes) b.0 a)
 one_fault bytes fault.Head fault.Cut a b = absurd (open_not_never (window bytes) b.0 a)
@@ -103,13 +103,13 @@ one_fault bytes f fault.Encoding a b = absurd b
 one_fault bytes fault.BodyLong g a b = absurd a
 one_fault bytes fault.Encoding g a b = absurd a
 
-one_failure : (rest : List ℕ) (r : Result ℕ FrameFault) (f g : FrameFault) → FailsAfter rest r f → FailsAfter rest r g → f ≡ g
+one_failure : (rest : List ℕ) (r : Result ℕ FrameFault) (f g : FrameFault) → IsBodyFault rest r f → IsBodyFault rest r g → f ≡ g
 one_failure rest (Err e) f g a b = a ∙ sym b
 one_failure rest (Ok n) f g a b = a.0 ∙ sym b.0
 
 -- a complete body is not a fault
 no_failure : (body rest after : List ℕ) (r : Result ℕ FrameFault) (f : FrameFault) → r ≡ Ok (length body) → after ≡ body ++ rest
-    → FailsAfter after r f → ⊥
+    → IsBodyFault after r f → ⊥
 no_failure body rest after (Err e) f is split fails = absurd (cc)
 no_failure body rest after (Ok n) f is split fails =
     let same : n ≡ length body = cc in
@@ -122,19 +122,19 @@ ok_length m n e = cc
 pub item_unique : (bytes : List ℕ) (a b : Item) (r q : List ℕ) → IsItem bytes a r → IsItem bytes b q → (a ≡ b) × (r ≡ q)
 item_unique bytes (request h x) (request k y) r q a b =
     let same = request_unique bytes h k (x ++ r) (y ++ q) a.0.reads b.0.reads in
-    let lengths : length x ≡ length y = ok_length (length x) (length y) (sym a.1 ∙ ap frame same.0 ∙ b.1) in
+    let lengths : length x ≡ length y = ok_length (length x) (length y) (sym a.1 ∙ ap body_length_of same.0 ∙ b.1) in
     let fronts : x ≡ y = sym (take_all (length x) x (omega arith)) ∙ sym (take-append-le (length x) x r (omega arith))
     ∙ ap (λ (t : List ℕ). take (length x) t) same.1 ∙ take-append-le (length x) y q (omega (arith, lengths)) ∙ take_all (length x) y (omega (arith, lengths)) in
     (λ i. request (same.0 i) (fronts i), append_cancel_left y r q (ap (λ (t : List ℕ). t ++ r) (sym fronts) ∙ same.1))
 item_unique bytes (request h x) (faulty g) r q a b = elim b.2 as (λ _. (request h x ≡ faulty g) × (r ≡ q)) [
   | inl f ↦ absurd (no_head bytes h _ g a.0 f)
   | inr f ↦ let same = request_unique bytes h f.0 (x ++ r) f.1 a.0.reads f.2.reads in
-      absurd (no_failure x r f.1 (frame f.0) g (ap frame (sym same.0) ∙ a.1) (sym same.1) f.3)
+      absurd (no_failure x r f.1 (body_length_of f.0) g (ap body_length_of (sym same.0) ∙ a.1) (sym same.1) f.3)
 ]
 item_unique bytes (faulty g) (request h x) r q b a = elim b.2 as (λ _. (faulty g ≡ request h x) × (r ≡ q)) [
   | inl f ↦ absurd (no_head bytes h _ g a.0 f)
   | inr f ↦ let same = request_unique bytes h f.0 (x ++ q) f.1 a.0.reads f.2.reads in
-      absurd (no_failure x q f.1 (frame f.0) g (ap frame (sym same.0) ∙ a.1) (sym same.1) f.3)
+      absurd (no_failure x q f.1 (body_length_of f.0) g (ap body_length_of (sym same.0) ∙ a.1) (sym same.1) f.3)
 ]
 item_unique bytes (faulty f) (faulty g) r q a b = (ap faulty same, a.0 ∙ sym b.0)
   where
@@ -147,7 +147,7 @@ item_unique bytes (faulty f) (faulty g) r q a b = (ap faulty same, a.0 ∙ sym b
       | inr s ↦ elim b.2 as (λ _. f ≡ g) [
         | inl t ↦ absurd (no_head bytes s.0 s.1 g s.2 t)
         | inr t ↦ let heads = request_unique bytes s.0 t.0 s.1 t.1 s.2.reads t.2.reads in
-            one_failure t.1 (frame t.0) f g (subst (λ (k : RequestHead). FailsAfter t.1 (frame k) f) heads.0 (subst (λ (u : List ℕ). FailsAfter u (frame s.0) f) heads.1 s.3)) t.3
+            one_failure t.1 (body_length_of t.0) f g (subst (λ (k : RequestHead). IsBodyFault t.1 (body_length_of k) f) heads.0 (subst (λ (u : List ℕ). IsBodyFault u (body_length_of s.0) f) heads.1 s.3)) t.3
       ]
     ]
 
@@ -176,8 +176,8 @@ items_unique bytes (x ∷ xs) (y ∷ ys) a b =
     λ i. heads.0 i ∷ tails i
 
 -- the item of a fault before the end of a head
-pub front_is : (bytes : List ℕ) (f : FrameFault) (empty : Bool) → IsFault bytes f → (f ≡ fault.Cut → empty ≡ true → bytes ≡ [])
-    → (empty ≡ false → 0 < length bytes) → IsFrontOf bytes (fault_front f empty)
+pub front_is : (bytes : List ℕ) (f : FrameFault) (empty : Bool) → IsHeadFault bytes f → (f ≡ fault.Cut → empty ≡ true → bytes ≡ [])
+    → (empty ≡ false → 0 < length bytes) → IsNextOf bytes (next_of_fault f empty)
 front_is bytes fault.Head empty is none some = (refl, some_byte bytes fault.Head is (λ e. absurd (cc)), inl is)
 front_is bytes fault.HeadLong empty is none some = (refl, some_byte bytes fault.HeadLong is (λ e. absurd (cc)), inl is)
 front_is bytes fault.BodyLong empty is none some = absurd is
@@ -185,7 +185,7 @@ front_is bytes fault.Encoding empty is none some = absurd is
 front_is bytes fault.Cut true is none some = none refl refl
 front_is bytes fault.Cut false is none some = (refl, some refl, inl is)
 
-pub front_in : (bytes : List ℕ) (headers : List HeaderSpan) (f : FrameFault) (empty : Bool) → IsFrontIn bytes headers (fault_front f empty)
+pub front_in : (bytes : List ℕ) (headers : List HeaderSpan) (f : FrameFault) (empty : Bool) → IsNextIn bytes headers (next_of_fault f empty)
 front_in bytes headers fault.Head empty = tt
 front_in bytes headers fault.HeadLong empty = tt
 front_in bytes headers fault.BodyLong empty = tt
@@ -193,33 +193,33 @@ front_in bytes headers fault.Encoding empty = tt
 front_in bytes headers fault.Cut true = tt
 front_in bytes headers fault.Cut false = tt
 
-pub front_known : (items : List ℕ) (known : Option (List ℕ)) (o : Found) (f : FrameFault) (empty : Bool) → o ≡ found.Fault f
-    → IfSome (prepend_known items known) (λ s. IsFoundFault s o) → (o ≡ found.Fault fault.Cut → IsAtEnd known)
+pub front_known : (items : List ℕ) (known : Option (List ℕ)) (o : HeadResult) (f : FrameFault) (empty : Bool) → o ≡ found.Fault f
+    → IfSome (prepend_known items known) (λ s. IsHeadFaultOf s o) → (o ≡ found.Fault fault.Cut → IsAtEnd known)
     → (empty ≡ true → items ≡ []) → (empty ≡ false → 0 < length items)
-    → IfSome (prepend_known items known) (λ s. IsFrontOf s (fault_front f empty))
+    → IfSome (prepend_known items known) (λ s. IsNextOf s (next_of_fault f empty))
 front_known items None o f empty e is end none some = tt
 front_known items (Some rest) o f empty e is end none some =
-    let here = subst (λ (k : Found). IsFoundFault (items ++ rest) k) e is in
+    let here = subst (λ (k : HeadResult). IsHeadFaultOf (items ++ rest) k) e is in
     front_is (items ++ rest) f empty here
     (λ cut yes. ap (λ (t : List ℕ). t ++ rest) (none yes) ∙ end (e ∙ ap found.Fault cut))
     (λ no. omega (arith, some no, length-append items rest))
 
-pub failed_known : (items : List ℕ) (known : Option (List ℕ)) (headers : List HeaderSpan) (spans : RequestSpans) (o : Found) (f : FrameFault)
+pub failed_known : (items : List ℕ) (known : Option (List ℕ)) (headers : List HeaderSpan) (spans : RequestSpans) (o : HeadResult) (f : FrameFault)
     → o ≡ found.Whole spans → IsHeadIn items headers o
-    → ((h : RequestHead) → IsRequestAt items headers spans h → Err f ≡ frame h)
+    → ((h : RequestHead) → IsRequestAt items headers spans h → Err f ≡ body_length_of h)
     → IfSome (prepend_known items known) (λ s. IsItem s (faulty f) [])
 failed_known items None headers spans o f e is bad = tt
 failed_known items (Some rest) headers spans o f e is bad =
-    let here = subst (λ (k : Found). IsHeadIn items headers k) e is in
+    let here = subst (λ (k : HeadResult). IsHeadIn items headers k) e is in
     fault_of items rest headers spans here.1.0 f here.0 here.1.1 here.1.2
-    (subst (λ (r : Result ℕ FrameFault). FailsAfter (drop spans.len items ++ rest) r f) (bad here.1.0 here.1.1) refl)
+    (subst (λ (r : Result ℕ FrameFault). IsBodyFault (drop spans.len items ++ rest) r f) (bad here.1.0 here.1.1) refl)
 
-pub request_known : (items new more : List ℕ) (headers : List HeaderSpan) (spans : RequestSpans) (o : Found) (n : ℕ)
+pub request_known : (items new more : List ℕ) (headers : List HeaderSpan) (spans : RequestSpans) (o : HeadResult) (n : ℕ)
     → o ≡ found.Whole spans → IsHeadIn items headers o
-    → ((h : RequestHead) → IsRequestAt items headers spans h → Ok n ≡ frame h)
+    → ((h : RequestHead) → IsRequestAt items headers spans h → Ok n ≡ body_length_of h)
     → new ≡ items ++ more → spans.len + n ≤ length new → IsRequestIn new headers spans n
 request_known items new more headers spans o n e is good grown fits =
-    let here = subst (λ (k : Found). IsHeadIn items headers k) e is in (
+    let here = subst (λ (k : HeadResult). IsHeadIn items headers k) e is in (
       subst (λ (t : List ℕ). IsRequestWithin t headers spans) (sym grown) (within_front items more headers spans here.0),
       (
         here.1.0,
@@ -230,25 +230,25 @@ request_known items new more headers spans o n e is good grown fits =
       fits,
     )
 
-pub cut_known : (items new more : List ℕ) (known : Option (List ℕ)) (headers : List HeaderSpan) (spans : RequestSpans) (o : Found) (n : ℕ)
+pub cut_known : (items new more : List ℕ) (known : Option (List ℕ)) (headers : List HeaderSpan) (spans : RequestSpans) (o : HeadResult) (n : ℕ)
     → o ≡ found.Whole spans → IsHeadIn items headers o
-    → ((h : RequestHead) → IsRequestAt items headers spans h → Ok n ≡ frame h)
+    → ((h : RequestHead) → IsRequestAt items headers spans h → Ok n ≡ body_length_of h)
     → new ≡ items ++ more → IfSome (prepend_known new known) (λ s. length s < spans.len + n)
     → IfSome (prepend_known new known) (λ s. IsItem s (faulty fault.Cut) [])
 cut_known items new more None headers spans o n e is good grown short = tt
 cut_known items new more (Some rest) headers spans o n e is good grown short =
-    let here = subst (λ (k : Found). IsHeadIn items headers k) e is in
+    let here = subst (λ (k : HeadResult). IsHeadIn items headers k) e is in
     let h = here.1.0 in
     let ok = subst (λ (t : List ℕ). IsRequestWithin t headers spans) (sym grown) (within_front items more headers spans here.0) in
     let at = subst (λ (t : List ℕ). IsRequestAt t headers spans h) (sym grown) (at_front items more headers spans h here.0 here.1.1) in
     let left : length (drop spans.len new ++ rest) < n =
     omega (arith, short, length-append new rest, length-append (drop spans.len new) rest, length-drop spans.len new, ok.section.len_fits) in
     fault_of new rest headers spans h fault.Cut ok at here.1.2
-    (subst (λ (r : Result ℕ FrameFault). FailsAfter (drop spans.len new ++ rest) r fault.Cut) (good h here.1.1) (refl, left))
+    (subst (λ (r : Result ℕ FrameFault). IsBodyFault (drop spans.len new ++ rest) r fault.Cut) (good h here.1.1) (refl, left))
 
 -- the stream has the request that is in the buffer
 pub request_of_stream : (items : List ℕ) (known : Option (List ℕ)) (headers : List HeaderSpan) (spans : RequestSpans) (n : ℕ)
-    → IsRequestIn items headers spans n → IfSome (prepend_known items known) (λ s. IsFrontOf s (front.Request spans n))
+    → IsRequestIn items headers spans n → IfSome (prepend_known items known) (λ s. IsNextOf s (front.Request spans n))
 request_of_stream items None headers spans n is = tt
 request_of_stream items (Some rest) headers spans n is =
     let start : spans.len ≤ length items = omega (arith, is.2) in
@@ -278,15 +278,15 @@ not_open items e h rest has (inl full) none = none h _ (head_within items e h re
 not_open items e h rest has (inr all) none = none h _ (head_within items e h rest has (omega (arith, head_bound items h rest has, all)))
 
 -- a request at the front of a buffer lies in it completely
-pub item_fits : (items : List ℕ) (headers : List HeaderSpan) (spans : RequestSpans) (f : Found) (n : ℕ) (h : RequestHead) (body rest : List ℕ)
+pub item_fits : (items : List ℕ) (headers : List HeaderSpan) (spans : RequestSpans) (f : HeadResult) (n : ℕ) (h : RequestHead) (body rest : List ℕ)
     → f ≡ found.Whole spans → IsHeadIn items headers f → IsItem items (request h body) rest
-    → ((k : RequestHead) → IsRequestAt items headers spans k → Ok n ≡ frame k) → spans.len + n ≤ length items
+    → ((k : RequestHead) → IsRequestAt items headers spans k → Ok n ≡ body_length_of k) → spans.len + n ≤ length items
 item_fits items headers spans f n h body rest is known it good =
-    let here = subst (λ (x : Found). IsHeadIn items headers x) is known in
+    let here = subst (λ (x : HeadResult). IsHeadIn items headers x) is known in
     let k = here.1.0 in
     let at = here.1.1 in
     let same = request_unique items h k (body ++ rest) (drop spans.len items) it.0.reads at.reads in
-    let long : n ≡ length body = ok_length n (length body) (good k at ∙ ap frame (sym same.0) ∙ it.1) in
+    let long : n ≡ length body = ok_length n (length body) (good k at ∙ ap body_length_of (sym same.0) ∙ it.1) in
     omega (arith, at.len, ap (λ (x : RequestHead). length (print_request x)) same.0, long, simp length-append at (ap length it.0.reads.1))
 
 -- ---- the number of bytes read
@@ -295,7 +295,7 @@ read_some : (bytes : List ℕ) (h : RequestHead) (rest : List ℕ) → ReadsRequ
 read_some bytes h rest reads = omega (arith, head_bytes h reads.0, simp length-append at (ap length reads.1))
 
 -- an earlier chunk, or none
-pub none_read : (bytes : List ℕ) → length bytes ≤ 1024 → IsJustRead bytes
+pub none_read : (bytes : List ℕ) → length bytes ≤ 1024 → LastReadWasNeeded bytes
 none_read bytes small = record {
   before = [];
   piece = bytes;
@@ -307,21 +307,21 @@ none_read bytes small = record {
 
 -- a chunk after bytes in which no head was found
 pub piece_read : (items new piece : List ℕ) (e : ℕ) → e ≡ length items → length items < 8192 → new ≡ items ++ piece → length piece ≤ 1024
-    → IsOpen (take e items) → IsJustRead new
+    → IsPartialHead (take e items) → LastReadWasNeeded new
 piece_read items new piece e all short grown small begun = record {
   before = items;
   piece = piece;
   is = grown;
   small = small;
-  begun = subst IsOpen (take_all e items (omega (arith, all))) begun;
+  begun = subst IsPartialHead (take_all e items (omega (arith, all))) begun;
   short = short;
 }
 
 -- less than a chunk follows a head that was completed by the last read
-pub head_ahead : (bytes : List ℕ) (headers : List HeaderSpan) (spans : RequestSpans) (o : Found) → o ≡ found.Whole spans → IsHeadIn bytes headers o
-    → IsJustRead bytes → length bytes < spans.len + 1024
+pub head_ahead : (bytes : List ℕ) (headers : List HeaderSpan) (spans : RequestSpans) (o : HeadResult) → o ≡ found.Whole spans → IsHeadIn bytes headers o
+    → LastReadWasNeeded bytes → length bytes < spans.len + 1024
 head_ahead bytes headers spans o e is read =
-    let here = subst (λ (k : Found). IsHeadIn bytes headers k) e is in
+    let here = subst (λ (k : HeadResult). IsHeadIn bytes headers k) e is in
     let h = here.1.0 in
     let at = here.1.1 in
     let n = length read.before in
@@ -334,7 +334,7 @@ head_ahead bytes headers spans o e is read =
           (head_within bytes n h _ head (omega (arith, all, at.len)))))
     ]
 
-pub fault_read : (bytes : List ℕ) (f : FrameFault) (empty : Bool) → IsJustRead bytes → IsReadFor bytes (fault_front f empty)
+pub fault_read : (bytes : List ℕ) (f : FrameFault) (empty : Bool) → LastReadWasNeeded bytes → ReadsUpTo bytes (next_of_fault f empty)
 fault_read bytes fault.Head empty read = inr read
 fault_read bytes fault.HeadLong empty read = inr read
 fault_read bytes fault.BodyLong empty read = inr read

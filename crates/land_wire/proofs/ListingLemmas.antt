@@ -8,28 +8,28 @@ use Rattle.httparse.specs.declared.spans.HeaderSpan.{HeaderSpan}
 use Rattle.httparse.specs.declared.spans.RequestSpans.{RequestSpans}
 use Rattle.land_wire.proofs.ItemLemmas.{some_byte, fault_of, request_of, request_of_stream, head_bytes}
 use Rattle.land_wire.proofs.StreamLemmas.{never_later, head_long, cut_short}
-use Rattle.land_wire.specs.Framing.Frame.{frame, ends}
-use Rattle.land_wire.specs.Framing.Items.{Item, request, faulty, IsItem, AreItems, FailsAfter, is_last, IsRequestIn, IsFrontOf}
-use Rattle.land_wire.specs.Framing.Stream.{IsFault, IsOpen, IsNever, IsHeadIn}
+use Rattle.land_wire.specs.Framing.Frame.{body_length_of, wants_close}
+use Rattle.land_wire.specs.Framing.Items.{Item, request, faulty, IsItem, AreItems, IsBodyFault, is_last, IsRequestIn, IsNextOf}
+use Rattle.land_wire.specs.Framing.Stream.{IsHeadFault, IsPartialHead, IsInvalidHead, IsHeadIn}
 use Rattle.land_wire.specs.declared.framing.frame_fault.FrameFault.{FrameFault}
 use Rattle.land_wire.specs.declared.framing.frame_fault.FrameFault.TheVariants as fault
-use Rattle.land_wire.specs.declared.framing.head.Found.TheVariants as found
-use Rattle.land_wire.specs.declared.framing.item.Front.TheVariants as front
+use Rattle.land_wire.specs.declared.framing.head.HeadResult.TheVariants as found
+use Rattle.land_wire.specs.declared.framing.item.NextItem.TheVariants as front
 
 -- a fault before the end of a head
-fault_item : (bytes : List ℕ) (f : FrameFault) → 0 < length bytes → IsFault (bytes ++ []) f → IsItem bytes (faulty f) []
-fault_item bytes f some is = (refl, some, inl (subst (λ (t : List ℕ). IsFault t f) (append-nil bytes) is))
+fault_item : (bytes : List ℕ) (f : FrameFault) → 0 < length bytes → IsHeadFault (bytes ++ []) f → IsItem bytes (faulty f) []
+fault_item bytes f some is = (refl, some, inl (subst (λ (t : List ℕ). IsHeadFault t f) (append-nil bytes) is))
 
-pub never_item : (bytes : List ℕ) (e : ℕ) → e ≤ 8192 → e ≤ length bytes → IsNever (take e bytes) → IsItem bytes (faulty fault.Head) []
+pub never_item : (bytes : List ℕ) (e : ℕ) → e ≤ 8192 → e ≤ length bytes → IsInvalidHead (take e bytes) → IsItem bytes (faulty fault.Head) []
 never_item bytes e small inside never =
-    let is = subst (λ (t : List ℕ). IsFault t fault.Head) (append-nil bytes) (never_later bytes [] e small inside never) in
+    let is = subst (λ (t : List ℕ). IsHeadFault t fault.Head) (append-nil bytes) (never_later bytes [] e small inside never) in
     (refl, some_byte bytes fault.Head is (λ e. absurd (cc)), inl is)
 
-pub long_item : (bytes : List ℕ) (e : ℕ) → 8192 ≤ length bytes → e ≡ 8192 → IsOpen (take e bytes) → IsItem bytes (faulty fault.HeadLong) []
+pub long_item : (bytes : List ℕ) (e : ℕ) → 8192 ≤ length bytes → e ≡ 8192 → IsPartialHead (take e bytes) → IsItem bytes (faulty fault.HeadLong) []
 long_item bytes e full all begun =
-    fault_item bytes fault.HeadLong (omega arith) (head_long bytes [] full (subst (λ (n : ℕ). IsOpen (take n bytes)) all begun))
+    fault_item bytes fault.HeadLong (omega arith) (head_long bytes [] full (subst (λ (n : ℕ). IsPartialHead (take n bytes)) all begun))
 
-pub cut_item : (bytes : List ℕ) (e : ℕ) → 0 < length bytes → length bytes < 8192 → e ≡ length bytes → IsOpen (take e bytes)
+pub cut_item : (bytes : List ℕ) (e : ℕ) → 0 < length bytes → length bytes < 8192 → e ≡ length bytes → IsPartialHead (take e bytes)
     → IsItem bytes (faulty fault.Cut) []
 cut_item bytes e some small all begun =
     (refl, some, inl (cut_short bytes bytes [] e 0 all small (sym (append-nil bytes)) refl refl begun))
@@ -37,35 +37,35 @@ cut_item bytes e some small all begun =
 -- a fault after a whole head
 pub failed_item : (bytes : List ℕ) (headers : List HeaderSpan) (spans : RequestSpans) (f : FrameFault)
     → IsHeadIn bytes headers (found.Whole spans)
-    → ((h : RequestHead) → IsRequestAt bytes headers spans h → Err f ≡ frame h) → IsItem bytes (faulty f) []
+    → ((h : RequestHead) → IsRequestAt bytes headers spans h → Err f ≡ body_length_of h) → IsItem bytes (faulty f) []
 failed_item bytes headers spans f here bad =
     subst (λ (t : List ℕ). IsItem t (faulty f) []) (append-nil bytes)
     (fault_of bytes [] headers spans here.1.0 f here.0 here.1.1 here.1.2
-    (subst (λ (r : Result ℕ FrameFault). FailsAfter (drop spans.len bytes ++ []) r f) (bad here.1.0 here.1.1) refl))
+    (subst (λ (r : Result ℕ FrameFault). IsBodyFault (drop spans.len bytes ++ []) r f) (bad here.1.0 here.1.1) refl))
 
 pub short_item : (bytes : List ℕ) (headers : List HeaderSpan) (spans : RequestSpans) (n : ℕ)
     → IsHeadIn bytes headers (found.Whole spans)
-    → ((h : RequestHead) → IsRequestAt bytes headers spans h → Ok n ≡ frame h)
+    → ((h : RequestHead) → IsRequestAt bytes headers spans h → Ok n ≡ body_length_of h)
     → length bytes < spans.len + n → IsItem bytes (faulty fault.Cut) []
 short_item bytes headers spans n here good short =
     let left : length (drop spans.len bytes ++ []) < n =
     omega (arith, short, length-append (drop spans.len bytes) [], length-drop spans.len bytes, here.0.section.len_fits) in
     subst (λ (t : List ℕ). IsItem t (faulty fault.Cut) []) (append-nil bytes)
     (fault_of bytes [] headers spans here.1.0 fault.Cut here.0 here.1.1 here.1.2
-    (subst (λ (r : Result ℕ FrameFault). FailsAfter (drop spans.len bytes ++ []) r fault.Cut) (good here.1.0 here.1.1) (refl, left)))
+    (subst (λ (r : Result ℕ FrameFault). IsBodyFault (drop spans.len bytes ++ []) r fault.Cut) (good here.1.0 here.1.1) (refl, left)))
 
 pub request_in : (bytes : List ℕ) (headers : List HeaderSpan) (spans : RequestSpans) (n : ℕ)
     → IsHeadIn bytes headers (found.Whole spans)
-    → ((h : RequestHead) → IsRequestAt bytes headers spans h → Ok n ≡ frame h)
+    → ((h : RequestHead) → IsRequestAt bytes headers spans h → Ok n ≡ body_length_of h)
     → spans.len + n ≤ length bytes → IsRequestIn bytes headers spans n
 request_in bytes headers spans n here good fits =
     (here.0, (here.1.0, here.1.1, here.1.2, sym (good here.1.0 here.1.1)), fits)
 
 pub request_front : (bytes : List ℕ) (headers : List HeaderSpan) (spans : RequestSpans) (n : ℕ)
-    → IsRequestIn bytes headers spans n → IsFrontOf bytes (front.Request spans n)
+    → IsRequestIn bytes headers spans n → IsNextOf bytes (front.Request spans n)
 request_front bytes headers spans n is =
-    let there : IfSome (prepend_known bytes (Some [])) (λ s. IsFrontOf s (front.Request spans n)) = request_of_stream bytes (Some []) headers spans n is in
-    subst (λ (t : List ℕ). IsFrontOf t (front.Request spans n)) (append-nil bytes) there
+    let there : IfSome (prepend_known bytes (Some [])) (λ s. IsNextOf s (front.Request spans n)) = request_of_stream bytes (Some []) headers spans n is in
+    subst (λ (t : List ℕ). IsNextOf t (front.Request spans n)) (append-nil bytes) there
 
 -- ---- the list of items
 
@@ -119,7 +119,7 @@ request_shortens bytes headers spans n is =
 
 -- the rest after a request that is not the last, as the code computes it
 pub next_begins : (bytes rest : List ℕ) (headers : List HeaderSpan) (spans : RequestSpans) (n count : ℕ)
-    → Begins bytes rest count × (count + length rest ≤ length bytes) → (is : IsRequestIn rest headers spans n) → ends is.1.0 ≡ false
+    → Begins bytes rest count × (count + length rest ≤ length bytes) → (is : IsRequestIn rest headers spans n) → wants_close is.1.0 ≡ false
     → Begins bytes (take (length rest - (spans.len + n)) (drop (spans.len + n) rest)) (count + 1)
     × (count + 1 + length (take (length rest - (spans.len + n)) (drop (spans.len + n) rest)) ≤ length bytes)
 next_begins bytes rest headers spans n count begun is more =

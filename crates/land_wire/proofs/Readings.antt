@@ -12,10 +12,10 @@ use Rattle.land_keep.specs.Machine.{at_of}
 use Rattle.land_keep.specs.Moments.{IsMoment, last_moment}
 use Rattle.land_wire.specs.Acts.{act_in}
 use Rattle.land_wire.specs.Fields.{caller_in}
-use Rattle.land_wire.specs.Laws.{BodiesOfReadsDoNotCount, GetsDoNothing, OtherMethodsAskForActs, StatedMomentsAreMoments, AskedMomentsAreMoments, IsStated, is_done}
+use Rattle.land_wire.specs.Laws.{BodiesOfReadsAreIgnored, GetsDoNothing, OtherMethodsRequestActs, QueryMomentsAreValid, RequestMomentsAreValid, IsExplicitMoment, requests_act}
 use Rattle.land_wire.specs.Numbers.{decimal_in, number_in, moment_in}
 use Rattle.land_wire.specs.Queries.{no_query, at_in}
-use Rattle.land_wire.specs.Reading.{allowed, ask_of, parts_reading, reading_by, resource_at}
+use Rattle.land_wire.specs.Reading.{require_method, ask_of, parts_reading, reading_by, require_resource}
 use Rattle.land_wire.specs.Routes.{Resource, list, view, sheet, act}
 use Rattle.land_wire.specs.Routes.Targets.{path_of, query_of}
 use Rattle.land_wire.specs.declared.routes.act_word.ActWord.{ActWord}
@@ -39,7 +39,7 @@ abbrev asked_by : Resource → Entries FieldValue → (query body : List ℕ) �
 asked_by named fields query body = caller_in fields >>= λ caller. ask_of named query body >>= λ asked. Ok (record { caller = caller; ask = asked })
 
 abbrev read_by : Result Resource WireFault → (method query : List ℕ) → Entries FieldValue → (body : List ℕ) → Result Request WireFault
-read_by found method query fields body = found >>= λ named. allowed named method >>= λ permit. asked_by named fields query body
+read_by found method query fields body = found >>= λ named. require_method named method >>= λ permit. asked_by named fields query body
 
 same_body : (found : Result Resource WireFault) (query : List ℕ) (fields : Entries FieldValue) (body other : List ℕ)
     → read_by found (codes "GET") query fields body ≡ read_by found (codes "GET") query fields other
@@ -49,14 +49,14 @@ same_body (Ok (view kind part)) query fields body other = refl
 same_body (Ok (sheet part)) query fields body other = refl
 same_body (Ok (act word)) query fields body other = refl
 
-pub bodies_do_not_count : BodiesOfReadsDoNotCount
+pub bodies_do_not_count : BodiesOfReadsAreIgnored
 unfolding parts_reading
-bodies_do_not_count target fields body other = same_body (resource_at (path_of target)) (query_of target) fields body other
+bodies_do_not_count target fields body other = same_body (require_resource (path_of target)) (query_of target) fields body other
 
 -- ---- methods
 
 abbrev DoesNothing : Request → Type 0
-DoesNothing request = is_done request.ask ≡ false
+DoesNothing request = requests_act request.ask ≡ false
 
 -- a property of the ask is a property of the request
 asked_for : {P : Ask → Type 0} (caller : Caller) (asked : Result Ask WireFault) → Ensures P asked
@@ -65,7 +65,7 @@ asked_for caller (Ok it) h = record { if_ok = h.if_ok }
 asked_for caller (Err e) h = record { if_ok = tt }
 
 abbrev DoesNot : Ask → Type 0
-DoesNot asked = is_done asked ≡ false
+DoesNot asked = requests_act asked ≡ false
 
 looked_at : (named : Resource) (fields : Entries FieldValue) (query body : List ℕ) → Ensures DoesNot (ask_of named query body)
     → Ensures DoesNothing (asked_by named fields query body)
@@ -83,10 +83,10 @@ got (Ok (act word)) query fields body = record { if_ok = tt }
 
 pub gets_do_nothing : GetsDoNothing
 unfolding parts_reading
-gets_do_nothing target fields body = (got (resource_at (path_of target)) (query_of target) fields body).if_ok
+gets_do_nothing target fields body = (got (require_resource (path_of target)) (query_of target) fields body).if_ok
 
 abbrev IsPosted : (method : List ℕ) → Request → Type 0
-IsPosted method request = (is_done request.ask ≡ true) × (bytes_eq method (codes "POST") ≡ true)
+IsPosted method request = (requests_act request.ask ≡ true) × (bytes_eq method (codes "POST") ≡ true)
 
 -- each resource that is read allows only GET
 abbrev permit_of : Bool → Result ⊤ WireFault
@@ -102,7 +102,7 @@ done_by true method next is h = h refl
 done_by false method next is h = record { if_ok = tt }
 
 abbrev IsAct : (method : List ℕ) → Ask → Type 0
-IsAct method asked = (is_done asked ≡ true) × (bytes_eq method (codes "POST") ≡ true)
+IsAct method asked = (requests_act asked ≡ true) × (bytes_eq method (codes "POST") ≡ true)
 
 act_asked : (word : ActWord) (method query body : List ℕ) → bytes_eq method (codes "POST") ≡ true → Ensures (IsAct method) (ask_of (act word) query body)
 act_asked word method query body is = bind (no_query query) (λ none. bind (act_in word body) (λ wanted. record { if_ok = (refl, is) }))
@@ -125,9 +125,9 @@ posted (Ok (act word)) method query fields body refused =
     done_by (bytes_eq method (codes "POST")) method (λ permit. asked_by (act word) fields query body) refl (λ is.
     act_read word method fields query body is)
 
-pub others_ask_for_acts : OtherMethodsAskForActs
+pub others_ask_for_acts : OtherMethodsRequestActs
 unfolding parts_reading
-others_ask_for_acts method target fields body refused = (posted (resource_at (path_of target)) method (query_of target) fields body refused).if_ok
+others_ask_for_acts method target fields body refused = (posted (require_resource (path_of target)) method (query_of target) fields body refused).if_ok
 
 -- ---- moments
 
@@ -144,26 +144,26 @@ bounded-moment n false is = record { if_ok = in_range n is }
 moment_in-moment : (text : List ℕ) → Ensures IsMoment (moment_in text)
 moment_in-moment text = bind (decimal_in text) (λ n. bounded-moment n (int_lt last_moment (pos n)) refl)
 
-some_moment : (r : Result ℤ WireFault) → Ensures IsMoment r → Ensures IsStated (r >>= λ moment. Ok (Some moment))
+some_moment : (r : Result ℤ WireFault) → Ensures IsMoment r → Ensures IsExplicitMoment (r >>= λ moment. Ok (Some moment))
 some_moment (Ok moment) h = record { if_ok = h.if_ok }
 some_moment (Err e) h = record { if_ok = tt }
 
 abbrev stated_by : Bool → List ℕ → Result (Option ℤ) WireFault
 stated_by b text = if b then (moment_in text >>= λ moment. Ok (Some moment)) else Err fault.Field
 
-stated_by-moment : (b : Bool) (text : List ℕ) → Ensures IsStated (stated_by b text)
+stated_by-moment : (b : Bool) (text : List ℕ) → Ensures IsExplicitMoment (stated_by b text)
 stated_by-moment true text = some_moment (moment_in text) (moment_in-moment text)
 stated_by-moment false text = record { if_ok = tt }
 
-at_in-moment : (query : List ℕ) → Ensures IsStated (at_in query)
+at_in-moment : (query : List ℕ) → Ensures IsExplicitMoment (at_in query)
 at_in-moment [] = record { if_ok = tt }
 at_in-moment (byte ∷ bytes) = stated_by-moment (bytes_eq (take 3 (byte ∷ bytes)) (codes "at=")) (drop 3 (byte ∷ bytes))
 
-pub stated_moments : StatedMomentsAreMoments
+pub stated_moments : QueryMomentsAreValid
 stated_moments query = (at_in-moment query).if_ok
 
 abbrev AsksMoment : Ask → Type 0
-AsksMoment asked = IsStated (at_of asked)
+AsksMoment asked = IsExplicitMoment (at_of asked)
 
 abbrev StatesMoment : Request → Type 0
 StatesMoment request = AsksMoment request.ask
@@ -173,9 +173,9 @@ looked_at-moment : (wrap : Option ℤ → Ask) (query : List ℕ) → ((at : Opt
     → Ensures AsksMoment (at_in query >>= λ at. Ok (wrap at))
 looked_at-moment wrap query keeps = wrapped wrap (at_in query) keeps (at_in-moment query)
   where
-    wrapped : (wrap : Option ℤ → Ask) (r : Result (Option ℤ) WireFault) → ((at : Option ℤ) → at_of (wrap at) ≡ at) → Ensures IsStated r
+    wrapped : (wrap : Option ℤ → Ask) (r : Result (Option ℤ) WireFault) → ((at : Option ℤ) → at_of (wrap at) ≡ at) → Ensures IsExplicitMoment r
         → Ensures AsksMoment (r >>= λ at. Ok (wrap at))
-    wrapped wrap (Ok it) keeps h = record { if_ok = subst (λ (t : Option ℤ). IsStated t) (sym (keeps it)) h.if_ok }
+    wrapped wrap (Ok it) keeps h = record { if_ok = subst (λ (t : Option ℤ). IsExplicitMoment t) (sym (keeps it)) h.if_ok }
     wrapped wrap (Err e) keeps h = record { if_ok = tt }
 
 ask_of-moment : (named : Resource) (query body : List ℕ) → Ensures AsksMoment (ask_of named query body)
@@ -188,10 +188,10 @@ read-moment : (method target : List ℕ) (asking : Result Caller WireFault) (bod
     → Ensures StatesMoment (reading_by method target asking body)
 unfolding parts_reading
 read-moment method target asking body =
-    bind (resource_at (path_of target)) (λ named.
-    bind (allowed named method) (λ permit.
+    bind (require_resource (path_of target)) (λ named.
+    bind (require_method named method) (λ permit.
     bind asking (λ caller.
     asked_for caller (ask_of named (query_of target) body) (ask_of-moment named (query_of target) body))))
 
-pub asked_moments : AskedMomentsAreMoments
+pub asked_moments : RequestMomentsAreValid
 asked_moments method target asking body = (read-moment method target asking body).if_ok

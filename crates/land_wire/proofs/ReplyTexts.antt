@@ -4,7 +4,7 @@ use Rattle.land_core.specs.declared.object.Object.{Object}
 use Rattle.land_core.specs.declared.change.Done.{Done}
 use Rattle.land_keep.specs.declared.reply.Reply.{Reply}
 use Rattle.land_keep.specs.declared.reply.Reply.TheVariants as reply
-use Rattle.land_wire.specs.Replies.{done_data, reply_text, short_text, numbers_text, done_text, shown_text}
+use Rattle.land_wire.specs.Replies.{done_data, reply_text, short_text, numbers_text, done_text, object_reply_text}
 use Rattle.land_wire_json.proofs.PartyTexts.{all_numbers}
 use Rattle.land_wire_json.specs.Texts.Objects.{object_data, object_text}
 use Rattle.land_wire_json.specs.Texts.Values.{one_member}
@@ -55,6 +55,6 @@ done-text made n stamp =
 
 -- ---- objects
 
-pub shown-text : (it : Object) → reply_text (reply.Object it) ≡ Some (shown_text (object_text it))
+pub shown-text : (it : Object) → reply_text (reply.Object it) ≡ Some (object_reply_text (object_text it))
 unfolding reply_text serde_json_on_literals
 shown-text it = refl

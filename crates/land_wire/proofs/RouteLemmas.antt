@@ -4,7 +4,7 @@ use Rattle.std.proofs.lemmas.Bool.Decides.{nat_tests}
 use Rattle.std.specs.Cmp.Lexicographic.{pointwise}
 use Rattle.std.proofs.lemmas.Bool.{and_parts}
 use Rattle.land_core.proofs.Booleans.{and_false}
-use Rattle.land_wire.specs.Routes.{after, before_slash, from_slash, has_slash, is_empty, is_part, where_after}
+use Rattle.land_wire.specs.Routes.{without_prefix, before_slash, from_slash, has_slash, is_empty, is_segment, if_matched}
 use Rattle.land_wire.specs.Routes.Table.{AreBytes}
 use Rattle.matchit.specs.Rows.{RowsOf}
 use Rattle.matchit.specs.Seek.{seek, own, or_else, step, param_step, longest_suffix, cuts, segment, has_slash as slashed}
@@ -86,7 +86,7 @@ advance b ((x ∷ w, rows) ∷ gs) = cond (x == b) ((w, rows) ∷ advance b gs) 
 -- by the first word that begins the path
 abbrev pub pick : {K : Type 0} → Groups K → List ℕ → Option K
 pick [] p = None
-pick ((w, rows) ∷ gs) p = where_after (after w p) (λ rest. seek 0 rows rest) (pick gs p)
+pick ((w, rows) ∷ gs) p = if_matched (without_prefix w p) (λ rest. seek 0 rows rest) (pick gs p)
 
 -- neither word begins the other
 abbrev differ : List ℕ → List ℕ → Bool
@@ -187,8 +187,8 @@ pick-advance K b p (([], rows) ∷ gs) long = cc
 pick-advance K b p ((x ∷ w, rows) ∷ gs) long = by (x == b) (pick gs (b ∷ p)) (pick-advance K b p gs long)
   where
     by : (v : Bool) (other : Option K) → other ≡ pick (advance b gs) p
-        → where_after (cond v (after w p) None) (λ rest. seek 0 rows rest) other ≡ pick (cond v ((w, rows) ∷ advance b gs) (advance b gs)) p
-    by true other e = ap (where_after (after w p) (λ rest. seek 0 rows rest)) e
+        → if_matched (cond v (without_prefix w p) None) (λ rest. seek 0 rows rest) other ≡ pick (cond v ((w, rows) ∷ advance b gs) (advance b gs)) p
+    by true other e = ap (if_matched (without_prefix w p) (λ rest. seek 0 rows rest)) e
     by false other e = e
 
 texts-advance : (K : Type 0) (b : ℕ) (gs : Groups K) → are_texts gs ≡ true → are_texts (advance b gs) ≡ true
@@ -261,7 +261,7 @@ seek_by_words K (b ∷ p) ((x ∷ w, rows) ∷ gs) apart texts =
 -- ---- segments
 
 -- a parameter at the end
-pub last_param : (K : Type 0) (k : K) (p : List ℕ) → AreBytes p → seek 0 ((256 ∷ [], k) ∷ []) p ≡ cond (is_part p) (Some k) None
+pub last_param : (K : Type 0) (k : K) (p : List ℕ) → AreBytes p → seek 0 ((256 ∷ [], k) ∷ []) p ≡ cond (is_segment p) (Some k) None
 unfolding seek param_step
 last_param K k [] bytes = refl
 last_param K k (b ∷ p) bytes =
@@ -357,7 +357,7 @@ param_two K s v p false e = rw (longest_two K s v (segment p) false e) refl
 
 pub part_or_word : (K : Type 0) (s v : K) (p : List ℕ) → AreBytes p
     → seek 0 ((256 ∷ codes "/sheet", s) ∷ (256 ∷ [], v) ∷ []) p
-    ≡ cond (is_part p) (Some v) (cond (not (is_empty (before_slash p)) && bytes_eq (from_slash p) (codes "/sheet")) (Some s) None)
+    ≡ cond (is_segment p) (Some v) (cond (not (is_empty (before_slash p)) && bytes_eq (from_slash p) (codes "/sheet")) (Some s) None)
 part_or_word K s v [] bytes = seek_end K _
 part_or_word K s v (b ∷ q) bytes =
     let none : step b ((256 ∷ codes "/sheet", s) ∷ (256 ∷ [], v) ∷ []) ≡ [] = simp (no_token b bytes.0) in

@@ -7,7 +7,7 @@ use Rattle.land_core.specs.declared.kind.Kind.{Kind}
 use Rattle.land_core.specs.declared.kind.Kind.TheVariants as kind
 use Rattle.land_wire.proofs.ActNames.{act_found, word_found}
 use Rattle.land_wire.proofs.RouteTable.{after_is, same_byte}
-use Rattle.land_wire.specs.Routes.{Names, Resource, act, after, before_slash, from_slash, has_slash, is_empty, is_part, list, list_path, named_act, other_of, route_of, sheet, sheet_of, under, view, where_after}
+use Rattle.land_wire.specs.Routes.{IsPathOf, Resource, act, without_prefix, before_slash, from_slash, has_slash, is_empty, is_segment, list, list_path, resource_of_act, resource_of_suffix, route_of, sheet, resource_of_sheet, resource_below_list, view, if_matched}
 use Rattle.land_wire.specs.Routes.ActWords.{act_of, act_word}
 use Rattle.land_wire.specs.declared.routes.act_word.ActWord.{ActWord}
 
@@ -21,7 +21,7 @@ slash_within (b ∷ p) q = by (b == 47) (slash_within p q)
     by true e = refl
     by false e = e
 
-no_part : (p q : List ℕ) → is_part (p ++ 47 ∷ q) ≡ false
+no_part : (p q : List ℕ) → is_segment (p ++ 47 ∷ q) ≡ false
 no_part p q = rw (slash_within p q) (and_false (not (is_empty (p ++ 47 ∷ q))))
 
 front_is : (p q : List ℕ) → has_slash p ≡ false → before_slash (p ++ 47 ∷ q) ≡ p
@@ -58,7 +58,7 @@ none_before (b ∷ q) = by (b == 47) refl (none_before q)
 
 -- ---- from the plain rule
 
-pub named_found : (path : List ℕ) (r : Resource) → Names path r → route_of path ≡ Some r
+pub named_found : (path : List ℕ) (r : Resource) → IsPathOf path r → route_of path ≡ Some r
 named_found path (list kind.Party) h = rw h refl
 named_found path (list kind.Unit) h = rw h refl
 named_found path (list kind.Parcel) h = rw h refl
@@ -80,57 +80,57 @@ named_found path (act word) h = rw (h, word_found (act_word word) word refl) ref
 -- ---- to the plain rule
 
 back : (o : Option (List ℕ)) (g : List ℕ → Option Resource) (y : Option Resource) (r : Resource) (P : Type 0)
-    → ((rest : List ℕ) → o ≡ Some rest → g rest ≡ Some r → P) → (y ≡ Some r → P) → where_after o g y ≡ Some r → P
+    → ((rest : List ℕ) → o ≡ Some rest → g rest ≡ Some r → P) → (y ≡ Some r → P) → if_matched o g y ≡ Some r → P
 back None g y r P here other e = other e
 back (Some rest) g y r P here other e = here rest refl e
 
 same_some : (a b : Resource) → Some a ≡ Some b → a ≡ b
 same_some a b e = cc
 
-act_names : (path rest : List ℕ) (r : Resource) → path ≡ codes "/acts/" ++ rest → named_act rest ≡ Some r → Names path r
+act_names : (path rest : List ℕ) (r : Resource) → path ≡ codes "/acts/" ++ rest → resource_of_act rest ≡ Some r → IsPathOf path r
 act_names path rest r p e = by (act_of rest) refl e
   where
-    by : (o : Option ActWord) → act_of rest ≡ o → option_map act o ≡ Some r → Names path r
+    by : (o : Option ActWord) → act_of rest ≡ o → option_map act o ≡ Some r → IsPathOf path r
     by None f g = cc
-    by (Some word) f g = subst (Names path) (same_some (act word) r g) (p ∙ ap (λ x. codes "/acts/" ++ x) (act_found rest word f))
+    by (Some word) f g = subst (IsPathOf path) (same_some (act word) r g) (p ∙ ap (λ x. codes "/acts/" ++ x) (act_found rest word f))
 
-sheet_names : (path q : List ℕ) (r : Resource) → path ≡ codes "/units/" ++ q → sheet_of q ≡ Some r → Names path r
+sheet_names : (path q : List ℕ) (r : Resource) → path ≡ codes "/units/" ++ q → resource_of_sheet q ≡ Some r → IsPathOf path r
 sheet_names path q r p e = by (not (is_empty (before_slash q))) (bytes_eq (from_slash q) (codes "/sheet")) refl refl e
   where
     by : (v u : Bool) → not (is_empty (before_slash q)) ≡ v → bytes_eq (from_slash q) (codes "/sheet") ≡ u
-        → cond (v && u) (Some (sheet (before_slash q))) None ≡ Some r → Names path r
+        → cond (v && u) (Some (sheet (before_slash q))) None ≡ Some r → IsPathOf path r
     by true true some ends f =
         let tail = (bytes_eq-Decides (from_slash q) (codes "/sheet")).0 ends in
-        subst (Names path) (same_some (sheet (before_slash q)) r f)
+        subst (IsPathOf path) (same_some (sheet (before_slash q)) r f)
         (p ∙ ap (λ x. codes "/units/" ++ x) (whole q ∙ ap (λ x. before_slash q ++ x) tail), rw (some, none_before q) refl)
     by true false some ends f = cc
     by false u some ends f = cc
 
 kind_names : (k : Kind) (path rest : List ℕ) (r : Resource) → path ≡ list_path k ++ rest
-    → ((q : List ℕ) → rest ≡ 47 ∷ q → other_of k q ≡ Some r → Names path r) → under k rest ≡ Some r → Names path r
-kind_names k path [] r p others e = subst (Names path) (same_some (list k) r e) (p ∙ append-nil (list_path k))
-kind_names k path (b ∷ q) r p others e = by (47 == b) (is_part q) refl refl e
+    → ((q : List ℕ) → rest ≡ 47 ∷ q → resource_of_suffix k q ≡ Some r → IsPathOf path r) → resource_below_list k rest ≡ Some r → IsPathOf path r
+kind_names k path [] r p others e = subst (IsPathOf path) (same_some (list k) r e) (p ∙ append-nil (list_path k))
+kind_names k path (b ∷ q) r p others e = by (47 == b) (is_segment q) refl refl e
   where
-    by : (v u : Bool) → (47 == b) ≡ v → is_part q ≡ u → cond v (cond u (Some (view k q)) (other_of k q)) None ≡ Some r → Names path r
+    by : (v u : Bool) → (47 == b) ≡ v → is_segment q ≡ u → cond v (cond u (Some (view k q)) (resource_of_suffix k q)) None ≡ Some r → IsPathOf path r
     by true true same part f =
         let s = same_byte 47 b same in
-        subst (Names path) (same_some (view k q) r f) (p ∙ ap (λ c. list_path k ++ c ∷ q) s, part)
+        subst (IsPathOf path) (same_some (view k q) r f) (p ∙ ap (λ c. list_path k ++ c ∷ q) s, part)
     by true false same part f = let s = same_byte 47 b same in others q (ap (λ c. c ∷ q) s) f
     by false u same part f = cc
 
-pub found_named : (path : List ℕ) (r : Resource) → route_of path ≡ Some r → Names path r
+pub found_named : (path : List ℕ) (r : Resource) → route_of path ≡ Some r → IsPathOf path r
 found_named path r =
-    back (after (codes "/acts/") path) _ _ r (Names path r) (λ rest e. act_names path rest r (after_is (codes "/acts/") path rest e))
+    back (without_prefix (codes "/acts/") path) _ _ r (IsPathOf path r) (λ rest e. act_names path rest r (after_is (codes "/acts/") path rest e))
     (of_kind kind.Mutation (λ q e. absurd cc) _ (of_kind kind.Parcel (λ q e. absurd cc) _ (of_kind kind.Party (λ q e. absurd cc) _ (of_kind kind.Rrr (λ q e. absurd cc) _
     (of_kind kind.Source (λ q e. absurd cc) _
-    (back (after (codes "/units") path) _ None r (Names path r)
+    (back (without_prefix (codes "/units") path) _ None r (IsPathOf path r)
     (λ rest e. let p = after_is (codes "/units") path rest e in
     kind_names kind.Unit path rest r p (λ q s f. sheet_names path q r (p ∙ ap (λ x. codes "/units" ++ x) s) f))
     (λ e. absurd cc)))))))
   where
-    of_kind : (k : Kind) → ((q : List ℕ) → other_of k q ≡ Some r → Names path r) → (y : Option Resource) → (y ≡ Some r → Names path r)
-        → where_after (after (list_path k) path) (under k) y ≡ Some r → Names path r
-    of_kind k none y other = back (after (list_path k) path) (under k) y r (Names path r) (λ rest e. kind_names k path rest r (after_is (list_path k) path rest e) (λ q s f. none q f)) other
+    of_kind : (k : Kind) → ((q : List ℕ) → resource_of_suffix k q ≡ Some r → IsPathOf path r) → (y : Option Resource) → (y ≡ Some r → IsPathOf path r)
+        → if_matched (without_prefix (list_path k) path) (resource_below_list k) y ≡ Some r → IsPathOf path r
+    of_kind k none y other = back (without_prefix (list_path k) path) (resource_below_list k) y r (IsPathOf path r) (λ rest e. kind_names k path rest r (after_is (list_path k) path rest e) (λ q s f. none q f)) other
 
-pub one_name : (path : List ℕ) (a b : Resource) → Names path a → Names path b → a ≡ b
+pub one_name : (path : List ℕ) (a b : Resource) → IsPathOf path a → IsPathOf path b → a ≡ b
 one_name path a b h g = same_some a b (sym (named_found path a h) ∙ named_found path b g)

@@ -5,17 +5,17 @@ use Rattle.httparse.specs.Spans.{IsWithin, IsHeaderWithin, IsRequestWithin, IsRe
 use Rattle.httparse.specs.declared.spans.Span.{Span}
 use Rattle.httparse.specs.declared.spans.HeaderSpan.{HeaderSpan}
 use Rattle.httparse.specs.declared.spans.RequestSpans.{RequestSpans}
-use Rattle.land_wire.specs.declared.framing.head.Look.TheVariants as look
-use Rattle.land_wire.specs.Framing.Stream.{IsLook}
+use Rattle.land_wire.specs.declared.framing.head.HeadParse.TheVariants as look
+use Rattle.land_wire.specs.Framing.Stream.{IsHeadParse}
 use Rattle.std.specs.List.{flat_map, AllByRecursion}
 use Rattle.std.specs.Io.KnownBytes.{IsAtEnd, prepend_known}
 use Rattle.std.proofs.lemmas.List.Elements.{recursion_from_All}
 use Rattle.std.proofs.lemmas.List.{take-append-drop, take-append-le, take-take, take_all}
 use Rattle.httparse.specs.Grammar.{Field, IsField, LineEnd, crlf, lf, print_end, print_field, RequestHead, IsRequestHead, print_request, ReadsRequest}
 use Rattle.httparse.proofs.GrammarLemmas.{ReadsRequest-append}
-use Rattle.land_wire.specs.Framing.Stream.{field_room, window, IsOpen, IsNever, IsFault, IsHeadIn}
+use Rattle.land_wire.specs.Framing.Stream.{field_room, window, IsPartialHead, IsInvalidHead, IsHeadFault, IsHeadIn}
 use Rattle.land_wire.proofs.TargetLemmas.{never_goes_on}
-use Rattle.land_wire.specs.declared.framing.head.Found.TheVariants as found
+use Rattle.land_wire.specs.declared.framing.head.HeadResult.TheVariants as found
 use Rattle.land_wire.specs.declared.framing.frame_fault.FrameFault.TheVariants as fault
 
 pub at_any : (items : List ℕ) (known : Option (List ℕ)) (P : List ℕ → Type 0)
@@ -79,7 +79,7 @@ at_front front more headers spans h ok at =
     }
 
 pub head_in : (items : List ℕ) (e : ℕ) (headers : List HeaderSpan) (spans : RequestSpans) → e ≤ 8192
-    → IsLook (take e items) headers (look.Whole spans) → IsHeadIn items headers (found.Whole spans)
+    → IsHeadParse (take e items) headers (look.Whole spans) → IsHeadIn items headers (found.Whole spans)
 head_in items e headers spans small ok =
     let is = take-append-drop e items in
     let fits = ok.0.section.len_fits in
@@ -99,10 +99,10 @@ window_goes_on items rest e small inside =
     let same : take e (window (items ++ rest)) ≡ take e items = take-take e 8192 (items ++ rest) small ∙ take-append-le e items rest inside in
     sym (take-append-drop e (window (items ++ rest))) ∙ ap (λ (t : List ℕ). t ++ drop e (window (items ++ rest))) same
 
-pub never_later : (items rest : List ℕ) (e : ℕ) → e ≤ 8192 → e ≤ length items → IsNever (take e items)
-    → IsNever (window (items ++ rest))
+pub never_later : (items rest : List ℕ) (e : ℕ) → e ≤ 8192 → e ≤ length items → IsInvalidHead (take e items)
+    → IsInvalidHead (window (items ++ rest))
 never_later items rest e small inside never =
-    subst IsNever (sym (window_goes_on items rest e small inside))
+    subst IsInvalidHead (sym (window_goes_on items rest e small inside))
     (never_goes_on (take e items) (drop e (window (items ++ rest))) never)
 
 pub window_full : (items rest : List ℕ) → 8192 ≤ length items → window (items ++ rest) ≡ take 8192 items
@@ -128,14 +128,14 @@ pub no_overflow : (w front rest : List ℕ) (h : RequestHead) (room : ℕ) → w
 no_overflow w front rest h room e small reads big over =
     omega (arith, few_fields h reads.0, simp length-append at (ap length e), simp length-append at (ap length reads.1))
 
-pub head_long : (items rest : List ℕ) → 8192 ≤ length items → IsOpen (take 8192 items)
-    → IsFault (items ++ rest) fault.HeadLong
+pub head_long : (items rest : List ℕ) → 8192 ≤ length items → IsPartialHead (take 8192 items)
+    → IsHeadFault (items ++ rest) fault.HeadLong
 head_long items rest full begun =
     let same = window_full items rest full in
     (rw same begun, simp length-append (omega arith))
 
 pub cut_short : (items new piece : List ℕ) (e n : ℕ) → e ≡ length items → length items < 8192 → new ≡ items ++ piece
-    → length piece ≡ n → n ≡ 0 → IsOpen (take e items) → IsFault new fault.Cut
+    → length piece ≡ n → n ≡ 0 → IsPartialHead (take e items) → IsHeadFault new fault.Cut
 cut_short items new [] e n is small grown none none_read begun =
     let same : new ≡ items = grown ∙ append-nil items in
     let whole : take 8192 items ≡ take e items = take_all 8192 items (omega arith) ∙ sym (take_all e items (omega arith)) in

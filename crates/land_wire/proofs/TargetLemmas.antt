@@ -7,36 +7,36 @@ use Rattle.std.proofs.lemmas.Str.{IsUtf8-from_ascii}
 use Rattle.std.proofs.lemmas.Str.Ascii.{IsAscii-cons, IsAscii-nil}
 use Rattle.httparse.proofs.GrammarLemmas.{print_request-append}
 use Rattle.httparse.specs.Grammar.{is_token_byte, is_uri_byte, AllPass, IsToken, LineEnd, crlf, lf, print_end, print_blank, print_version, print_section, RequestHead, ReadsRequest, HasNoRequest, NeverHasRequest, EndsInTarget}
-use Rattle.land_wire.specs.Framing.Stream.{IsOpen, IsNever}
-use Rattle.land_wire.specs.Framing.Target.{place_after}
-use Rattle.land_wire.specs.declared.framing.target.Place.{Place}
-use Rattle.land_wire.specs.declared.framing.target.Place.TheVariants as place
+use Rattle.land_wire.specs.Framing.Stream.{IsPartialHead, IsInvalidHead}
+use Rattle.land_wire.specs.Framing.Target.{scan_state_after}
+use Rattle.land_wire.specs.declared.framing.target.ScanState.{ScanState}
+use Rattle.land_wire.specs.declared.framing.target.ScanState.TheVariants as place
 
-elsewhere : (bytes : List ℕ) → place_after place.Elsewhere bytes ≡ place.Target → ⊥
+elsewhere : (bytes : List ℕ) → scan_state_after place.Elsewhere bytes ≡ place.Target → ⊥
 elsewhere [] e = cc
 elsewhere (b ∷ bytes) e = elsewhere bytes e
 
-target_by : (c : Bool) (bytes : List ℕ) → place_after (cond c place.Target place.Elsewhere) bytes ≡ place.Target
-    → (c ≡ true) × (place_after place.Target bytes ≡ place.Target)
+target_by : (c : Bool) (bytes : List ℕ) → scan_state_after (cond c place.Target place.Elsewhere) bytes ≡ place.Target
+    → (c ≡ true) × (scan_state_after place.Target bytes ≡ place.Target)
 target_by true bytes e = (refl, e)
 target_by false bytes e = absurd (elsewhere bytes e)
 
-return_by : (c : Bool) (bytes : List ℕ) → place_after (cond c place.Blank place.Elsewhere) bytes ≡ place.Target
-    → (c ≡ true) × (place_after place.Blank bytes ≡ place.Target)
+return_by : (c : Bool) (bytes : List ℕ) → scan_state_after (cond c place.Blank place.Elsewhere) bytes ≡ place.Target
+    → (c ≡ true) × (scan_state_after place.Blank bytes ≡ place.Target)
 return_by true bytes e = (refl, e)
 return_by false bytes e = absurd (elsewhere bytes e)
 
 method_by : (c d : Bool) (bytes : List ℕ)
-    → place_after (cond c place.Target (cond d place.Method place.Elsewhere)) bytes ≡ place.Target
-    → ((c ≡ true) × (place_after place.Target bytes ≡ place.Target)) ⊎ ((d ≡ true) × (place_after place.Method bytes ≡ place.Target))
+    → scan_state_after (cond c place.Target (cond d place.Method place.Elsewhere)) bytes ≡ place.Target
+    → ((c ≡ true) × (scan_state_after place.Target bytes ≡ place.Target)) ⊎ ((d ≡ true) × (scan_state_after place.Method bytes ≡ place.Target))
 method_by true d bytes e = inl (refl, e)
 method_by false true bytes e = inr (refl, e)
 method_by false false bytes e = absurd (elsewhere bytes e)
 
 blank_by : (c d t : Bool) (bytes : List ℕ)
-    → place_after (cond c place.Return (cond d place.Blank (cond t place.Method place.Elsewhere))) bytes ≡ place.Target
-    → ((c ≡ true) × (place_after place.Return bytes ≡ place.Target))
-    ⊎ (((d ≡ true) × (place_after place.Blank bytes ≡ place.Target)) ⊎ ((t ≡ true) × (place_after place.Method bytes ≡ place.Target)))
+    → scan_state_after (cond c place.Return (cond d place.Blank (cond t place.Method place.Elsewhere))) bytes ≡ place.Target
+    → ((c ≡ true) × (scan_state_after place.Return bytes ≡ place.Target))
+    ⊎ (((d ≡ true) × (scan_state_after place.Blank bytes ≡ place.Target)) ⊎ ((t ≡ true) × (scan_state_after place.Method bytes ≡ place.Target)))
 blank_by true d t bytes e = inl (refl, e)
 blank_by false true t bytes e = inr (inl (refl, e))
 blank_by false false true bytes e = inr (inr (refl, e))
@@ -47,14 +47,14 @@ abbrev MethodThen : List ℕ → Type 0
 MethodThen bytes = (m : List ℕ) × (u : List ℕ) × AllPass is_token_byte m × AllPass is_uri_byte u × (bytes ≡ m ++ 32 ∷ u)
 
 -- the bytes that lead from a scan state to a target
-abbrev Leads : Place → List ℕ → Type 0
+abbrev Leads : ScanState → List ℕ → Type 0
 Leads place.Blank bytes = EndsInTarget bytes
 Leads place.Return bytes = (rest : List ℕ) × (bytes ≡ 10 ∷ rest) × EndsInTarget rest
 Leads place.Method bytes = MethodThen bytes
 Leads place.Target bytes = AllPass is_uri_byte bytes
 Leads place.Elsewhere bytes = ⊥
 
-pub leads : (p : Place) (bytes : List ℕ) → place_after p bytes ≡ place.Target → Leads p bytes
+pub leads : (p : ScanState) (bytes : List ℕ) → scan_state_after p bytes ≡ place.Target → Leads p bytes
 leads place.Blank [] e = absurd (cc)
 leads place.Return [] e = absurd (cc)
 leads place.Method [] e = absurd (cc)
@@ -102,27 +102,27 @@ no_feed : is_token_byte 10 ≡ false
 unfolding is_token_byte
 no_feed = refl
 
-to_target : (u : List ℕ) → AllPass is_uri_byte u → place_after place.Target u ≡ place.Target
+to_target : (u : List ℕ) → AllPass is_uri_byte u → scan_state_after place.Target u ≡ place.Target
 to_target [] all = refl
 to_target (b ∷ u) all =
     let passes = All-head (λ v. is_uri_byte v ≡ true) b u all in
-    subst (λ (c : Bool). place_after (cond c place.Target place.Elsewhere) u ≡ place.Target) (sym passes)
+    subst (λ (c : Bool). scan_state_after (cond c place.Target place.Elsewhere) u ≡ place.Target) (sym passes)
     (to_target u (All-tail (λ v. is_uri_byte v ≡ true) b u all))
 
-method_step : (c d : Bool) (bytes : List ℕ) → c ≡ false → d ≡ true → place_after place.Method bytes ≡ place.Target
-    → place_after (cond c place.Target (cond d place.Method place.Elsewhere)) bytes ≡ place.Target
+method_step : (c d : Bool) (bytes : List ℕ) → c ≡ false → d ≡ true → scan_state_after place.Method bytes ≡ place.Target
+    → scan_state_after (cond c place.Target (cond d place.Method place.Elsewhere)) bytes ≡ place.Target
 method_step true d bytes e f is = absurd (cc)
 method_step false true bytes e f is = is
 method_step false false bytes e f is = absurd (cc)
 
-blank_step : (c d t : Bool) (bytes : List ℕ) → c ≡ false → d ≡ false → t ≡ true → place_after place.Method bytes ≡ place.Target
-    → place_after (cond c place.Return (cond d place.Blank (cond t place.Method place.Elsewhere))) bytes ≡ place.Target
+blank_step : (c d t : Bool) (bytes : List ℕ) → c ≡ false → d ≡ false → t ≡ true → scan_state_after place.Method bytes ≡ place.Target
+    → scan_state_after (cond c place.Return (cond d place.Blank (cond t place.Method place.Elsewhere))) bytes ≡ place.Target
 blank_step true d t bytes e f g is = absurd (cc)
 blank_step false true t bytes e f g is = absurd (cc)
 blank_step false false true bytes e f g is = is
 blank_step false false false bytes e f g is = absurd (cc)
 
-to_method : (m u : List ℕ) → AllPass is_token_byte m → AllPass is_uri_byte u → place_after place.Method (m ++ 32 ∷ u) ≡ place.Target
+to_method : (m u : List ℕ) → AllPass is_token_byte m → AllPass is_uri_byte u → scan_state_after place.Method (m ++ 32 ∷ u) ≡ place.Target
 to_method [] u token all = to_target u all
 to_method (b ∷ m) u token all =
     let passes = All-head (λ v. is_token_byte v ≡ true) b m token in
@@ -130,7 +130,7 @@ to_method (b ∷ m) u token all =
     (to_method m u (All-tail (λ v. is_token_byte v ≡ true) b m token) all)
 
 to_blank : (es : List LineEnd) (m u : List ℕ) → IsToken m → AllPass is_uri_byte u
-    → place_after place.Blank (print_blank es ++ m ++ 32 ∷ u) ≡ place.Target
+    → scan_state_after place.Blank (print_blank es ++ m ++ 32 ∷ u) ≡ place.Target
 to_blank [] [] u token all = absurd (omega (arith, token.0))
 to_blank [] (b ∷ m) u token all =
     let passes = All-head (λ v. is_token_byte v ≡ true) b m token.1 in
@@ -139,10 +139,10 @@ to_blank [] (b ∷ m) u token all =
 to_blank (crlf ∷ es) m u token all = to_blank es m u token all
 to_blank (lf ∷ es) m u token all = to_blank es m u token all
 
-pub place_is_target : (bytes : List ℕ) → (place_after place.Blank bytes ≡ place.Target) ↔ EndsInTarget bytes
+pub place_is_target : (bytes : List ℕ) → (scan_state_after place.Blank bytes ≡ place.Target) ↔ EndsInTarget bytes
 place_is_target bytes = (
   leads place.Blank bytes,
-  λ h. subst (λ (t : List ℕ). place_after place.Blank t ≡ place.Target) (sym h.5) (to_blank h.0 h.1 h.2 h.3 h.4),
+  λ h. subst (λ (t : List ℕ). scan_state_after place.Blank t ≡ place.Target) (sym h.5) (to_blank h.0 h.1 h.2 h.3 h.4),
 )
 
 -- ---- facts that hold for any continuation
@@ -195,7 +195,7 @@ some_reads blank method bytes token is = (
       ∙ append-nil _ ∙ sym (append-nil _),
 )
 
-pub stays_out : (b more : List ℕ) → IsNever b → ¬ (EndsInTarget (b ++ more))
+pub stays_out : (b more : List ℕ) → IsInvalidHead b → ¬ (EndsInTarget (b ++ more))
 stays_out b more never h =
     elim (fronts b more (front_of h.0 h.1) h.2 (h.5 ∙ sym (front_then h.0 h.1 h.2))) as (λ _. ⊥) [
       | inl k ↦ never.1 (
@@ -211,7 +211,7 @@ stays_out b more never h =
     ]
 
 -- longer bytes are not a head, and do not end in a target
-pub never_goes_on : (b more : List ℕ) → IsNever b → IsNever (b ++ more)
+pub never_goes_on : (b more : List ℕ) → IsInvalidHead b → IsInvalidHead (b ++ more)
 never_goes_on b more never = (
   λ later h rest reads. never.0 (more ++ later) h rest (subst (λ (t : List ℕ). ReadsRequest t h rest) (append_assoc b more later) reads),
   stays_out b more never,
@@ -220,12 +220,12 @@ never_goes_on b more never = (
 pub never_none : (b : List ℕ) → NeverHasRequest b → HasNoRequest b
 never_none b never h rest reads = never [] h rest (subst (λ (t : List ℕ). ReadsRequest t h rest) (sym (append-nil b)) reads)
 
-pub open_in_target : (b : List ℕ) → NeverHasRequest b → EndsInTarget b → IsOpen b
+pub open_in_target : (b : List ℕ) → NeverHasRequest b → EndsInTarget b → IsPartialHead b
 open_in_target b never ends = (never_none b never, inr ends)
 
 -- ---- each text is one of three
 
-pub open_not_never : (b : List ℕ) → IsOpen b → IsNever b → ⊥
+pub open_not_never : (b : List ℕ) → IsPartialHead b → IsInvalidHead b → ⊥
 open_not_never b begun never = elim begun.1 as (λ _. ⊥) [
   | inl h ↦ never.0 h.0 h.1 [] h.2
   | inr h ↦ never.1 h
@@ -243,5 +243,5 @@ some_request = (
   some_reads [] (65 ∷ []) (65 ∷ 32 ∷ some_tail) (omega arith, All-cons (λ v. is_token_byte v ≡ true) 65 [] letter_is_token (All-nil _)) refl,
 )
 
-pub never_some : IsNever [] → ⊥
+pub never_some : IsInvalidHead [] → ⊥
 never_some never = never.0 some_request.0 some_request.1 [] some_request.2

@@ -6,11 +6,11 @@ use Rattle.land_core.specs.declared.act.Act.TheVariants as act
 use Rattle.land_core.specs.declared.ask.Ask.{Ask}
 use Rattle.land_core.specs.declared.ask.Request.{Request}
 use Rattle.land_core.specs.declared.caller.Caller.{Caller}
-use Rattle.land_wire.specs.Acts.{act_in, act_of, lodged}
+use Rattle.land_wire.specs.Acts.{act_in, act_of, lodging_act}
 use Rattle.land_wire.specs.Laws.{ReadingsAreWellFormed}
 use Rattle.land_wire.specs.Numbers.{number_in}
 use Rattle.land_wire.specs.Queries.{no_query, at_in}
-use Rattle.land_wire.specs.Reading.{allowed, ask_of, parts_reading, reading_by, resource_at}
+use Rattle.land_wire.specs.Reading.{require_method, ask_of, parts_reading, reading_by, require_resource}
 use Rattle.land_wire.specs.Routes.{Resource, list, view, sheet, act as act_path}
 use Rattle.land_wire.specs.Routes.Targets.{path_of, query_of}
 use Rattle.land_wire.specs.declared.routes.act_word.ActWord.{ActWord}
@@ -20,7 +20,7 @@ use Rattle.land_wire_json.specs.Bodies.Laws.{BodiesAreWellFormed}
 use Rattle.land_wire_json.specs.Bodies.Mutations.{decision_of, lodging_of}
 use Rattle.land_wire_json.specs.Bodies.Parties.{enrol_of, group_of, regroup_of, grant_of, mandate_of, withdrawal_of}
 use Rattle.land_wire_json.specs.Bodies.Units.{unit_of, burden_of, lift_of}
-use Rattle.land_wire_json.specs.Bodies.WireFaults.{◌>>=◌, Gives}
+use Rattle.land_wire_json.specs.Bodies.WireFaults.{◌>>=◌, Returns}
 use Rattle.land_wire_json.specs.declared.bodies.content_kind.ContentKind.{ContentKind}
 use Rattle.land_wire_json.specs.declared.bodies.content_kind.ContentKind.TheVariants as content
 use Rattle.land_wire_json.specs.declared.bodies.wire_fault.WireFault.{WireFault}
@@ -57,8 +57,8 @@ MayBeAsked asked = is_well_formed_ask asked ≡ true
 abbrev MayBeRead : Request → Type 0
 MayBeRead request = is_well_formed_request request ≡ true
 
-lodged-well_formed : BodiesAreWellFormed → (kind : ContentKind) (value : Data) → Ensures MayBeDone (lodged kind value)
-lodged-well_formed law kind value = wrapped act.Lodge (lodging_of kind value) (law.lodge kind value)
+lodging_act-well_formed : BodiesAreWellFormed → (kind : ContentKind) (value : Data) → Ensures MayBeDone (lodging_act kind value)
+lodging_act-well_formed law kind value = wrapped act.Lodge (lodging_of kind value) (law.lodge kind value)
 
 act_of-well_formed : BodiesAreWellFormed → (which : ActWord) (value : Data) → Ensures MayBeDone (act_of which value)
 act_of-well_formed law word.Enrol value = wrapped act.Enrol (enrol_of value) (law.enrol value)
@@ -71,11 +71,11 @@ act_of-well_formed law word.Withdraw value = wrapped act.Withdraw (withdrawal_of
 act_of-well_formed law word.Register value = wrapped act.Register (unit_of value) (law.register value)
 act_of-well_formed law word.Burden value = wrapped act.Burden (burden_of value) (law.burden value)
 act_of-well_formed law word.Lift value = wrapped act.Lift (lift_of value) (law.lift value)
-act_of-well_formed law word.Transfer value = lodged-well_formed law content.Transfer value
-act_of-well_formed law word.Subdivision value = lodged-well_formed law content.Subdivision value
-act_of-well_formed law word.Merger value = lodged-well_formed law content.Merger value
-act_of-well_formed law word.Mortgage value = lodged-well_formed law content.Mortgage value
-act_of-well_formed law word.Discharge value = lodged-well_formed law content.Discharge value
+act_of-well_formed law word.Transfer value = lodging_act-well_formed law content.Transfer value
+act_of-well_formed law word.Subdivision value = lodging_act-well_formed law content.Subdivision value
+act_of-well_formed law word.Merger value = lodging_act-well_formed law content.Merger value
+act_of-well_formed law word.Mortgage value = lodging_act-well_formed law content.Mortgage value
+act_of-well_formed law word.Discharge value = lodging_act-well_formed law content.Discharge value
 act_of-well_formed law word.Approve value = wrapped act.Approve (decision_of value) (law.approve value)
 act_of-well_formed law word.Refuse value = wrapped act.Refuse (decision_of value) (law.refuse value)
 
@@ -93,8 +93,8 @@ read-well_formed : BodiesAreWellFormed → (method target : List ℕ) (asking : 
     → Ensures MayBeRead (reading_by method target asking body)
 unfolding parts_reading
 read-well_formed law method target asking body =
-    bind (resource_at (path_of target)) (λ resource.
-    bind (allowed resource method) (λ permit.
+    bind (require_resource (path_of target)) (λ resource.
+    bind (require_method resource method) (λ permit.
     bind asking (λ caller.
     bind_with (ask_of resource (query_of target) body) (ask_of-well_formed law resource (query_of target) body) (λ asked h. record { if_ok = h }))))
 
@@ -102,6 +102,6 @@ pub reading-well_formed : BodiesAreWellFormed → ReadingsAreWellFormed
 reading-well_formed law method target asking body = (read-well_formed law method target asking body).if_ok
 
 -- a property of the wanted value is a property of an equal value
-pub of_given : (P : Request → Type 0) (found wanted : Result Request WireFault) → Gives (λ it. it) found wanted → IfOk wanted P → IfOk found P
+pub of_given : (P : Request → Type 0) (found wanted : Result Request WireFault) → Returns (λ it. it) found wanted → IfOk wanted P → IfOk found P
 of_given P (Ok it) wanted is h = rw is at h
 of_given P (Err fault) wanted is h = tt

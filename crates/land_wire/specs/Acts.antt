@@ -16,8 +16,8 @@ use Rattle.land_wire_json.specs.declared.bodies.wire_fault.WireFault.{WireFault}
 use Rattle.serde_json.specs.Data.{Data}
 
 -- the lodging of a mutation
-abbrev pub lodged : ContentKind → Data → Result Act WireFault
-lodged kind value = lodging_of kind value >>= λ it. Ok (act.Lodge it)
+abbrev pub lodging_act : ContentKind → Data → Result Act WireFault
+lodging_act kind value = lodging_of kind value >>= λ it. Ok (act.Lodge it)
 
 -- the act of a word: five words lodge a mutation each, and each other word has its own act
 abbrev pub act_of : ActWord → Data → Result Act WireFault
@@ -31,11 +31,11 @@ act_of word.Withdraw value = withdrawal_of value >>= λ it. Ok (act.Withdraw it)
 act_of word.Register value = unit_of value >>= λ it. Ok (act.Register it)
 act_of word.Burden value = burden_of value >>= λ it. Ok (act.Burden it)
 act_of word.Lift value = lift_of value >>= λ it. Ok (act.Lift it)
-act_of word.Transfer value = lodged content.Transfer value
-act_of word.Subdivision value = lodged content.Subdivision value
-act_of word.Merger value = lodged content.Merger value
-act_of word.Mortgage value = lodged content.Mortgage value
-act_of word.Discharge value = lodged content.Discharge value
+act_of word.Transfer value = lodging_act content.Transfer value
+act_of word.Subdivision value = lodging_act content.Subdivision value
+act_of word.Merger value = lodging_act content.Merger value
+act_of word.Mortgage value = lodging_act content.Mortgage value
+act_of word.Discharge value = lodging_act content.Discharge value
 act_of word.Approve value = decision_of value >>= λ it. Ok (act.Approve it)
 act_of word.Refuse value = decision_of value >>= λ it. Ok (act.Refuse it)
 

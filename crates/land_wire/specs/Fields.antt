@@ -17,8 +17,8 @@ use Rattle.land_wire_json.specs.declared.bodies.wire_fault.WireFault.{WireFault}
 use Rattle.land_wire_json.specs.declared.bodies.wire_fault.WireFault.TheVariants as fault
 
 -- a name and a value that a header map accepts
-abbrev pub IsTaken : (List ℕ × List ℕ) → Type 0
-IsTaken field = IsFieldName field.0 × IsFieldValue field.1
+abbrev pub IsHeaderField : (List ℕ × List ℕ) → Type 0
+IsHeaderField field = IsFieldName field.0 × IsFieldValue field.1
 
 -- appends a field: its name in lower case, its value after those of that name
 abbrev pub with_field : Entries FieldValue → (List ℕ × List ℕ) → Entries FieldValue

@@ -16,7 +16,7 @@ use Rattle.land_keep.specs.declared.reply.Reply.TheVariants as reply
 use Rattle.land_wire.specs.Fields.{field_map, values_named}
 use Rattle.land_wire.specs.Queries.{at_in}
 use Rattle.land_wire.specs.Reading.{reading, reading_by}
-use Rattle.land_wire.specs.Replies.{reply_text, short_text, numbers_text, done_text, shown_text}
+use Rattle.land_wire.specs.Replies.{reply_text, short_text, numbers_text, done_text, object_reply_text}
 use Rattle.land_wire.specs.ReplyLimits.{IsReplyWithin}
 use Rattle.land_wire_json.specs.Texts.Objects.{object_text}
 use Rattle.land_wire_json.specs.declared.bodies.wire_fault.WireFault.{WireFault}
@@ -28,49 +28,49 @@ ReadingsAreWellFormed =
     → IfOk (reading_by method target asking body) (λ request. is_well_formed_request request ≡ true)
 
 -- the body of a GET is ignored
-abbrev pub BodiesOfReadsDoNotCount : Type 0
-BodiesOfReadsDoNotCount =
+abbrev pub BodiesOfReadsAreIgnored : Type 0
+BodiesOfReadsAreIgnored =
     (target : List ℕ) (fields : Entries FieldValue) (body other : List ℕ)
     → reading (codes "GET") target fields body ≡ reading (codes "GET") target fields other
 
 -- the ask requests an act
-abbrev pub is_done : Ask → Bool
-is_done (ask.View kind number at) = false
-is_done (ask.List kind at) = false
-is_done (ask.Sheet unit at) = false
-is_done (ask.Do wanted) = true
+abbrev pub requests_act : Ask → Bool
+requests_act (ask.View kind number at) = false
+requests_act (ask.List kind at) = false
+requests_act (ask.Sheet unit at) = false
+requests_act (ask.Do wanted) = true
 
 -- a request with GET does not request an act
 abbrev pub GetsDoNothing : Type 0
 GetsDoNothing =
     (target : List ℕ) (fields : Entries FieldValue) (body : List ℕ)
-    → IfOk (reading (codes "GET") target fields body) (λ request. is_done request.ask ≡ false)
+    → IfOk (reading (codes "GET") target fields body) (λ request. requests_act request.ask ≡ false)
 
 -- each other method that is accepted is POST, and requests an act
-abbrev pub OtherMethodsAskForActs : Type 0
-OtherMethodsAskForActs =
+abbrev pub OtherMethodsRequestActs : Type 0
+OtherMethodsRequestActs =
     (method target : List ℕ) (fields : Entries FieldValue) (body : List ℕ)
     → bytes_eq method (codes "GET") ≡ false
     → IfOk (reading method target fields body)
-    (λ request. (is_done request.ask ≡ true) × (bytes_eq method (codes "POST") ≡ true))
+    (λ request. (requests_act request.ask ≡ true) × (bytes_eq method (codes "POST") ≡ true))
 
 -- the moment of a query, if there is one, is from 0 to the last moment
-abbrev pub IsStated : Option ℤ → Type 0
-IsStated None = Unit {0}
-IsStated (Some moment) = IsMoment moment
+abbrev pub IsExplicitMoment : Option ℤ → Type 0
+IsExplicitMoment None = Unit {0}
+IsExplicitMoment (Some moment) = IsMoment moment
 
-abbrev pub StatedMomentsAreMoments : Type 0
-StatedMomentsAreMoments = (query : List ℕ) → IfOk (at_in query) IsStated
+abbrev pub QueryMomentsAreValid : Type 0
+QueryMomentsAreValid = (query : List ℕ) → IfOk (at_in query) IsExplicitMoment
 
 -- likewise the moment of a request
-abbrev pub AskedMomentsAreMoments : Type 0
-AskedMomentsAreMoments =
+abbrev pub RequestMomentsAreValid : Type 0
+RequestMomentsAreValid =
     (method target : List ℕ) (asking : Result Caller WireFault) (body : List ℕ)
-    → IfOk (reading_by method target asking body) (λ request. IsStated (at_of request.ask))
+    → IfOk (reading_by method target asking body) (λ request. IsExplicitMoment (at_of request.ask))
 
 -- a header map has for a name the values of the fields with that name, compared without case
-abbrev pub NamesAreInAnyCase : Type 0
-NamesAreInAnyCase =
+abbrev pub FieldNamesIgnoreCase : Type 0
+FieldNamesIgnoreCase =
     (fields : List (List ℕ × List ℕ)) (name : List ℕ)
     → get_all (field_map fields) (lowercase name) ≡ map plain_value (values_named name fields)
 
@@ -93,9 +93,9 @@ DoneTexts =
     ≡ Some (done_text made n stamp)
 
 -- the text of an object's reply contains the object's text
-abbrev pub ShownTexts : Type 0
-ShownTexts = (it : Object) → reply_text (reply.Object it) ≡ Some (shown_text (object_text it))
+abbrev pub ObjectTexts : Type 0
+ObjectTexts = (it : Object) → reply_text (reply.Object it) ≡ Some (object_reply_text (object_text it))
 
 -- a text determines its reply, if the reply is within its limits
-abbrev pub RepliesAreTold : Type 0
-RepliesAreTold = (a b : Reply) → IsReplyWithin a → IsReplyWithin b → reply_text a ≡ reply_text b → a ≡ b
+abbrev pub TextsDetermineReplies : Type 0
+TextsDetermineReplies = (a b : Reply) → IsReplyWithin a → IsReplyWithin b → reply_text a ≡ reply_text b → a ≡ b

@@ -12,12 +12,12 @@ no_query [] = Ok tt
 no_query (byte ∷ bytes) = Err fault.Field
 
 -- the query `at=` and a moment; fault 132 if the rest is not a moment, 131 for any other query
-abbrev pub stated : List ℕ → Result (Option ℤ) WireFault
-stated query =
+abbrev pub moment_parameter : List ℕ → Result (Option ℤ) WireFault
+moment_parameter query =
     if bytes_eq (take 3 query) (codes "at=") then (moment_in (drop 3 query) >>= λ moment. Ok (Some moment))
     else Err fault.Field
 
 -- the optional time of a read; without a query it is now
 abbrev pub at_in : List ℕ → Result (Option ℤ) WireFault
 at_in [] = Ok None
-at_in (byte ∷ bytes) = stated (byte ∷ bytes)
+at_in (byte ∷ bytes) = moment_parameter (byte ∷ bytes)

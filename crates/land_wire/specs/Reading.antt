@@ -17,12 +17,12 @@ use Rattle.land_wire_json.specs.declared.bodies.wire_fault.WireFault.{WireFault}
 use Rattle.land_wire_json.specs.declared.bodies.wire_fault.WireFault.TheVariants as fault
 
 -- the resource of a path; fault 136 if the path has none
-abbrev pub resource_at : (path : List ℕ) → Result Resource WireFault
-resource_at path = or_fault (route_of path) fault.NoRoute
+abbrev pub require_resource : (path : List ℕ) → Result Resource WireFault
+require_resource path = or_fault (route_of path) fault.NoRoute
 
 -- fault 137 if the method is not the resource's
-abbrev pub allowed : Resource → (method : List ℕ) → Result ⊤ WireFault
-allowed named method = if allows named method then Ok tt else Err fault.Method
+abbrev pub require_method : Resource → (method : List ℕ) → Result ⊤ WireFault
+require_method named method = if allows named method then Ok tt else Err fault.Method
 
 -- the ask: the number in the path, then the query, then the body, which only acts have
 abbrev pub ask_of : Resource → (query body : List ℕ) → Result Ask WireFault
@@ -46,8 +46,8 @@ ask_of (act word) query body = do
 unfoldable pub parts_reading : (method path query : List ℕ) → Result Caller WireFault → (body : List ℕ)
     → Result Request WireFault
 parts_reading method path query asking body = do
-  resource ← resource_at path
-  permit ← allowed resource method
+  resource ← require_resource path
+  permit ← require_method resource method
   caller ← asking
   asked ← ask_of resource query body
   Ok (record { caller = caller; ask = asked })

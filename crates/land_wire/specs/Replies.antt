@@ -60,5 +60,5 @@ done_text made n stamp =
     ++ (codes ",\"stamp\":" ++ (decimal stamp ++ codes "}")))))
 
 -- an object with the text of an object
-abbrev pub shown_text : List ℕ → List ℕ
-shown_text text = codes "{\"object\":" ++ (text ++ codes "}")
+abbrev pub object_reply_text : List ℕ → List ℕ
+object_reply_text text = codes "{\"object\":" ++ (text ++ codes "}")

@@ -39,21 +39,21 @@ has_slash [] = false
 has_slash (b ∷ bytes) = if b == 47 then true else has_slash bytes
 
 -- a segment is not empty and has no `/`
-abbrev pub is_part : List ℕ → Bool
-is_part bytes = not (is_empty bytes) && not (has_slash bytes)
+abbrev pub is_segment : List ℕ → Bool
+is_segment bytes = not (is_empty bytes) && not (has_slash bytes)
 
 -- the rule: a path identifies a resource if it is the resource's fixed words with its segment between them
-abbrev pub Names : List ℕ → Resource → Type 0
-Names path (list k) = path ≡ list_path k
-Names path (view k part) = (path ≡ list_path k ++ 47 ∷ part) × (is_part part ≡ true)
-Names path (sheet part) = (path ≡ codes "/units/" ++ (part ++ codes "/sheet")) × (is_part part ≡ true)
-Names path (act word) = path ≡ codes "/acts/" ++ act_word word
+abbrev pub IsPathOf : List ℕ → Resource → Type 0
+IsPathOf path (list k) = path ≡ list_path k
+IsPathOf path (view k part) = (path ≡ list_path k ++ 47 ∷ part) × (is_segment part ≡ true)
+IsPathOf path (sheet part) = (path ≡ codes "/units/" ++ (part ++ codes "/sheet")) × (is_segment part ≡ true)
+IsPathOf path (act word) = path ≡ codes "/acts/" ++ act_word word
 
 -- the rest of a path after a prefix, if the path begins with it
-abbrev pub after : List ℕ → List ℕ → Option (List ℕ)
-after [] path = Some path
-after (x ∷ front) [] = None
-after (x ∷ front) (b ∷ path) = if x == b then after front path else None
+abbrev pub without_prefix : List ℕ → List ℕ → Option (List ℕ)
+without_prefix [] path = Some path
+without_prefix (x ∷ front) [] = None
+without_prefix (x ∷ front) (b ∷ path) = if x == b then without_prefix front path else None
 
 -- the bytes before the first `/`, and the bytes from it on
 abbrev pub before_slash : List ℕ → List ℕ
@@ -65,49 +65,49 @@ from_slash [] = []
 from_slash (b ∷ path) = if b == 47 then b ∷ path else from_slash path
 
 -- continues with the rest if the prefix matched, and otherwise takes the other result
-abbrev pub where_after : {A : Type 0} → Option (List ℕ) → (List ℕ → Option A) → Option A → Option A
-where_after None found other = other
-where_after (Some rest) found other = found rest
+abbrev pub if_matched : {A : Type 0} → Option (List ℕ) → (List ℕ → Option A) → Option A → Option A
+if_matched None found other = other
+if_matched (Some rest) found other = found rest
 
 -- a title sheet, after `/units/`: a segment, and `/sheet`
-abbrev pub sheet_of : List ℕ → Option Resource
-sheet_of rest =
+abbrev pub resource_of_sheet : List ℕ → Option Resource
+resource_of_sheet rest =
     if not (is_empty (before_slash rest)) && bytes_eq (from_slash rest) (codes "/sheet")
     then Some (sheet (before_slash rest))
     else None
 
 -- only units have sheets
-abbrev pub other_of : Kind → List ℕ → Option Resource
-other_of kind.Unit rest = sheet_of rest
-other_of kind.Party rest = None
-other_of kind.Parcel rest = None
-other_of kind.Rrr rest = None
-other_of kind.Source rest = None
-other_of kind.Mutation rest = None
+abbrev pub resource_of_suffix : Kind → List ℕ → Option Resource
+resource_of_suffix kind.Unit rest = resource_of_sheet rest
+resource_of_suffix kind.Party rest = None
+resource_of_suffix kind.Parcel rest = None
+resource_of_suffix kind.Rrr rest = None
+resource_of_suffix kind.Source rest = None
+resource_of_suffix kind.Mutation rest = None
 
 -- after the path of a kind's list and a `/`: the segment of a view, or a suffix that the kind has
-abbrev pub one_of : Kind → List ℕ → Option Resource
-one_of k rest = if is_part rest then Some (view k rest) else other_of k rest
+abbrev pub resource_below_slash : Kind → List ℕ → Option Resource
+resource_below_slash k rest = if is_segment rest then Some (view k rest) else resource_of_suffix k rest
 
 -- after the path of a kind's list: the end, or a `/` and more
-abbrev pub under : Kind → List ℕ → Option Resource
-under k [] = Some (list k)
-under k (b ∷ rest) = if 47 == b then one_of k rest else None
+abbrev pub resource_below_list : Kind → List ℕ → Option Resource
+resource_below_list k [] = Some (list k)
+resource_below_list k (b ∷ rest) = if 47 == b then resource_below_slash k rest else None
 
 -- after `/acts/`: the word of an act
-abbrev pub named_act : List ℕ → Option Resource
-named_act rest = option_map act (act_of rest)
+abbrev pub resource_of_act : List ℕ → Option Resource
+resource_of_act rest = option_map act (act_of rest)
 
 -- the same rule as a function: the resource of a path, or none
 abbrev pub route_of : List ℕ → Option Resource
 route_of path =
-    where_after (after (codes "/acts/") path) named_act
-    (where_after (after (list_path kind.Mutation) path) (under kind.Mutation)
-    (where_after (after (list_path kind.Parcel) path) (under kind.Parcel)
-    (where_after (after (list_path kind.Party) path) (under kind.Party)
-    (where_after (after (list_path kind.Rrr) path) (under kind.Rrr)
-    (where_after (after (list_path kind.Source) path) (under kind.Source)
-    (where_after (after (list_path kind.Unit) path) (under kind.Unit)
+    if_matched (without_prefix (codes "/acts/") path) resource_of_act
+    (if_matched (without_prefix (list_path kind.Mutation) path) (resource_below_list kind.Mutation)
+    (if_matched (without_prefix (list_path kind.Parcel) path) (resource_below_list kind.Parcel)
+    (if_matched (without_prefix (list_path kind.Party) path) (resource_below_list kind.Party)
+    (if_matched (without_prefix (list_path kind.Rrr) path) (resource_below_list kind.Rrr)
+    (if_matched (without_prefix (list_path kind.Source) path) (resource_below_list kind.Source)
+    (if_matched (without_prefix (list_path kind.Unit) path) (resource_below_list kind.Unit)
     None))))))
 
 -- the resource of the code's route

@@ -6,9 +6,9 @@ ghost use Rattle.http_header.specs.FieldValue.{IsFieldValue};
 ghost use Rattle.http_header.specs.HeaderMap.{RefusesAppend, get_all};
 ghost use Rattle.http_header.specs.Token.{lowercase};
 ghost use Rattle.land_wire.specs.Fields.{AreWithin, caller_in, fields_at, only_value, party_in, role_in, with_field};
-ghost use Rattle.land_wire_json.specs.Bodies.WireFaults.{seen_by};
+ghost use Rattle.land_wire_json.specs.Bodies.WireFaults.{map_ok};
 
-use crate::framing::named::{Occurrence, look_up};
+use crate::framing::named::{Occurrence, find_field};
 use crate::numbers::read_number;
 use http_header::{
     HeaderMap, HeaderMapError, HeaderName, HeaderNameError, HeaderValue, HeaderValueError,
@@ -120,10 +120,10 @@ fn role_at(head: &[u8], fields: &[HeaderSpan]) -> Result<Role, WireFault>
 
 fn value_at<'h>(head: &'h [u8], fields: &[HeaderSpan], name: &str) -> Result<&'h [u8], WireFault>
     requires { AreWithin head.now fields.now }
-    ensures { seen_by (λ value. value.now) result
+    ensures { map_ok (λ value. value.now) result
         ≡ only_value (get_all (fields_at head.now fields.now) (lowercase name.now)) }
 {
-    match look_up(head, fields, name) {
+    match find_field(head, fields, name) {
         Occurrence::Once(value) => Ok(value.of(head)),
         Occurrence::Absent => Err(WireFault::Field),
         Occurrence::Repeated => Err(WireFault::Field),
@@ -131,7 +131,7 @@ fn value_at<'h>(head: &'h [u8], fields: &[HeaderSpan], name: &str) -> Result<&'h
 }
 
 fn only_value<'m>(fields: &'m HeaderMap, name: &str) -> Result<&'m [u8], WireFault>
-    ensures { seen_by (λ value. value.now) result ≡ only_value (get_all fields.now (lowercase name.now)) }
+    ensures { map_ok (λ value. value.now) result ≡ only_value (get_all fields.now (lowercase name.now)) }
 {
     let all = fields.get_all(name);
     let mut values = all.iter();

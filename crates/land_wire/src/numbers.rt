@@ -7,7 +7,7 @@ use land_wire_json::bodies::decimals::read_digits;
 use land_wire_json::bodies::wire_fault::WireFault;
 
 /// The maximum number of digits of a number or a moment.
-const MOST_DIGITS: usize = 13;
+const MAX_DIGITS: usize = 13;
 
 /// Reads the number of an object: 1 to 13 decimal digits, leading zeros allowed, of a value from 1 to
 /// 1_000_000_000. Errors: 132 for any other text.
@@ -38,7 +38,7 @@ pub fn read_moment(text: &[u8]) -> Result<i64, WireFault>
 fn read_decimal(text: &[u8]) -> Result<u64, WireFault>
     ensures { result ≡ decimal_in text.now }
 {
-    match read_digits(text, MOST_DIGITS) {
+    match read_digits(text, MAX_DIGITS) {
         Some(value) => Ok(value),
         None => Err(WireFault::Number),
     }

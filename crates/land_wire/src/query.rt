@@ -1,6 +1,6 @@
 //! Reads the queries of request targets.
 ghost use Rattle.std.specs.Prelude.{◌≡◌};
-ghost use Rattle.land_wire.specs.Queries.{at_in, no_query, stated};
+ghost use Rattle.land_wire.specs.Queries.{at_in, no_query, moment_parameter};
 
 use crate::numbers::read_moment;
 use land_wire_json::bodies::wire_fault::WireFault;
@@ -15,12 +15,12 @@ pub fn read_at(query: &[u8]) -> Result<Option<i64>, WireFault>
     if query.is_empty() {
         Ok(None)
     } else {
-        stated(query)
+        moment_parameter(query)
     }
 }
 
-fn stated(query: &[u8]) -> Result<Option<i64>, WireFault>
-    ensures { result ≡ stated query.now }
+fn moment_parameter(query: &[u8]) -> Result<Option<i64>, WireFault>
+    ensures { result ≡ moment_parameter query.now }
 {
     let (start, moment) = query.split_at(query.len().min(3));
     if is_word(start, "at=") {

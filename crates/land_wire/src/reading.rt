@@ -2,11 +2,11 @@
 ghost use Rattle.std.specs.Prelude.{◌≡◌, [], IfOk, true};
 ghost use Rattle.land_core.specs.Acts.{is_well_formed_request};
 ghost use Rattle.land_keep.specs.Machine.{at_of};
-ghost use Rattle.land_wire.specs.Laws.{IsStated};
-ghost use Rattle.land_wire.specs.Reading.{allowed, ask_of, parts_reading, reading, reading_by, resource_at};
+ghost use Rattle.land_wire.specs.Laws.{IsExplicitMoment};
+ghost use Rattle.land_wire.specs.Reading.{require_method, ask_of, parts_reading, reading, reading_by, require_resource};
 ghost use Rattle.land_wire.specs.Routes.{act, list, resource, sheet, view};
-ghost use Rattle.land_wire.specs.Routes.Table.{FindsRoutes};
-ghost use Rattle.land_wire_json.specs.Bodies.WireFaults.{Gives, seen_by};
+ghost use Rattle.land_wire.specs.Routes.Table.{RoutesCorrectly};
+ghost use Rattle.land_wire_json.specs.Bodies.WireFaults.{Returns, map_ok};
 
 use crate::act::read_act;
 use crate::fields::read_caller;
@@ -15,7 +15,7 @@ use crate::numbers::read_number;
 use crate::query::{check_no_query, read_at};
 use crate::routes::act_word::ActWord;
 use crate::routes::route::{Route, allows, find_route};
-use crate::routes::table::{Goal, routes};
+use crate::routes::table::{Endpoint, routes};
 use crate::routes::target::split_target;
 use http_header::HeaderMap;
 use land_core::ask::{Ask, Request};
@@ -33,9 +33,9 @@ pub fn read_request(
     fields: &HeaderMap,
     body: &[u8],
 ) -> Result<Request, WireFault>
-    ensures reads { Gives (λ it. it) result (reading method.now target.now fields.now body.now) }
+    ensures reads { Returns (λ it. it) result (reading method.now target.now fields.now body.now) }
     ensures well_formed { IfOk result (λ request. is_well_formed_request request ≡ true) }
-    ensures moment { IfOk result (λ request. IsStated (at_of request.ask)) }
+    ensures moment { IfOk result (λ request. IsExplicitMoment (at_of request.ask)) }
 {
     let router = routes(alloc)?;
     let caller = read_caller(fields);
@@ -50,19 +50,19 @@ pub fn read_request(
 /// if it is not JSON, then the faults of its fields); 501 if out of memory.
 pub fn read_routed(
     alloc: Global,
-    router: &Router<Goal>,
+    router: &Router<Endpoint>,
     method: &[u8],
     target: &str,
     caller: Result<Caller, WireFault>,
     body: &[u8],
 ) -> Result<Request, WireFault>
-    requires { FindsRoutes router.now }
-    ensures reads { Gives (λ it. it) result (reading_by method.now target.now caller body.now) }
+    requires { RoutesCorrectly router.now }
+    ensures reads { Returns (λ it. it) result (reading_by method.now target.now caller body.now) }
     ensures well_formed { IfOk result (λ request. is_well_formed_request request ≡ true) }
-    ensures moment { IfOk result (λ request. IsStated (at_of request.ask)) }
+    ensures moment { IfOk result (λ request. IsExplicitMoment (at_of request.ask)) }
 {
     laws::readings_are_well_formed();
-    laws::stated_moments_are_moments();
+    laws::stated_moments_are_valid();
     let (path, query) = split_target(target);
     read_parts(alloc, router, method, path, query.as_bytes(), caller, body)
 }
@@ -70,26 +70,26 @@ pub fn read_routed(
 #[tactic(auto, unfolding(crate::specs::Reading::parts_reading))]
 fn read_parts(
     alloc: Global,
-    router: &Router<Goal>,
+    router: &Router<Endpoint>,
     method: &[u8],
     path: &str,
     query: &[u8],
     caller: Result<Caller, WireFault>,
     body: &[u8],
 ) -> Result<Request, WireFault>
-    requires { FindsRoutes router.now }
-    ensures { Gives (λ it. it) result (parts_reading method.now path.now query.now caller body.now) }
+    requires { RoutesCorrectly router.now }
+    ensures { Returns (λ it. it) result (parts_reading method.now path.now query.now caller body.now) }
 {
-    let route = route_at(router, path)?;
+    let route = require_route(router, path)?;
     check_method(&route, method)?;
     let caller = caller?;
     let ask = read_ask(alloc, &route, query, body)?;
     Ok(Request { caller, ask })
 }
 
-fn route_at<'a>(router: &Router<Goal>, path: &'a str) -> Result<Route<'a>, WireFault>
-    requires { FindsRoutes router.now }
-    ensures { seen_by resource result ≡ resource_at path.now }
+fn require_route<'a>(router: &Router<Endpoint>, path: &'a str) -> Result<Route<'a>, WireFault>
+    requires { RoutesCorrectly router.now }
+    ensures { map_ok resource result ≡ require_resource path.now }
 {
     match find_route(router, path) {
         Some(route) => Ok(route),
@@ -98,7 +98,7 @@ fn route_at<'a>(router: &Router<Goal>, path: &'a str) -> Result<Route<'a>, WireF
 }
 
 fn check_method(route: &Route<'_>, method: &[u8]) -> Result<(), WireFault>
-    ensures { result ≡ allowed (resource route.now) method.now }
+    ensures { result ≡ require_method (resource route.now) method.now }
 {
     if allows(route, method) {
         Ok(())
@@ -108,13 +108,13 @@ fn check_method(route: &Route<'_>, method: &[u8]) -> Result<(), WireFault>
 }
 
 fn read_ask(alloc: Global, route: &Route<'_>, query: &[u8], body: &[u8]) -> Result<Ask, WireFault>
-    ensures { Gives (λ it. it) result (ask_of (resource route.now) query.now body.now) }
+    ensures { Returns (λ it. it) result (ask_of (resource route.now) query.now body.now) }
 {
     match route {
         Route::List(kind) => read_list(*kind, query),
         Route::View(kind, part) => read_view(*kind, part, query),
         Route::Sheet(part) => read_sheet(part, query),
-        Route::Act(word) => read_done(alloc, *word, query, body),
+        Route::Act(word) => read_act_request(alloc, *word, query, body),
     }
 }
 
@@ -141,8 +141,8 @@ fn read_sheet(part: &[u8], query: &[u8]) -> Result<Ask, WireFault>
     Ok(Ask::Sheet { unit, at })
 }
 
-fn read_done(alloc: Global, word: ActWord, query: &[u8], body: &[u8]) -> Result<Ask, WireFault>
-    ensures { Gives (λ it. it) result (ask_of (act word) query.now body.now) }
+fn read_act_request(alloc: Global, word: ActWord, query: &[u8], body: &[u8]) -> Result<Ask, WireFault>
+    ensures { Returns (λ it. it) result (ask_of (act word) query.now body.now) }
 {
     check_no_query(query)?;
     Ok(Ask::Do(read_act(alloc, word, body)?))

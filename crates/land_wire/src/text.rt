@@ -11,8 +11,8 @@ use itoa::Buffer;
 use land_core::change::Done;
 use land_core::object::Object;
 use land_keep::reply::Reply;
-use land_wire_json::texts::fields::{Field, Shown, new_text, text_of, write_object};
-use land_wire_json::texts::object::write_as_shown;
+use land_wire_json::texts::fields::{Field, MemberValue, new_writer, text_of, write_object};
+use land_wire_json::texts::object::write_object_json;
 use std::alloc::{AllocError, Global};
 
 /// Writes the text of a reply: compact JSON, keys in byte order. The reply is not a title sheet.
@@ -40,25 +40,25 @@ fn short_text(alloc: Global, word: &str, number: u64) -> Result<String, AllocErr
 }
 
 /// The length in bytes of a number of the register and a comma, at most.
-const DIGITS_ROOM: usize = 11;
+const NUMBER_CAPACITY: usize = 11;
 
 /// Writes a list of numbers.
 fn numbers_text(alloc: Global, numbers: &[u64]) -> Result<String, AllocError>
     ensures { IfOk result (λ text. string_bytes text ≡ numbers_text numbers.now) }
 {
-    let room = numbers.len().saturating_mul(DIGITS_ROOM).saturating_add(16);
+    let room = numbers.len().saturating_mul(NUMBER_CAPACITY).saturating_add(16);
     let mut text = String::with_capacity(alloc, room)?;
     text.push_str("{\"numbers\":[")?;
     if let [first, later @ ..] = numbers {
         text.push_str(Buffer::new().format(*first))?;
-        push_later(&mut text, later)?;
+        push_after_commas(&mut text, later)?;
     }
     text.push_str("]}")?;
     Ok(text)
 }
 
 /// Appends numbers, each after a comma.
-fn push_later(text: &mut String, numbers: &[u64]) -> Result<(), AllocError>
+fn push_after_commas(text: &mut String, numbers: &[u64]) -> Result<(), AllocError>
     ensures { OnOk result (string_bytes text.new
         ≡ string_bytes text.old ++ after_comma (map decimal numbers.now)) }
 {
@@ -93,10 +93,10 @@ fn object_text(alloc: Global, object: &Object) -> Result<String, AllocError>
     ensures { IfOk result (λ text. string_bytes text
         ≡ compact_text (one_member (codes "object") (object_data object.now))) }
 {
-    let mut out = new_text(alloc)?;
+    let mut out = new_writer(alloc)?;
     out.begin_object()?;
     out.key("object")?;
-    write_as_shown(alloc, &mut out, object)?;
+    write_object_json(alloc, &mut out, object)?;
     out.end_object()?;
     Ok(text_of(out))
 }
@@ -106,11 +106,11 @@ fn done_text(alloc: Global, done: &Done) -> Result<String, AllocError>
     ensures { IfOk result (λ text. string_bytes text ≡ compact_text (done_data done.now)) }
 {
     let fields = [
-        Field("made", Shown::Numbers(done.made.as_slice())),
-        Field("number", Shown::Number(done.number)),
-        Field("stamp", Shown::Moment(done.stamp)),
+        Field("made", MemberValue::Numbers(done.made.as_slice())),
+        Field("number", MemberValue::Number(done.number)),
+        Field("stamp", MemberValue::Moment(done.stamp)),
     ];
-    let mut out = new_text(alloc)?;
+    let mut out = new_writer(alloc)?;
     write_object(alloc, &mut out, &fields)?;
     Ok(text_of(out))
 }

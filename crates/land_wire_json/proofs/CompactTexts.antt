@@ -12,7 +12,7 @@ use Rattle.json.proofs.Printed.Trees.{value-json_tokens, ArePrintable-json_token
 use Rattle.json.specs.Json as json
 use Rattle.json.specs.Lex.{tokens}
 use Rattle.json.specs.Tree as tree
-use Rattle.land_wire_json.specs.Texts.Exact.{is_after, all_after, is_exact, are_exact, rise}
+use Rattle.land_wire_json.specs.Texts.Exact.{is_key_after, are_keys_after, is_exact, are_exact, has_increasing_keys}
 use Rattle.serde_json.proofs.Numbers.{number_of-decimal}
 use Rattle.serde_json.proofs.Texts.{print-outline}
 use Rattle.serde_json.specs.Data.{unsigned, negative, float, Data, null, boolean, number, string, array, object, Items, no_items, item, Members, no_members, member, put, depth, items_depth, members_depth}
@@ -39,7 +39,7 @@ joined_none (member l e rest) = ap (member l e) (joined_none rest)
 -- the key comes after each of these keys
 abbrev after_all : List ℕ → Members → Bool
 after_all k no_members = true
-after_all k (member l e ms) = is_after k l && after_all k ms
+after_all k (member l e ms) = is_key_after k l && after_all k ms
 
 -- each key comes after each of those
 abbrev come_after : Members → Members → Bool
@@ -50,17 +50,17 @@ after_none : (ms : Members) → come_after ms no_members ≡ true
 after_none no_members = refl
 after_none (member k d ms) = after_none ms
 
-after_joined : (l : List ℕ) (found : Members) (k : List ℕ) (d : Data) → after_all l found ≡ true → is_after l k ≡ true → after_all l (joined found (member k d no_members)) ≡ true
+after_joined : (l : List ℕ) (found : Members) (k : List ℕ) (d : Data) → after_all l found ≡ true → is_key_after l k ≡ true → after_all l (joined found (member k d no_members)) ≡ true
 after_joined l no_members k d e f = rw f refl
 after_joined l (member m x rest) k d e f =
-    let p = and_parts (is_after l m) (after_all l rest) e in
+    let p = and_parts (is_key_after l m) (after_all l rest) e in
     rw (p.0, after_joined l rest k d p.1 f) refl
 
-come_after_joined : (ms found : Members) (k : List ℕ) (d : Data) → come_after ms found ≡ true → all_after k ms ≡ true → come_after ms (joined found (member k d no_members)) ≡ true
+come_after_joined : (ms found : Members) (k : List ℕ) (d : Data) → come_after ms found ≡ true → are_keys_after k ms ≡ true → come_after ms (joined found (member k d no_members)) ≡ true
 come_after_joined no_members found k d e f = refl
 come_after_joined (member l x ms) found k d e f =
     let p = and_parts (after_all l found) (come_after ms found) e in
-    let q = and_parts (is_after l k) (all_after k ms) f in
+    let q = and_parts (is_key_after l k) (are_keys_after k ms) f in
     rw (after_joined l found k d p.0 q.0, come_after_joined ms found k d p.1 q.1) refl
 
 goes_last : (o : Ordering) (a b c : Members) → match_ordering o false false true ≡ true → match_ordering o a b c ≡ c
@@ -71,7 +71,7 @@ goes_last Greater a b c e = refl
 put_last : (k : List ℕ) (d : Data) (found : Members) → after_all k found ≡ true → put k d found ≡ joined found (member k d no_members)
 put_last k d no_members e = refl
 put_last k d (member l x rest) e =
-    let p = and_parts (is_after k l) (after_all k rest) e in
+    let p = and_parts (is_key_after k l) (after_all k rest) e in
     goes_last (slice_cmp nat_cmp k l) _ _ _ p.0 ∙ ap (member l x) (put_last k d rest p.1)
 
 -- ---- reading what was written
@@ -93,11 +93,11 @@ mutual
       let p = and_parts (is_exact d) (are_exact ds) e in
       rw (of_outline d p.0, of_items_outline ds p.1) refl
 
-  of_members_outline : (ms found : Members) → rise ms ≡ true → come_after ms found ≡ true → of_members (members_outline ms) found ≡ Some (joined found ms)
+  of_members_outline : (ms found : Members) → has_increasing_keys ms ≡ true → come_after ms found ≡ true → of_members (members_outline ms) found ≡ Some (joined found ms)
   of_members_outline no_members found e f = ap Some (joined_none found)
   of_members_outline (member k d ms) found e f =
-      let p = and_parts (is_exact d && all_after k ms) (rise ms) e in
-      let q = and_parts (is_exact d) (all_after k ms) p.0 in
+      let p = and_parts (is_exact d && are_keys_after k ms) (has_increasing_keys ms) e in
+      let q = and_parts (is_exact d) (are_keys_after k ms) p.0 in
       let r = and_parts (after_all k found) (come_after ms found) f in
       rw (of_outline d q.0, put_last k d found r.0)
       (of_members_outline ms (joined found (member k d no_members)) p.1 (come_after_joined ms found k d r.1 q.1)
@@ -118,11 +118,11 @@ mutual
   items_have_numbers no_items e = tt
   items_have_numbers (item d ds) e = let p = and_parts (is_exact d) (are_exact ds) e in (has_numbers d p.0, items_have_numbers ds p.1)
 
-  members_have_numbers : (ms : Members) → rise ms ≡ true → tree.MembersHaveNumbers (members_outline ms)
+  members_have_numbers : (ms : Members) → has_increasing_keys ms ≡ true → tree.MembersHaveNumbers (members_outline ms)
   members_have_numbers no_members e = tt
   members_have_numbers (member k d ms) e =
-      let p = and_parts (is_exact d && all_after k ms) (rise ms) e in
-      let q = and_parts (is_exact d) (all_after k ms) p.0 in
+      let p = and_parts (is_exact d && are_keys_after k ms) (has_increasing_keys ms) e in
+      let q = and_parts (is_exact d) (are_keys_after k ms) p.0 in
       (has_numbers d q.0, members_have_numbers ms p.1)
 
 mutual

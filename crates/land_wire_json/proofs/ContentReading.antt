@@ -4,9 +4,9 @@ use Rattle.std.proofs.lemmas.Bool.Decides.{nat_tests}
 use Rattle.std.specs.List.{AllByRecursion, list_all}
 use Rattle.std.proofs.lemmas.Bool.{and_parts, not-true}
 use Rattle.land_core.specs.Contents.{is_amount, is_currency, is_discharge, is_mortgage, is_transfer, is_well_formed_content}
-use Rattle.land_core.specs.Mergers.{are_merged, are_others, are_rising, is_merger, lists_number, rise_above}
+use Rattle.land_core.specs.Mergers.{are_merged_parcels, are_other_units, are_ascending_numbers, is_merger, lists_number, all_above}
 use Rattle.land_core.specs.Numbers.{is_number}
-use Rattle.land_core.specs.Subdivisions.{have_names, is_new_name, is_part, is_rest, is_rest_count, is_subdivision}
+use Rattle.land_core.specs.Subdivisions.{have_names, is_new_name, is_part, are_further_parts, is_further_part_count, is_subdivision}
 use Rattle.land_core.specs.Texts.{is_label}
 use Rattle.land_core.specs.Words.{act_word}
 use Rattle.land_core.specs.declared.act.NewParcel.{NewParcel}
@@ -28,9 +28,9 @@ use Rattle.land_shape.specs.Printed.{printed}
 use Rattle.land_shape.specs.declared.faults.ShapeFault.{ShapeFault}
 use Rattle.land_wire_json.proofs.ShareReading.{share_is_read}
 use Rattle.land_wire_json.specs.Bodies.Fields.{each_of, field_at, item_count, items_at, number_at, number_in, object_with, text_at}
-use Rattle.land_wire_json.specs.Bodies.Laws.{ContentsAreRead, OutlinesHaveTheirAnswers}
-use Rattle.land_wire_json.specs.Bodies.Mutations.{content_in, content_kind_of, content_of, discharge_of, merger_of, mortgage_of, part_of, rest_of, rising_at, subdivision_of, transfer_of}
-use Rattle.land_wire_json.specs.Bodies.Outlines.{answer_of, outline_in, outline_of, ring_or_fault}
+use Rattle.land_wire_json.specs.Bodies.Laws.{ContentsRoundTrip, OutlinesAreAnswered}
+use Rattle.land_wire_json.specs.Bodies.Mutations.{content_in, content_kind_of, content_of, discharge_of, merger_of, mortgage_of, part_of, rest_of, increasing_at, subdivision_of, transfer_of}
+use Rattle.land_wire_json.specs.Bodies.Outlines.{outline_answer, outline_in, outline_of, ring_or_fault}
 use Rattle.land_wire_json.specs.Bodies.Shares.{share_at}
 use Rattle.land_wire_json.specs.Bodies.Stored.{HasOutline, IsExactContent}
 use Rattle.land_wire_json.specs.Bodies.Units.{parcel_of}
@@ -57,12 +57,12 @@ record Mortgaged (it : Mortgage) : Type 0 where
 record Merged (it : Merger) : Type 0 where
   unit : is_number it.unit ≡ true
   few : nat_le (length it.others) 15 ≡ true
-  above : rise_above 0 it.others ≡ true
+  above : all_above 0 it.others ≡ true
   others : list_all is_number it.others ≡ true
   without : lists_number it.others it.unit ≡ false
   some : nat_le 2 (length it.parcels) ≡ true
   most : nat_le (length it.parcels) 16 ≡ true
-  rise : rise_above 0 it.parcels ≡ true
+  rise : all_above 0 it.parcels ≡ true
   parcels : list_all is_number it.parcels ≡ true
   label : is_label it.label ≡ true
 
@@ -70,7 +70,7 @@ record Divided (it : Subdivision) : Type 0 where
   unit : is_number it.unit ≡ true
   parcel : is_number it.parcel ≡ true
   label : is_label it.first.label ≡ true
-  count : is_rest_count (length it.rest) ≡ true
+  count : is_further_part_count (length it.rest) ≡ true
   rest : list_all is_part it.rest ≡ true
 
 mortgaged : (it : Mortgage) → is_mortgage it ≡ true → Mortgaged it
@@ -82,23 +82,23 @@ mortgaged it e =
 
 merged : (it : Merger) → is_merger it ≡ true → Merged it
 merged it e =
-    let p = and_parts (is_number it.unit && are_others it.unit it.others && are_merged it.parcels) (is_label it.label) e in
-    let q = and_parts (is_number it.unit && are_others it.unit it.others) (are_merged it.parcels) p.0 in
-    let r = and_parts (is_number it.unit) (are_others it.unit it.others) q.0 in
-    let o = and_parts (nat_le (length it.others) 15 && are_rising it.others) (not (lists_number it.others it.unit)) r.1 in
-    let s = and_parts (nat_le (length it.others) 15) (are_rising it.others) o.0 in
-    let t = and_parts (rise_above 0 it.others) (list_all is_number it.others) s.1 in
-    let u = and_parts (nat_le 2 (length it.parcels) && nat_le (length it.parcels) 16) (are_rising it.parcels) q.1 in
+    let p = and_parts (is_number it.unit && are_other_units it.unit it.others && are_merged_parcels it.parcels) (is_label it.label) e in
+    let q = and_parts (is_number it.unit && are_other_units it.unit it.others) (are_merged_parcels it.parcels) p.0 in
+    let r = and_parts (is_number it.unit) (are_other_units it.unit it.others) q.0 in
+    let o = and_parts (nat_le (length it.others) 15 && are_ascending_numbers it.others) (not (lists_number it.others it.unit)) r.1 in
+    let s = and_parts (nat_le (length it.others) 15) (are_ascending_numbers it.others) o.0 in
+    let t = and_parts (all_above 0 it.others) (list_all is_number it.others) s.1 in
+    let u = and_parts (nat_le 2 (length it.parcels) && nat_le (length it.parcels) 16) (are_ascending_numbers it.parcels) q.1 in
     let v = and_parts (nat_le 2 (length it.parcels)) (nat_le (length it.parcels) 16) u.0 in
-    let w = and_parts (rise_above 0 it.parcels) (list_all is_number it.parcels) u.1 in
+    let w = and_parts (all_above 0 it.parcels) (list_all is_number it.parcels) u.1 in
     record { unit = r.0; few = s.0; above = t.0; others = t.1; without = not-true (lists_number it.others it.unit) o.1; some = v.0; most = v.1; rise = w.0; parcels = w.1; label = p.1 }
 
 divided : (it : Subdivision) → is_subdivision it ≡ true → Divided it
 divided it e =
-    let p = and_parts (is_number it.unit && is_number it.parcel && is_label it.first.label) (is_rest it.rest) e in
+    let p = and_parts (is_number it.unit && is_number it.parcel && is_label it.first.label) (are_further_parts it.rest) e in
     let q = and_parts (is_number it.unit && is_number it.parcel) (is_label it.first.label) p.0 in
     let r = and_parts (is_number it.unit) (is_number it.parcel) q.0 in
-    let s = and_parts (is_rest_count (length it.rest)) (have_names it.rest) p.1 in
+    let s = and_parts (is_further_part_count (length it.rest)) (have_names it.rest) p.1 in
     record { unit = r.0; parcel = r.1; label = q.1; count = s.0; rest = s.1 }
 
 record Transferred (it : Transfer) : Type 0 where
@@ -187,10 +187,10 @@ answered : PrintedLaw → OneAnswerLaw → (ring : List Place) → IsOutline rin
 answered printing one ring h (Ok other) right = ap Ok (printing.alone ring other h right)
 answered printing one ring h (Err f) right = absurd (one.not_both (printed ring) ring f (printing.stands ring h) right)
 
-module _ (shares : SameFractionLaw) (printing : PrintedLaw) (one : OneAnswerLaw) (answers : OutlinesHaveTheirAnswers) where
+module _ (shares : SameFractionLaw) (printing : PrintedLaw) (one : OneAnswerLaw) (answers : OutlinesAreAnswered) where
   pub outline_is_read : (ring : List Place) → IsOutline ring → outline_of (printed ring) ≡ Ok ring
   unfolding outline_of
-  outline_is_read ring h = answered printing one ring h (answer_of (printed ring)) (answers (printed ring))
+  outline_is_read ring h = answered printing one ring h (outline_answer (printed ring)) (answers (printed ring))
 
   transfer_is_read : (it : Transfer) → is_transfer it ≡ true → IsFraction it.share → transfer_of (transfer_data it) ≡ Ok it
   unfolding transfer_of number_at field_at number_in share_at text_at
@@ -225,7 +225,7 @@ module _ (shares : SameFractionLaw) (printing : PrintedLaw) (one : OneAnswerLaw)
       rw (l.unit, l.parcel, first_is_read it.first l.label first, count_is part_data it.rest, l.count, parts_are_read it.rest l.rest rest) refl
 
   merger_is_read : (it : Merger) → is_merger it ≡ true → IsOutline it.outline → merger_of (merger_data it) ≡ Ok it
-  unfolding merger_of number_at field_at number_in rising_at items_at text_at outline_in
+  unfolding merger_of number_at field_at number_in increasing_at items_at text_at outline_in
   merger_is_read it e h =
       let l = merged it e in
       rw (
@@ -261,7 +261,7 @@ module _ (shares : SameFractionLaw) (printing : PrintedLaw) (one : OneAnswerLaw)
   data_is_read (content.Mortgage it) e h = rw (mortgage_is_read it e) refl
   data_is_read (content.Discharge it) e h = rw (discharge_is_read it e) refl
 
-pub content_is_read : CompactLaw → SameFractionLaw → PrintedLaw → OneAnswerLaw → OutlinesHaveTheirAnswers → ContentsAreRead
+pub content_is_read : CompactLaw → SameFractionLaw → PrintedLaw → OneAnswerLaw → OutlinesAreAnswered → ContentsRoundTrip
 unfolding content_in
 content_is_read compact shares printing one answers it h =
     ap (λ found. content_kind_of (act_word it) >>= λ which. or_fault found fault.Json >>= λ value. content_of which value)

@@ -7,7 +7,7 @@ use Rattle.land_core.specs.declared.subdivision.Part.{Part}
 use Rattle.land_core.specs.declared.subdivision.Subdivision.{Subdivision}
 use Rattle.land_wire_json.proofs.PartyTexts.{all_numbers, one_more}
 use Rattle.land_wire_json.specs.Texts.Mergers.{merger_data, merger_text}
-use Rattle.land_wire_json.specs.Texts.Mutations.{content_text, spelled_content}
+use Rattle.land_wire_json.specs.Texts.Mutations.{content_text, content_text_by_kind}
 use Rattle.land_wire_json.specs.Texts.Subdivisions.{name_members, part_data, first_text, name_text, part_text, subdivision_data, subdivision_text}
 use Rattle.land_wire_json.specs.Texts.Values.{number_data, after_comma, with_commas, outline_text, string_text}
 use Rattle.serde_json.proofs.OnLiterals.{serde_json_on_literals}
@@ -63,7 +63,7 @@ merger-text it =
     (items_text false (items_of (map number_data it.parcels))) (with_commas (map decimal it.parcels))
     (codes ",\"unit\":" ++ (decimal it.unit ++ codes "}")) (all_numbers it.others) (all_numbers it.parcels))
 
-pub content-text : (it : Content) → content_text it ≡ spelled_content it
+pub content-text : (it : Content) → content_text it ≡ content_text_by_kind it
 unfolding serde_json_on_literals
 content-text (content.Transfer it) = refl
 content-text (content.Subdivision it) = subdivision-text it

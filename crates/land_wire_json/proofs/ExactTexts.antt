@@ -14,7 +14,7 @@ use Rattle.land_core.specs.declared.rrr.Rrr.{Rrr}
 use Rattle.land_core.specs.declared.subdivision.Part.{Part}
 use Rattle.land_shape.specs.Outline.{doubled_area}
 use Rattle.land_wire_json.specs.Texts.Exact.{is_exact, are_exact}
-use Rattle.land_wire_json.specs.Texts.Limits.{IsShort, IsShortMoment, IsPartWithin, IsContentWithin, IsMemberWithin, IsClassWithin, IsRrrWithin, IsObjectWithin}
+use Rattle.land_wire_json.specs.Texts.Limits.{FitsU64, FitsU64Moment, IsPartWithin, IsContentWithin, IsMemberWithin, IsClassWithin, IsRrrWithin, IsObjectWithin}
 use Rattle.land_wire_json.specs.Texts.Mutations.{content_data}
 use Rattle.land_wire_json.specs.Texts.Objects.{object_data}
 use Rattle.land_wire_json.specs.Texts.Parties.{role_data, member_data}
@@ -25,13 +25,13 @@ use Rattle.serde_json.specs.Data.{Data, number, depth, items_depth}
 use Rattle.serde_json.specs.Find.{of_integer}
 use Rattle.serde_json.specs.View.{items_of}
 
-fits : (n : ℕ) → IsShort n → nat_lt n (2 ^ 64) ≡ true
+fits : (n : ℕ) → FitsU64 n → nat_lt n (2 ^ 64) ≡ true
 fits n h = grind (arith, nat_tests, h)
 
-pub number_is_exact : (n : ℕ) → IsShort n → is_exact (number_data n) ≡ true
+pub number_is_exact : (n : ℕ) → FitsU64 n → is_exact (number_data n) ≡ true
 number_is_exact n h = fits n h
 
-pub moment_is_exact : (z : ℤ) → IsShortMoment z → is_exact (number (of_integer z)) ≡ true
+pub moment_is_exact : (z : ℤ) → FitsU64Moment z → is_exact (number (of_integer z)) ≡ true
 moment_is_exact (pos n) h = fits n h
 moment_is_exact (negsuc n) h = absurd h
 
@@ -46,8 +46,8 @@ list_depth : {X : Type 0} (data_of : X → Data) (n : ℕ) → ((x : X) → dept
 list_depth data_of n one [] = omega arith
 list_depth data_of n one (x ∷ xs) = omega (arith, one x, list_depth data_of n one xs)
 
-pub numbers_are_exact : (ns : List ℕ) → AllByRecursion IsShort ns → are_exact (items_of (map number_data ns)) ≡ true
-numbers_are_exact = list_is_exact number_data IsShort number_is_exact
+pub numbers_are_exact : (ns : List ℕ) → AllByRecursion FitsU64 ns → are_exact (items_of (map number_data ns)) ≡ true
+numbers_are_exact = list_is_exact number_data FitsU64 number_is_exact
 
 pub numbers_depth : (ns : List ℕ) → items_depth (items_of (map number_data ns)) ≤ 0
 numbers_depth = list_depth number_data 0 (λ n. omega arith)
@@ -114,7 +114,7 @@ object_is_exact (shown.Party party) h =
     rw (list_is_exact member_data IsMemberWithin member_is_exact party.members h.members, fits party.number h.number, roles_are_exact party.roles) refl
 object_is_exact (shown.Unit unit) h = rw (fits unit.number h) refl
 object_is_exact (shown.Parcel parcel) h =
-    let small : IsShort (doubled_area parcel.outline) = omega (arith, h.outline.small) in
+    let small : FitsU64 (doubled_area parcel.outline) = omega (arith, h.outline.small) in
     rw (fits (doubled_area parcel.outline) small, fits parcel.number h.number, fits parcel.source h.source, fits parcel.unit h.unit) refl
 object_is_exact (shown.Rrr entry) h = class_is_exact entry entry.class h h.class
 object_is_exact (shown.Source source) h = rw (fits source.number h) refl

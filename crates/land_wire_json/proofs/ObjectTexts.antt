@@ -21,12 +21,12 @@ use Rattle.land_wire_json.specs.Texts.Parcels.{parcel_text}
 use Rattle.land_wire_json.specs.Texts.Rrrs.{class_data, class_text, rrr_text}
 use Rattle.land_wire_json.specs.Texts.Sources.{source_text}
 use Rattle.land_wire_json.specs.Texts.Units.{unit_text}
-use Rattle.land_wire_json.specs.Texts.Values.{quoted_word, string_text, truth_text}
+use Rattle.land_wire_json.specs.Texts.Values.{quoted_word, string_text, bool_text}
 use Rattle.serde_json.proofs.OnLiterals.{serde_json_on_literals}
 use Rattle.serde_json.specs.Data.{boolean, string}
 use Rattle.serde_json.specs.Written.{compact_text}
 
-truth-text : (b : Bool) → compact_text (boolean b) ≡ truth_text b
+truth-text : (b : Bool) → compact_text (boolean b) ≡ bool_text b
 truth-text true = refl
 truth-text false = refl
 

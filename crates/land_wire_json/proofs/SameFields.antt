@@ -8,12 +8,12 @@ use Rattle.std.specs.List.{AllByRecursion}
 use Rattle.std.specs.Str.Parse.{AllDigits}
 use Rattle.land_fraction.specs.Ratio.{Ratio, IsFraction}
 use Rattle.land_fraction.specs.Text.{text_of}
-use Rattle.land_shape.specs.Faults.{StandsFor}
+use Rattle.land_shape.specs.Faults.{Denotes}
 use Rattle.land_shape.specs.Laws.{PrintedLaw}
 use Rattle.land_shape.specs.Outline.{IsOutline}
 use Rattle.land_shape.specs.Place.{Place}
 use Rattle.land_shape.specs.Printed.{printed}
-use Rattle.land_wire_json.specs.Texts.Limits.{IsShort, IsShortMoment}
+use Rattle.land_wire_json.specs.Texts.Limits.{FitsU64, FitsU64Moment}
 use Rattle.land_wire_json.specs.Texts.Values.{number_data}
 use Rattle.serde_json.specs.Data.{Data, Num, unsigned, negative, float, null, boolean, number, string, array, object, Items, no_items, item, Members, no_members, member}
 use Rattle.serde_json.specs.Find.{of_integer}
@@ -116,8 +116,8 @@ same_list data_of P one (x ∷ xs) (y ∷ ys) h k e =
     let here = one x y h.0 k.0 (ap first_item e) in
     rw here (ap (λ (t : List _). y ∷ t) (same_list data_of P one xs ys h.1 k.1 (ap later_items e)))
 
-pub same_numbers : (ms ns : List ℕ) → AllByRecursion IsShort ms → AllByRecursion IsShort ns → items_of (map number_data ms) ≡ items_of (map number_data ns) → ms ≡ ns
-same_numbers = same_list number_data IsShort (λ m n h k e. ap number_in e)
+pub same_numbers : (ms ns : List ℕ) → AllByRecursion FitsU64 ms → AllByRecursion FitsU64 ns → items_of (map number_data ms) ≡ items_of (map number_data ns) → ms ≡ ns
+same_numbers = same_list number_data FitsU64 (λ m n h k e. ap number_in e)
 
 -- ---- words: their lengths differ
 
@@ -126,7 +126,7 @@ same_word word back told x y e = sym (told x) ∙ ap (λ (w : List ℕ). back (l
 
 -- ---- moments
 
-pub same_moment : (y z : ℤ) → IsShortMoment y → IsShortMoment z → number (of_integer y) ≡ number (of_integer z) → y ≡ z
+pub same_moment : (y z : ℤ) → FitsU64Moment y → FitsU64Moment z → number (of_integer y) ≡ number (of_integer z) → y ≡ z
 same_moment (pos m) (pos n) h k e = ap pos (ap number_in e)
 same_moment (pos m) (negsuc n) h k e = absurd k
 same_moment (negsuc m) z h k e = absurd h
@@ -174,7 +174,7 @@ same_share f g h k e =
 
 -- ---- outlines
 
-stands_too : (s t : List ℕ) (ring : List Place) → s ≡ t → StandsFor s ring → StandsFor t ring
+stands_too : (s t : List ℕ) (ring : List Place) → s ≡ t → Denotes s ring → Denotes t ring
 stands_too s t ring e h = rw (sym e) h
 
 pub same_outline : PrintedLaw → (ring other : List Place) → IsOutline ring → IsOutline other → printed ring ≡ printed other → ring ≡ other

@@ -11,7 +11,7 @@ use Rattle.land_fraction.specs.Laws.{SameFractionLaw}
 use Rattle.land_fraction.specs.Ratio.{Ratio, IsFraction}
 use Rattle.land_fraction.specs.Text.{text_of}
 use Rattle.land_wire_json.specs.Bodies.Decimals.{are_digits, digits_in}
-use Rattle.land_wire_json.specs.Bodies.Shares.{is_slash, share_answer, share_from, share_of}
+use Rattle.land_wire_json.specs.Bodies.Shares.{is_slash, share_or_fault, share_from, share_of}
 
 is_digit : (c : ℕ) → digit_value c < 10 → is_ascii_digit c ≡ true
 is_digit c h = let k = digit_from_value c h in grind (arith, nat_tests)
@@ -54,4 +54,4 @@ share_is_read same f h =
     let at = slash_after (decimal n) (decimal d) e.0.1 in
     let front : before_first is_slash (text_of f) ≡ decimal n = rw text (ap (λ i. take i (decimal n ++ 47 ∷ decimal d)) at ∙ take-append_seam (decimal n) (47 ∷ decimal d)) in
     let back : after_first is_slash (text_of f) ≡ decimal d = rw text (ap (λ i. drop (i + 1) (decimal n ++ 47 ∷ decimal d)) at ∙ dropped (decimal n) (decimal d)) in
-    ap₂ share_from (ap (digits_in 18) front ∙ number_is_read n n_small) (ap (digits_in 18) back ∙ number_is_read d d_small) ∙ ap share_answer (same f h)
+    ap₂ share_from (ap (digits_in 18) front ∙ number_is_read n n_small) (ap (digits_in 18) back ∙ number_is_read d d_small) ∙ ap share_or_fault (same f h)

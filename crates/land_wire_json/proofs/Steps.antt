@@ -4,7 +4,7 @@ use Rattle.std.specs.Prelude.{Result, OnOk}
 use Rattle.std.proofs.lemmas.Result.{on_ok_weaker}
 use Rattle.json.specs.Token.{Token, end_object}
 use Rattle.json.specs.Tree.{members_tokens}
-use Rattle.land_wire_json.specs.Texts.Fields.{member_tokens, shown_data, fields_tokens, fields_before, unit_tokens}
+use Rattle.land_wire_json.specs.Texts.Fields.{member_tokens, value_data, fields_tokens, fields_before, unit_tokens}
 use Rattle.land_wire_json.specs.declared.texts.fields.Field.{Field}
 use Rattle.land_wire_json.specs.Texts.Subdivisions.{name_members}
 use Rattle.serde_json.specs.Written.{members_outline}
@@ -22,5 +22,5 @@ part_ends (Some name) = refl
 pub joined : (fields : List Field) (rest : List Token) → fields_tokens fields ++ rest ≡ fields_before fields rest
 joined [] rest = refl
 joined (field ∷ fields) rest =
-    let one = member_tokens field.0.now (shown_data field.1) in
+    let one = member_tokens field.0.now (value_data field.1) in
     append_assoc one (fields_tokens fields) rest ∙ ap (λ (ts : List Token). one ++ ts) (joined fields rest)

@@ -4,7 +4,7 @@ use Rattle.std.specs.List.{list_all}
 use Rattle.std.proofs.lemmas.Bool.{and_parts}
 use Rattle.land_core.specs.Acts.{have_owner, is_well_formed}
 use Rattle.land_core.specs.Contents.{is_amount, is_currency, is_well_formed_content}
-use Rattle.land_core.specs.Mergers.{rise_above, are_rising, lists_number, are_others}
+use Rattle.land_core.specs.Mergers.{all_above, are_ascending_numbers, lists_number, are_other_units}
 use Rattle.land_core.specs.Numbers.{is_number}
 use Rattle.land_core.specs.Register.{is_single}
 use Rattle.land_core.specs.Subdivisions.{is_new_name, is_part}
@@ -16,9 +16,9 @@ use Rattle.land_core.specs.declared.content.Content.{Content}
 use Rattle.land_core.specs.declared.content.Content.TheVariants as content
 use Rattle.land_core.specs.declared.kind.PartyKind.TheVariants as kind
 use Rattle.land_core.specs.declared.member.Member.{Member}
-use Rattle.land_wire_json.specs.Bodies.Fields.{text_value, field_at, object_with, text_at, truth_at, limited, limited_at, ranged, ranged_in, number_in, number_at, items_at, item_count, each_of}
+use Rattle.land_wire_json.specs.Bodies.Fields.{text_value, field_at, object_with, text_at, bool_at, require_text, require_text_at, require_in_range, require_number, number_in, number_at, items_at, item_count, each_of}
 use Rattle.land_wire_json.specs.Bodies.Laws.{BodiesAreWellFormed, ContentsAreWellFormed}
-use Rattle.land_wire_json.specs.Bodies.Mutations.{fields_of, content_by, content_in, content_kind_of, content_of, decision_of, discharge_of, lodging_of, merger_of, mortgage_of, new_name_of, part_of, rest_of, rising_at, subdivision_of, transfer_of, without}
+use Rattle.land_wire_json.specs.Bodies.Mutations.{fields_of, content_by, content_in, content_kind_of, content_of, decision_of, discharge_of, lodging_of, merger_of, mortgage_of, new_name_of, part_of, rest_of, increasing_at, subdivision_of, transfer_of, without}
 use Rattle.land_wire_json.specs.Bodies.Outlines.{outline_in}
 use Rattle.land_wire_json.specs.Bodies.Parties.{enrol_of, group_of, grant_of, mandate_of, member_of, members_of, regroup_of, withdrawal_of}
 use Rattle.land_wire_json.specs.Bodies.Shares.{share_at}
@@ -61,23 +61,23 @@ by_test P false a f h = record { if_ok = tt }
 abbrev Passes : {A : Type 0} → (A → Bool) → A → Type 0
 Passes p a = p a ≡ true
 
-limited-allowed : (p : List ℕ → Bool) (text : List ℕ) → Ensures (Passes p) (limited p text)
-limited-allowed p text = by_test (Passes p) (p text) text fault.Text (λ h. h)
+require_text-allowed : (p : List ℕ → Bool) (text : List ℕ) → Ensures (Passes p) (require_text p text)
+require_text-allowed p text = by_test (Passes p) (p text) text fault.Text (λ h. h)
 
-limited_at-allowed : (p : List ℕ → Bool) (key : List ℕ) (value : Data) → Ensures (Passes p) (limited_at p key value)
-limited_at-allowed p key value = bind (text_at key value) (limited-allowed p)
+require_text_at-allowed : (p : List ℕ → Bool) (key : List ℕ) (value : Data) → Ensures (Passes p) (require_text_at p key value)
+require_text_at-allowed p key value = bind (text_at key value) (require_text-allowed p)
 
-ranged-allowed : (p : ℕ → Bool) (n : Num) → Ensures (Passes p) (ranged p n)
-ranged-allowed p (unsigned n) = by_test (Passes p) (p n) n fault.Number (λ h. h)
-ranged-allowed p (negative z) = record { if_ok = tt }
-ranged-allowed p (float x) = record { if_ok = tt }
+require_in_range-allowed : (p : ℕ → Bool) (n : Num) → Ensures (Passes p) (require_in_range p n)
+require_in_range-allowed p (unsigned n) = by_test (Passes p) (p n) n fault.Number (λ h. h)
+require_in_range-allowed p (negative z) = record { if_ok = tt }
+require_in_range-allowed p (float x) = record { if_ok = tt }
 
-ranged_in-allowed : (p : ℕ → Bool) (value : Data) → Ensures (Passes p) (ranged_in p value)
-ranged_in-allowed p value = bind (or_fault (as_number value) fault.Field) (ranged-allowed p)
+require_number-allowed : (p : ℕ → Bool) (value : Data) → Ensures (Passes p) (require_number p value)
+require_number-allowed p value = bind (or_fault (as_number value) fault.Field) (require_in_range-allowed p)
 
 number_in-number : (value : Data) → Ensures (Passes is_number) (number_in value)
 unfolding number_in
-number_in-number value = ranged_in-allowed is_number value
+number_in-number value = require_number-allowed is_number value
 
 number_at-number : (key : List ℕ) (value : Data) → Ensures (Passes is_number) (number_at key value)
 unfolding number_at
@@ -139,7 +139,7 @@ unfolding enrol_of
 enrol_of-well_formed value =
     bind (object_with (codes "kind" ∷ codes "name" ∷ []) value) (λ whole.
     bind_with (kind_in value) (kind_in-single value) (λ k single.
-    bind_with (limited_at is_name (codes "name") value) (limited_at-allowed is_name (codes "name") value) (λ name is.
+    bind_with (require_text_at is_name (codes "name") value) (require_text_at-allowed is_name (codes "name") value) (λ name is.
     record { if_ok = rw (single, is) refl })))
 
 abbrev is_of_number : Member → Bool
@@ -160,7 +160,7 @@ group_of-well_formed : (value : Data) → Ensures (λ it. is_well_formed (act.Gr
 unfolding group_of
 group_of-well_formed value =
     bind (object_with (codes "name" ∷ codes "members" ∷ []) value) (λ whole.
-    bind_with (limited_at is_name (codes "name") value) (limited_at-allowed is_name (codes "name") value) (λ name is.
+    bind_with (require_text_at is_name (codes "name") value) (require_text_at-allowed is_name (codes "name") value) (λ name is.
     bind_with (members_of value) (members_of-between value) (λ members are.
     record { if_ok = rw (is, are.count, are.each) refl })))
 
@@ -202,7 +202,7 @@ parcel_of-labelled : (value : Data) → Ensures (Passes has_label) (parcel_of va
 unfolding parcel_of
 parcel_of-labelled value =
     bind (object_with (codes "label" ∷ codes "outline" ∷ []) value) (λ whole.
-    bind_with (limited_at is_label (codes "label") value) (limited_at-allowed is_label (codes "label") value) (λ label is.
+    bind_with (require_text_at is_label (codes "label") value) (require_text_at-allowed is_label (codes "label") value) (λ label is.
     bind (outline_in value) (λ outline. record { if_ok = is })))
 
 parcels_of-between : (value : Data) → Ensures (AreBetween has_label 1 64) (parcels_of value)
@@ -224,9 +224,9 @@ record AreOwned (rights : List NewRight) : Type 0 where
   between : AreBetween is_of_party 1 64 rights
   owner : have_owner rights ≡ true
 
-rights_of-owned : (value : Data) → Ensures AreOwned (rights_of value)
+rights_of-require_owner : (value : Data) → Ensures AreOwned (rights_of value)
 unfolding rights_of
-rights_of-owned value =
+rights_of-require_owner value =
     bind_with (items_at 1 64 (codes "rights") value >>= each_of right_of) (counted_at is_of_party 1 64 (codes "rights") right_of right_of-numbered value) (λ rights are.
     by_test AreOwned (have_owner rights) rights fault.Field (λ owner. record { between = are; owner = owner }))
 
@@ -234,11 +234,11 @@ unit_of-well_formed : (value : Data) → Ensures (λ it. is_well_formed (act.Reg
 unfolding unit_of unit_by
 unit_of-well_formed value =
     bind (object_with unit_fields value) (λ whole.
-    bind_with (limited_at is_name (codes "name") value) (limited_at-allowed is_name (codes "name") value) (λ name named.
-    bind (truth_at (codes "checked") value) (λ checked.
-    bind_with (limited_at is_title (codes "document") value) (limited_at-allowed is_title (codes "document") value) (λ document titled.
+    bind_with (require_text_at is_name (codes "name") value) (require_text_at-allowed is_name (codes "name") value) (λ name named.
+    bind (bool_at (codes "checked") value) (λ checked.
+    bind_with (require_text_at is_title (codes "document") value) (require_text_at-allowed is_title (codes "document") value) (λ document titled.
     bind_with (parcels_of value) (parcels_of-between value) (λ parcels are.
-    bind_with (rights_of value) (rights_of-owned value) (λ rights hold.
+    bind_with (rights_of value) (rights_of-require_owner value) (λ rights hold.
     record { if_ok = rw (named, titled, are.count, are.each, hold.between.count, hold.between.each, hold.owner) refl }))))))
 
 burden_of-well_formed : (value : Data) → Ensures (λ it. is_well_formed (act.Burden it) ≡ true) (burden_of value)
@@ -248,8 +248,8 @@ burden_of-well_formed value =
     bind_with (number_at (codes "unit") value) (number_at-number (codes "unit") value) (λ unit unit_is.
     bind_with (number_at (codes "party") value) (number_at-number (codes "party") value) (λ party party_is.
     bind (class_in value) (λ class.
-    bind_with (limited_at are_words (codes "words") value) (limited_at-allowed are_words (codes "words") value) (λ words worded.
-    bind_with (limited_at is_title (codes "document") value) (limited_at-allowed is_title (codes "document") value) (λ document titled.
+    bind_with (require_text_at are_words (codes "words") value) (require_text_at-allowed are_words (codes "words") value) (λ words worded.
+    bind_with (require_text_at is_title (codes "document") value) (require_text_at-allowed is_title (codes "document") value) (λ document titled.
     record { if_ok = rw (unit_is, party_is, worded, titled) refl }))))))
 
 lift_of-well_formed : (value : Data) → Ensures (λ it. is_well_formed (act.Lift it) ≡ true) (lift_of value)
@@ -274,14 +274,14 @@ transfer_of-well_formed value =
 new_name_of-allowed : (value : Option Data) → Ensures (Passes is_new_name) (new_name_of value)
 new_name_of-allowed None = record { if_ok = refl }
 new_name_of-allowed (Some value) =
-    bind_with (or_fault (as_str value) fault.Field >>= limited is_name) (bind (or_fault (as_str value) fault.Field) (limited-allowed is_name)) (λ name is.
+    bind_with (or_fault (as_str value) fault.Field >>= require_text is_name) (bind (or_fault (as_str value) fault.Field) (require_text-allowed is_name)) (λ name is.
     record { if_ok = is })
 
 part_of-well_formed : (value : Data) → Ensures (Passes is_part) (part_of value)
 unfolding part_of
 part_of-well_formed value =
     bind (object_with (codes "label" ∷ codes "outline" ∷ codes "unit" ∷ []) value) (λ whole.
-    bind_with (limited_at is_label (codes "label") value) (limited_at-allowed is_label (codes "label") value) (λ label labelled.
+    bind_with (require_text_at is_label (codes "label") value) (require_text_at-allowed is_label (codes "label") value) (λ label labelled.
     bind (outline_in value) (λ outline.
     bind_with (new_name_of (get (codes "unit") value)) (new_name_of-allowed (get (codes "unit") value)) (λ unit named.
     record { if_ok = rw (labelled, named) refl }))))
@@ -303,18 +303,18 @@ subdivision_of-well_formed value =
 -- increasing numbers of objects
 record AreRising (least most : ℕ) (numbers : List ℕ) : Type 0 where
   count : is_between least most (length numbers) ≡ true
-  rise : are_rising numbers ≡ true
+  rise : are_ascending_numbers numbers ≡ true
 
-rising_at-rising : (least most : ℕ) (key : List ℕ) (value : Data) → Ensures (AreRising least most) (rising_at least most key value)
-unfolding rising_at
-rising_at-rising least most key value =
+increasing_at-rising : (least most : ℕ) (key : List ℕ) (value : Data) → Ensures (AreRising least most) (increasing_at least most key value)
+unfolding increasing_at
+increasing_at-rising least most key value =
     bind_with (items_at least most key value >>= each_of number_in) (counted_at is_number least most key number_in number_in-number value) (λ numbers are.
-    by_test (AreRising least most) (rise_above 0 numbers) numbers fault.Field (λ above. record { count = are.count; rise = rw (above, are.each) refl }))
+    by_test (AreRising least most) (all_above 0 numbers) numbers fault.Field (λ above. record { count = are.count; rise = rw (above, are.each) refl }))
 
-without-others : (unit : ℕ) (others : List ℕ) → AreRising 0 15 others → Ensures (λ them. are_others unit them ≡ true) (without unit others)
+without-others : (unit : ℕ) (others : List ℕ) → AreRising 0 15 others → Ensures (λ them. are_other_units unit them ≡ true) (without unit others)
 without-others unit others are = by (lists_number others unit) refl
   where
-    by : (b : Bool) → lists_number others unit ≡ b → Ensures (λ them. are_others unit them ≡ true) (if b then Err fault.Field else Ok others)
+    by : (b : Bool) → lists_number others unit ≡ b → Ensures (λ them. are_other_units unit them ≡ true) (if b then Err fault.Field else Ok others)
     by true e = record { if_ok = tt }
     by false e = record { if_ok = rw ((and_parts (nat_le 0 (length others)) (nat_le (length others) 15) are.count).1, are.rise, e) refl }
 
@@ -322,10 +322,10 @@ merger_of-well_formed : (value : Data) → Ensures (λ it. IsWellFormed (content
 unfolding merger_of
 merger_of-well_formed value =
     bind_with (number_at (codes "unit") value) (number_at-number (codes "unit") value) (λ unit unit_is.
-    bind_with (rising_at 0 15 (codes "others") value) (rising_at-rising 0 15 (codes "others") value) (λ listed rising.
+    bind_with (increasing_at 0 15 (codes "others") value) (increasing_at-rising 0 15 (codes "others") value) (λ listed rising.
     bind_with (without unit listed) (without-others unit listed rising) (λ others others_are.
-    bind_with (rising_at 2 16 (codes "parcels") value) (rising_at-rising 2 16 (codes "parcels") value) (λ parcels are.
-    bind_with (limited_at is_label (codes "label") value) (limited_at-allowed is_label (codes "label") value) (λ label labelled.
+    bind_with (increasing_at 2 16 (codes "parcels") value) (increasing_at-rising 2 16 (codes "parcels") value) (λ parcels are.
+    bind_with (require_text_at is_label (codes "label") value) (require_text_at-allowed is_label (codes "label") value) (λ label labelled.
     bind (outline_in value) (λ outline. record { if_ok = rw (unit_is, others_are, are.count, are.rise, labelled) refl }))))))
 
 mortgage_of-well_formed : (value : Data) → Ensures (λ it. IsWellFormed (content.Mortgage it)) (mortgage_of value)
@@ -334,8 +334,8 @@ mortgage_of-well_formed value =
     bind_with (number_at (codes "unit") value) (number_at-number (codes "unit") value) (λ unit unit_is.
     bind_with (number_at (codes "creditor") value) (number_at-number (codes "creditor") value) (λ creditor creditor_is.
     bind (field_at (codes "amount") value) (λ found.
-    bind_with (ranged_in is_amount found) (ranged_in-allowed is_amount found) (λ amount amount_is.
-    bind_with (limited_at is_currency (codes "currency") value) (limited_at-allowed is_currency (codes "currency") value) (λ currency currency_is.
+    bind_with (require_number is_amount found) (require_number-allowed is_amount found) (λ amount amount_is.
+    bind_with (require_text_at is_currency (codes "currency") value) (require_text_at-allowed is_currency (codes "currency") value) (λ currency currency_is.
     record { if_ok = rw (unit_is, creditor_is, amount_is, currency_is) refl })))))
 
 discharge_of-well_formed : (value : Data) → Ensures (λ it. IsWellFormed (content.Discharge it)) (discharge_of value)
@@ -366,8 +366,8 @@ lodging_of-well_formed : (k : ContentKind) (value : Data) → Ensures (λ it. is
 unfolding lodging_of
 lodging_of-well_formed k value =
     bind (object_with (codes "reference" ∷ codes "document" ∷ fields_of k) value) (λ whole.
-    bind_with (limited_at is_reference (codes "reference") value) (limited_at-allowed is_reference (codes "reference") value) (λ reference referred.
-    bind_with (limited_at is_title (codes "document") value) (limited_at-allowed is_title (codes "document") value) (λ document titled.
+    bind_with (require_text_at is_reference (codes "reference") value) (require_text_at-allowed is_reference (codes "reference") value) (λ reference referred.
+    bind_with (require_text_at is_title (codes "document") value) (require_text_at-allowed is_title (codes "document") value) (λ document titled.
     bind_with (content_by k value) (content_by-well_formed k value) (λ it formed.
     record { if_ok = rw (referred, titled, formed) refl }))))
 

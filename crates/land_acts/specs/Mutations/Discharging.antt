@@ -17,15 +17,15 @@ abbrev pub has_entry_in : Register → (unit number : ℕ) → Bool
 has_entry_in r unit n = option_map_or (λ e. nat_eq e.unit unit) (map.get r.rrrs n) false
 
 -- whether a mortgage exists at a number
-abbrev pub has_mortgage : Register → ℕ → Bool
-has_mortgage r n = option_map_or (λ e. is_some (rank_of e.class)) (map.get r.rrrs n) false
+abbrev pub is_mortgage_at : Register → ℕ → Bool
+is_mortgage_at r n = option_map_or (λ e. is_some (rank_of e.class)) (map.get r.rrrs n) false
 
 -- the refusals with their conditions, in ascending order
 abbrev pub discharge_refusals : Register → Discharge → Option ℤ → List (Refusal × Bool)
 discharge_refusals r it stamp =
     (NoSuchUnit, not (has r.units it.unit))
     ∷ (NoSuchRight, not (has_entry_in r it.unit it.mortgage))
-    ∷ (NotMortgage, not (has_mortgage r it.mortgage))
+    ∷ (NotMortgage, not (is_mortgage_at r it.mortgage))
     ∷ (ClockOut, is_none stamp)
     ∷ []
 

@@ -8,8 +8,8 @@ use Rattle.std.specs.Str.{bytes_eq}
 use Rattle.std.specs.FinMap as map
 use Rattle.land_acts.specs.Mutations.Areas.{outlines_at}
 use Rattle.land_acts.specs.Mutations.Grounds.{are_same_ground}
-use Rattle.land_acts.specs.Mutations.Planning.{lacks_numbers}
-use Rattle.land_acts.specs.Mutations.Subdividing.{entries_of, parcels_beside}
+use Rattle.land_acts.specs.Mutations.Planning.{runs_out_of_numbers}
+use Rattle.land_acts.specs.Mutations.Subdividing.{list_entries_of, count_other_parcels}
 use Rattle.land_acts.specs.Mutations.Transferring.{is_checked}
 use Rattle.land_acts.specs.declared.mutations.refusal.Refusal.{Refusal}
 use Rattle.land_acts.specs.declared.mutations.refusal.Refusal.TheVariants.{NoSuchUnit, NoSuchParcel}
@@ -55,13 +55,13 @@ abbrev pub is_same_entry : RrrRecord → RrrRecord → Bool
 is_same_entry e f = nat_eq e.party f.party && is_same_class e.class f.class
 
 -- the number of times that an entry occurs in a list
-abbrev pub times_in : List RrrRecord → RrrRecord → ℕ
-times_in entries e = length (filter (is_same_entry e) entries)
+abbrev pub count_in : List RrrRecord → RrrRecord → ℕ
+count_in entries e = length (filter (is_same_entry e) entries)
 
 -- whether two lists have the same entries, each the same number of times
 abbrev pub are_same_entries : List RrrRecord → List RrrRecord → Bool
 are_same_entries entries others =
-    list_all (λ e. nat_eq (times_in entries e) (times_in others e)) (entries ++ others)
+    list_all (λ e. nat_eq (count_in entries e) (count_in others e)) (entries ++ others)
 
 -- ---- the refusals
 
@@ -70,12 +70,12 @@ abbrev pub lacks_unit : Register → Merger → Bool
 lacks_unit r it = not (has r.units it.unit) || list_any (λ n. not (has r.units n)) it.others
 
 -- whether a unit is one of the units of the merger
-abbrev pub is_named : Merger → (unit : ℕ) → Bool
-is_named it n = nat_eq n it.unit || lists_number it.others n
+abbrev pub is_unit_of_merger : Merger → (unit : ℕ) → Bool
+is_unit_of_merger it n = nat_eq n it.unit || lists_number it.others n
 
 -- whether a parcel of one of these units exists at a number
 abbrev pub is_parcel_named : Register → Merger → (number : ℕ) → Bool
-is_parcel_named r it n = option_map_or (λ p. is_named it p.unit) (map.get r.parcels n) false
+is_parcel_named r it n = option_map_or (λ p. is_unit_of_merger it p.unit) (map.get r.parcels n) false
 
 -- whether a listed number is not a parcel of these units
 abbrev pub lacks_parcel : Register → Merger → Bool
@@ -83,20 +83,20 @@ lacks_parcel r it = list_any (λ n. not (is_parcel_named r it n)) it.parcels
 
 -- whether a unit has a parcel that is not listed
 abbrev pub keeps_parcel : Register → Merger → (unit : ℕ) → Bool
-keeps_parcel r it unit = nat_lt 0 (parcels_beside r unit it.parcels)
+keeps_parcel r it unit = nat_lt 0 (count_other_parcels r unit it.parcels)
 
 -- whether two units are both checked or both not
-abbrev pub is_same_mark : (checked other : Bool) → Bool
-is_same_mark true other = other
-is_same_mark false other = not other
+abbrev pub are_equally_checked : (checked other : Bool) → Bool
+are_equally_checked true other = other
+are_equally_checked false other = not other
 
 -- whether another unit cannot be merged with the unit: a parcel of it is not listed, only one of the two is
 -- checked, or their entries differ
 abbrev pub is_unlike : Register → Merger → (other : ℕ) → Bool
 is_unlike r it other =
     keeps_parcel r it other
-    || not (is_same_mark (is_checked r other) (is_checked r it.unit))
-    || not (are_same_entries (entries_of r other) (entries_of r it.unit))
+    || not (are_equally_checked (is_checked r other) (is_checked r it.unit))
+    || not (are_same_entries (list_entries_of r other) (list_entries_of r it.unit))
 
 -- whether one of the other units cannot be merged with the unit
 abbrev pub has_unlike : Register → Merger → Bool
@@ -104,7 +104,7 @@ has_unlike r it = list_any (λ other. is_unlike r it other) it.others
 
 -- whether the unit would have more than 256 parcels
 abbrev pub would_have_more_parcels : Register → Merger → Bool
-would_have_more_parcels r it = nat_lt 256 (parcels_beside r it.unit it.parcels + 1)
+would_have_more_parcels r it = nat_lt 256 (count_other_parcels r it.unit it.parcels + 1)
 
 -- the refusals with their conditions, in ascending order
 abbrev pub merger_refusals : Register → Merger → Option ℤ → List (Refusal × Bool)
@@ -112,7 +112,7 @@ merger_refusals r it stamp =
     (NoSuchUnit, lacks_unit r it)
     ∷ (NoSuchParcel, lacks_parcel r it)
     ∷ (UnitsUnlike, has_unlike r it)
-    ∷ (TooMany, lacks_numbers r 1 || would_have_more_parcels r it)
+    ∷ (TooMany, runs_out_of_numbers r 1 || would_have_more_parcels r it)
     ∷ (ClockOut, is_none stamp)
     ∷ (NotMatched, not (are_same_ground (outlines_at r it.parcels) (it.outline ∷ [])))
     ∷ []

@@ -3,7 +3,7 @@ use Rattle.std.specs.Prelude.{ℕ, ◌+◌, ℤ, Bool, not, ◌||◌, nat_eq, na
 use Rattle.std.specs.Prelude.{is_none, if◌then◌else◌}
 use Rattle.std.specs.List.{filter_map}
 use Rattle.std.specs.FinMap as map
-use Rattle.land_acts.specs.Mutations.Planning.{would_crowd, lacks_numbers}
+use Rattle.land_acts.specs.Mutations.Planning.{would_exceed_entries, runs_out_of_numbers}
 use Rattle.land_acts.specs.declared.mutations.refusal.Refusal.{Refusal}
 use Rattle.land_acts.specs.declared.mutations.refusal.Refusal.TheVariants.{NoSuchUnit, NoSuchParty, TooMany}
 use Rattle.land_acts.specs.declared.mutations.refusal.Refusal.TheVariants.{NotBank, ClockOut}
@@ -40,7 +40,7 @@ abbrev pub mortgage_refusals : Register → Mortgage → Option ℤ → List (Re
 mortgage_refusals r it stamp =
     (NoSuchUnit, not (has r.units it.unit))
     ∷ (NoSuchParty, not (has r.parties it.creditor))
-    ∷ (TooMany, lacks_numbers r 1 || would_crowd r it.unit 1)
+    ∷ (TooMany, runs_out_of_numbers r 1 || would_exceed_entries r it.unit 1)
     ∷ (NotBank, not (holds r it.creditor Bank))
     ∷ (ClockOut, is_none stamp)
     ∷ []

@@ -3,9 +3,9 @@ use Rattle.std.specs.Prelude.{ℕ, ◌+◌, List, [], ◌∷◌}
 use Rattle.std.specs.List.{range_with_len}
 
 -- these objects, numbered from `first`
-abbrev pub numbered : {A : Type 0} → (first : ℕ) → List A → List (ℕ × A)
-numbered first [] = []
-numbered first (object ∷ objects) = (first, object) ∷ numbered (first + 1) objects
+abbrev pub with_numbers_from : {A : Type 0} → (first : ℕ) → List A → List (ℕ × A)
+with_numbers_from first [] = []
+with_numbers_from first (object ∷ objects) = (first, object) ∷ with_numbers_from (first + 1) objects
 
 -- `count` numbers from `first`
 abbrev pub numbers_from : (first count : ℕ) → List ℕ

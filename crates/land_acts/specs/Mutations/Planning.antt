@@ -44,12 +44,12 @@ abbrev pub numbers_end : ℕ
 numbers_end = 1000000001
 
 -- whether `count` new objects would need more numbers
-abbrev pub lacks_numbers : Register → ℕ → Bool
-lacks_numbers r count = nat_lt numbers_end (r.next + count)
+abbrev pub runs_out_of_numbers : Register → ℕ → Bool
+runs_out_of_numbers r count = nat_lt numbers_end (r.next + count)
 
 -- whether a unit would have more than 256 entries with `more` new ones
-abbrev pub would_crowd : Register → (unit more : ℕ) → Bool
-would_crowd r unit more = nat_lt 256 (rrr_count r unit + more)
+abbrev pub would_exceed_entries : Register → (unit more : ℕ) → Bool
+would_exceed_entries r unit more = nat_lt 256 (rrr_count r unit + more)
 
 -- the source that represents a document, under its number (LA_AdministrativeSource, LA_SpatialSource)
 abbrev pub document_source : (number : ℕ) → SourceKind → (document : List ℕ) → List (ℕ × SourceRecord)
@@ -60,6 +60,6 @@ abbrev pub done_on : (number : ℕ) → ℤ → Done
 done_on number stamp = record { number = number; made = []; stamp = stamp }
 
 -- the first refusal whose condition holds
-abbrev pub first_that_holds : List (Refusal × Bool) → Option Refusal
-first_that_holds [] = None
-first_that_holds (line ∷ lines) = if line.1 then Some line.0 else first_that_holds lines
+abbrev pub first_refusal_of : List (Refusal × Bool) → Option Refusal
+first_refusal_of [] = None
+first_refusal_of (line ∷ lines) = if line.1 then Some line.0 else first_refusal_of lines

@@ -6,8 +6,8 @@ use Rattle.std.specs.Option.{option_map_or}
 use Rattle.std.specs.FinMap as map
 use Rattle.land_acts.specs.Mutations.Areas.{outlines_at}
 use Rattle.land_acts.specs.Mutations.Grounds.{are_same_ground}
-use Rattle.land_acts.specs.Mutations.Numbering.{numbered, numbers_from}
-use Rattle.land_acts.specs.Mutations.Planning.{lacks_numbers}
+use Rattle.land_acts.specs.Mutations.Numbering.{with_numbers_from, numbers_from}
+use Rattle.land_acts.specs.Mutations.Planning.{runs_out_of_numbers}
 use Rattle.land_acts.specs.Mutations.Transferring.{is_checked}
 use Rattle.land_acts.specs.declared.mutations.refusal.Refusal.{Refusal}
 use Rattle.land_acts.specs.declared.mutations.refusal.Refusal.TheVariants.{NoSuchUnit, NoSuchParcel, TooMany}
@@ -27,8 +27,8 @@ use Rattle.land_shape.specs.Place.{Place}
 -- ---- the unit of the parcel
 
 -- the entries of a unit, by ascending numbers
-abbrev pub entries_of : Register → (unit : ℕ) → List RrrRecord
-entries_of r unit = map_list (λ e. e.1) (filter (λ e. nat_eq e.1.unit unit) (map.entries r.rrrs))
+abbrev pub list_entries_of : Register → (unit : ℕ) → List RrrRecord
+list_entries_of r unit = map_list (λ e. e.1) (filter (λ e. nat_eq e.1.unit unit) (map.entries r.rrrs))
 
 -- the data that new units take over: the unit, whether it is checked, its entries, and the source of the
 -- mutation
@@ -41,7 +41,7 @@ pub record Origin : Type 0 where
 -- this data of the unit of a subdivision
 abbrev pub origin_of : Register → (source : ℕ) → Subdivision → Origin
 origin_of r source it =
-    record { unit = it.unit; checked = is_checked r it.unit; entries = entries_of r it.unit; source = source }
+    record { unit = it.unit; checked = is_checked r it.unit; entries = list_entries_of r it.unit; source = source }
 
 -- a copy of an entry for another unit, with the same party, class and source
 abbrev pub in_unit : (unit : ℕ) → RrrRecord → RrrRecord
@@ -77,7 +77,7 @@ parcel_made origin first part (Some name) = (first + 1, parcel_in origin first p
 -- then copies of the entries, in their order
 abbrev pub entries_made : Origin → (first : ℕ) → (new_unit : Option (List ℕ)) → List (ℕ × RrrRecord)
 entries_made origin first None = []
-entries_made origin first (Some name) = numbered (first + 2) (map_list (in_unit first) origin.entries)
+entries_made origin first (Some name) = with_numbers_from (first + 2) (map_list (in_unit first) origin.entries)
 
 -- ---- the objects of all parts, in their order
 
@@ -147,24 +147,24 @@ abbrev pub outlines_of : List Part → List (List Place)
 outlines_of parts = map_list (λ part. part.outline) parts
 
 -- the number of parcels of a unit, except those that end
-abbrev pub parcels_beside : Register → (unit : ℕ) → (ended : List ℕ) → ℕ
-parcels_beside r unit ended = count_where (λ n p. nat_eq p.unit unit && not (lists_number ended n)) r.parcels
+abbrev pub count_other_parcels : Register → (unit : ℕ) → (ended : List ℕ) → ℕ
+count_other_parcels r unit ended = count_where (λ n p. nat_eq p.unit unit && not (lists_number ended n)) r.parcels
 
 -- the number of parts that stay in the unit
-abbrev pub staying : List Part → ℕ
-staying parts = length (filter (λ part. is_none part.unit) parts)
+abbrev pub count_staying : List Part → ℕ
+count_staying parts = length (filter (λ part. is_none part.unit) parts)
 
 -- whether the unit would have more than 256 parcels; a new unit has one parcel, and no more entries than the
 -- old one
 abbrev pub would_have_many_parcels : Register → Subdivision → Bool
-would_have_many_parcels r it = nat_lt 256 (parcels_beside r it.unit (it.parcel ∷ []) + staying (all_parts it))
+would_have_many_parcels r it = nat_lt 256 (count_other_parcels r it.unit (it.parcel ∷ []) + count_staying (all_parts it))
 
 -- the refusals with their conditions, in ascending order
 abbrev pub subdivision_refusals : Register → Subdivision → Option ℤ → List (Refusal × Bool)
 subdivision_refusals r it stamp =
     (NoSuchUnit, not (has r.units it.unit))
     ∷ (NoSuchParcel, not (has_parcel_in r it.unit it.parcel))
-    ∷ (TooMany, lacks_numbers r (subdivision_count r it) || would_have_many_parcels r it)
+    ∷ (TooMany, runs_out_of_numbers r (subdivision_count r it) || would_have_many_parcels r it)
     ∷ (ClockOut, is_none stamp)
     ∷ (NotMatched, not (are_same_ground (outlines_at r (it.parcel ∷ [])) (outlines_of (all_parts it))))
     ∷ []

@@ -2,9 +2,9 @@
 -- has one right.
 use Rattle.std.specs.Prelude.{◌≡◌, ℕ, ◌≤◌, false, Some, None, ℤ}
 use Rattle.std.specs.FinMap as map
-use Rattle.land_acts.specs.Mutations.Planning.{first_that_holds}
-use Rattle.land_acts.specs.Mutations.Transferring.{held_at, is_checked, move_change, transfer_refusals}
-use Rattle.land_acts.specs.declared.mutations.transfer.Held.{Held}
+use Rattle.land_acts.specs.Mutations.Planning.{first_refusal_of}
+use Rattle.land_acts.specs.Mutations.Transferring.{right_at, is_checked, move_change, transfer_refusals}
+use Rattle.land_acts.specs.declared.mutations.transfer.HeldRight.{HeldRight}
 use Rattle.land_core.specs.Changes.{after}
 use Rattle.land_core.specs.Soundness.{IsSound}
 use Rattle.land_core.specs.Units.{type_of, type_shares}
@@ -19,9 +19,9 @@ use Rattle.land_fraction.specs.Wholeness.{IsCommonMultiple, parts_of}
 -- before. In a unit that is not checked, the law assumes that the right's share is at most one, which holds
 -- for every fraction; in a checked unit of a sound register it always is
 abbrev pub TransfersKeepSums : Type 0
-TransfersKeepSums = (r : Register) (source : ℕ) (it : Transfer) (from : Held) (stamp : ℤ) (parts : ℕ)
-    → IsSound r → first_that_holds (transfer_refusals r it (Some stamp)) ≡ None
-    → held_at r it.unit it.right ≡ Some from
+TransfersKeepSums = (r : Register) (source : ℕ) (it : Transfer) (from : HeldRight) (stamp : ℤ) (parts : ℕ)
+    → IsSound r → first_refusal_of (transfer_refusals r it (Some stamp)) ≡ None
+    → right_at r it.unit it.right ≡ Some from
     → (is_checked r it.unit ≡ false → from.share.numerator ≤ from.share.denominator)
     → IsCommonMultiple parts (type_shares r it.unit from.right_type)
     → IsCommonMultiple parts (type_shares (after (move_change r source it from) r) it.unit from.right_type)
@@ -46,7 +46,7 @@ pub record HasOneRight (r : Register) (unit party : ℕ) (type : RightType) : Ty
 -- after a transfer without refusal, the receiver has exactly one right of the type in the unit, whether it
 -- had one before or not
 abbrev pub ReceiversHaveOneRight : Type 0
-ReceiversHaveOneRight = (r : Register) (source : ℕ) (it : Transfer) (from : Held) (stamp : ℤ) → IsSound r
-    → first_that_holds (transfer_refusals r it (Some stamp)) ≡ None
-    → held_at r it.unit it.right ≡ Some from
+ReceiversHaveOneRight = (r : Register) (source : ℕ) (it : Transfer) (from : HeldRight) (stamp : ℤ) → IsSound r
+    → first_refusal_of (transfer_refusals r it (Some stamp)) ≡ None
+    → right_at r it.unit it.right ≡ Some from
     → HasOneRight (after (move_change r source it from) r) it.unit it.receiver from.right_type

@@ -1,8 +1,8 @@
 //! The content `discharge`: a mortgage ends.
 ghost use Rattle.std.specs.Prelude.{◌≡◌, IfOk};
 ghost use Rattle.land_acts.specs.Mutations.Discharging.{discharge_change, discharge_refusals, has_entry_in};
-ghost use Rattle.land_acts.specs.Mutations.Discharging.{has_mortgage};
-ghost use Rattle.land_acts.specs.Mutations.Planning.{first_that_holds};
+ghost use Rattle.land_acts.specs.Mutations.Discharging.{is_mortgage_at};
+ghost use Rattle.land_acts.specs.Mutations.Planning.{first_refusal_of};
 
 use crate::mutations::planning::Slice;
 use crate::mutations::refusal::Refusal;
@@ -14,13 +14,13 @@ use std::alloc::{AllocError, Global};
 
 /// Returns the first refusal of a discharge whose condition holds: 202, 204, 212 or 217.
 pub(crate) fn refusal(slice: &Slice, it: &Discharge, stamp: Option<i64>) -> Option<Refusal>
-    ensures { result ≡ first_that_holds (discharge_refusals slice.now it.now stamp) }
+    ensures { result ≡ first_refusal_of (discharge_refusals slice.now it.now stamp) }
 {
     if !slice.stands(Kind::Unit, it.unit) {
         Some(Refusal::NoSuchUnit)
     } else if !has_entry_in(slice, it.unit, it.mortgage) {
         Some(Refusal::NoSuchRight)
-    } else if !has_mortgage(slice, it.mortgage) {
+    } else if !is_mortgage_at(slice, it.mortgage) {
         Some(Refusal::NotMortgage)
     } else if stamp.is_none() {
         Some(Refusal::ClockOut)
@@ -40,8 +40,8 @@ fn has_entry_in(slice: &Slice, unit: u64, number: u64) -> bool
 }
 
 /// Returns whether a mortgage exists at a number.
-fn has_mortgage(slice: &Slice, number: u64) -> bool
-    ensures { result ≡ has_mortgage slice.now number }
+fn is_mortgage_at(slice: &Slice, number: u64) -> bool
+    ensures { result ≡ is_mortgage_at slice.now number }
 {
     match slice.rrrs.get(number) {
         Some(entry) => entry.class.rank().is_some(),

@@ -4,19 +4,19 @@ ghost use Rattle.std.specs.List.{list_all, list_any};
 ghost use Rattle.land_acts.specs.Mutations.Areas.{outlines_at};
 ghost use Rattle.land_acts.specs.Mutations.Grounds.{are_same_ground};
 ghost use Rattle.land_acts.specs.Mutations.Merging.{are_same_entries, entries_of_others, has_unlike};
-ghost use Rattle.land_acts.specs.Mutations.Merging.{is_named, is_parcel_named, is_same_class, is_same_entry};
-ghost use Rattle.land_acts.specs.Mutations.Merging.{is_same_mark, is_unlike, keeps_parcel, lacks_parcel};
-ghost use Rattle.land_acts.specs.Mutations.Merging.{lacks_unit, merger_change, merger_refusals, times_in};
+ghost use Rattle.land_acts.specs.Mutations.Merging.{is_unit_of_merger, is_parcel_named, is_same_class, is_same_entry};
+ghost use Rattle.land_acts.specs.Mutations.Merging.{are_equally_checked, is_unlike, keeps_parcel, lacks_parcel};
+ghost use Rattle.land_acts.specs.Mutations.Merging.{lacks_unit, merger_change, merger_refusals, count_in};
 ghost use Rattle.land_acts.specs.Mutations.Merging.{would_have_more_parcels};
-ghost use Rattle.land_acts.specs.Mutations.Planning.{first_that_holds};
-ghost use Rattle.land_acts.specs.Mutations.Subdividing.{entries_of};
+ghost use Rattle.land_acts.specs.Mutations.Planning.{first_refusal_of};
+ghost use Rattle.land_acts.specs.Mutations.Subdividing.{list_entries_of};
 ghost use Rattle.land_core.specs.Contents.{is_same_share};
 ghost use Rattle.land_core.specs.Entries.{has};
 
 use crate::mutations::grounds::{are_same_ground, outlines_at};
-use crate::mutations::planning::{Slice, lacks_numbers};
+use crate::mutations::planning::{Slice, runs_out_of_numbers};
 use crate::mutations::refusal::Refusal;
-use crate::mutations::subdivide::parcels_beside;
+use crate::mutations::subdivide::count_other_parcels;
 use crate::mutations::transfer::is_checked;
 use land_core::change::Change;
 use land_core::duplicate::Duplicate;
@@ -37,7 +37,7 @@ pub(crate) fn refusal(
     it: &Merger,
     stamp: Option<i64>,
 ) -> Result<Option<Refusal>, AllocError>
-    ensures { IfOk result (λ first. first ≡ first_that_holds (merger_refusals slice.now it.now stamp)) }
+    ensures { IfOk result (λ first. first ≡ first_refusal_of (merger_refusals slice.now it.now stamp)) }
 {
     let first = if lacks_unit(slice, it) {
         Some(Refusal::NoSuchUnit)
@@ -45,7 +45,7 @@ pub(crate) fn refusal(
         Some(Refusal::NoSuchParcel)
     } else if has_unlike(slice, it) {
         Some(Refusal::UnitsUnlike)
-    } else if lacks_numbers(slice, 1) || would_have_more_parcels(slice, it) {
+    } else if runs_out_of_numbers(slice, 1) || would_have_more_parcels(slice, it) {
         Some(Refusal::TooMany)
     } else if stamp.is_none() {
         Some(Refusal::ClockOut)
@@ -86,14 +86,14 @@ fn is_parcel_named(slice: &Slice, it: &Merger, number: u64) -> bool
     ensures { result ≡ is_parcel_named slice.now it.now number }
 {
     match slice.parcels.get(number) {
-        Some(parcel) => is_named(it, parcel.unit),
+        Some(parcel) => is_unit_of_merger(it, parcel.unit),
         None => false,
     }
 }
 
 /// Returns whether a unit is one of the units of the merger.
-fn is_named(it: &Merger, unit: u64) -> bool
-    ensures { result ≡ is_named it.now unit }
+fn is_unit_of_merger(it: &Merger, unit: u64) -> bool
+    ensures { result ≡ is_unit_of_merger it.now unit }
 {
     unit == it.unit || lists_number(it.others.as_slice(), unit)
 }
@@ -124,7 +124,7 @@ fn is_unlike(slice: &Slice, it: &Merger, other: u64) -> bool
     ensures { result ≡ is_unlike slice.now it.now other }
 {
     keeps_parcel(slice, it, other)
-        || !is_same_mark(is_checked(slice, other), is_checked(slice, it.unit))
+        || !are_equally_checked(is_checked(slice, other), is_checked(slice, it.unit))
         || !are_same_entries(slice, other, it.unit)
 }
 
@@ -132,38 +132,38 @@ fn is_unlike(slice: &Slice, it: &Merger, other: u64) -> bool
 fn keeps_parcel(slice: &Slice, it: &Merger, unit: u64) -> bool
     ensures { result ≡ keeps_parcel slice.now it.now unit }
 {
-    0 < parcels_beside(slice, unit, it.parcels.as_slice())
+    0 < count_other_parcels(slice, unit, it.parcels.as_slice())
 }
 
 /// Returns whether two units are both checked or both not.
-fn is_same_mark(checked: bool, other: bool) -> bool
-    ensures { result ≡ is_same_mark checked other }
+fn are_equally_checked(checked: bool, other: bool) -> bool
+    ensures { result ≡ are_equally_checked checked other }
 {
     checked == other
 }
 
 /// Returns whether two units have the same entries, each the same number of times.
 fn are_same_entries(slice: &Slice, unit: u64, other: u64) -> bool
-    ensures { result ≡ are_same_entries (entries_of slice.now unit) (entries_of slice.now other) }
+    ensures { result ≡ are_same_entries (list_entries_of slice.now unit) (list_entries_of slice.now other) }
 {
-    are_as_often(slice, unit, unit, other) && are_as_often(slice, other, unit, other)
+    occur_equally_often(slice, unit, unit, other) && occur_equally_often(slice, other, unit, other)
 }
 
 /// Returns whether each entry of the unit `listed` occurs the same number of times in `unit` and in `other`.
-fn are_as_often(slice: &Slice, listed: u64, unit: u64, other: u64) -> bool
-    ensures { result ≡ list_all (λ e. nat_eq (times_in (entries_of slice.now unit) e)
-        (times_in (entries_of slice.now other) e)) (entries_of slice.now listed) }
+fn occur_equally_often(slice: &Slice, listed: u64, unit: u64, other: u64) -> bool
+    ensures { result ≡ list_all (λ e. nat_eq (count_in (list_entries_of slice.now unit) e)
+        (count_in (list_entries_of slice.now other) e)) (list_entries_of slice.now listed) }
 {
     slice
         .rrrs
         .iter()
         .filter(|(_, entry)| entry.unit == listed)
-        .all(|(_, entry)| times_in(slice, unit, entry) == times_in(slice, other, entry))
+        .all(|(_, entry)| count_in(slice, unit, entry) == count_in(slice, other, entry))
 }
 
 /// Returns the number of times that an entry occurs in a unit.
-fn times_in(slice: &Slice, unit: u64, it: &RrrRecord) -> usize
-    ensures { result ≡ times_in (entries_of slice.now unit) it.now }
+fn count_in(slice: &Slice, unit: u64, it: &RrrRecord) -> usize
+    ensures { result ≡ count_in (list_entries_of slice.now unit) it.now }
 {
     slice
         .rrrs
@@ -223,7 +223,7 @@ fn is_same_share(share: Fraction, other: Fraction) -> bool
 fn would_have_more_parcels(slice: &Slice, it: &Merger) -> bool
     ensures { result ≡ would_have_more_parcels slice.now it.now }
 {
-    256 <= parcels_beside(slice, it.unit, it.parcels.as_slice())
+    256 <= count_other_parcels(slice, it.unit, it.parcels.as_slice())
 }
 
 /// Returns the change: the new parcel replaces the listed ones, and the other units end with their entries.

@@ -2,9 +2,9 @@
 ghost use Rattle.std.specs.Prelude.{◌≡◌, ◌≤◌, IfOk};
 ghost use Rattle.land_acts.specs.Mutations.Mortgaging.{greatest, mortgage_change, mortgage_refusals};
 ghost use Rattle.land_acts.specs.Mutations.Mortgaging.{next_rank, rank_in, ranks_in};
-ghost use Rattle.land_acts.specs.Mutations.Planning.{would_crowd, first_that_holds};
+ghost use Rattle.land_acts.specs.Mutations.Planning.{would_exceed_entries, first_refusal_of};
 
-use crate::mutations::planning::{Slice, lacks_numbers, would_crowd};
+use crate::mutations::planning::{Slice, runs_out_of_numbers, would_exceed_entries};
 use crate::mutations::refusal::Refusal;
 use land_core::change::Change;
 use land_core::content::Mortgage;
@@ -17,13 +17,13 @@ use std::alloc::{AllocError, Global};
 
 /// Returns the first refusal of a mortgage whose condition holds: 202, 205, 210, 211 or 217.
 pub(crate) fn refusal(slice: &Slice, it: &Mortgage, stamp: Option<i64>) -> Option<Refusal>
-    ensures { result ≡ first_that_holds (mortgage_refusals slice.now it.now stamp) }
+    ensures { result ≡ first_refusal_of (mortgage_refusals slice.now it.now stamp) }
 {
     if !slice.stands(Kind::Unit, it.unit) {
         Some(Refusal::NoSuchUnit)
     } else if !slice.stands(Kind::Party, it.creditor) {
         Some(Refusal::NoSuchParty)
-    } else if lacks_numbers(slice, 1) || would_crowd(slice, it.unit) {
+    } else if runs_out_of_numbers(slice, 1) || would_exceed_entries(slice, it.unit) {
         Some(Refusal::TooMany)
     } else if !slice.holds(it.creditor, Role::Bank) {
         Some(Refusal::NotBank)

@@ -1,8 +1,8 @@
 //! The parts that all plans share.
 ghost use Rattle.std.specs.Prelude.{◌≡◌, ◌≤◌, ◌+◌, IfOk};
 ghost use Rattle.land_acts.specs.Mutations.Numbering.{numbers_from};
-ghost use Rattle.land_acts.specs.Mutations.Planning.{document_source, done_on, lacks_numbers, numbers_end};
-ghost use Rattle.land_acts.specs.Mutations.Planning.{would_crowd};
+ghost use Rattle.land_acts.specs.Mutations.Planning.{document_source, done_on, runs_out_of_numbers, numbers_end};
+ghost use Rattle.land_acts.specs.Mutations.Planning.{would_exceed_entries};
 
 use land_core::change::Done;
 use land_core::contents::rrr_count;
@@ -20,15 +20,15 @@ pub(crate) const NUMBERS_END: u64 = 1_000_000_001;
 pub type Slice = Register;
 
 /// Returns whether `count` new objects would need more numbers.
-pub fn lacks_numbers(slice: &Slice, count: u128) -> bool
-    ensures { result ≡ lacks_numbers slice.now count }
+pub fn runs_out_of_numbers(slice: &Slice, count: u128) -> bool
+    ensures { result ≡ runs_out_of_numbers slice.now count }
 {
     u128::from(NUMBERS_END) < u128::from(slice.next).saturating_add(count)
 }
 
 /// Returns whether a unit would have more than 256 entries with one more.
-pub fn would_crowd(slice: &Slice, unit: u64) -> bool
-    ensures { result ≡ would_crowd slice.now unit 1 }
+pub fn would_exceed_entries(slice: &Slice, unit: u64) -> bool
+    ensures { result ≡ would_exceed_entries slice.now unit 1 }
 {
     256 <= rrr_count(slice, unit)
 }

@@ -4,16 +4,16 @@ ghost use Rattle.std.specs.Prelude.{OnOk};
 ghost use Rattle.std.specs.Option.{option_map_or};
 ghost use Rattle.land_acts.specs.Mutations.Areas.{outlines_at};
 ghost use Rattle.land_acts.specs.Mutations.Grounds.{are_same_ground};
-ghost use Rattle.land_acts.specs.Mutations.Numbering.{numbered};
-ghost use Rattle.land_acts.specs.Mutations.Planning.{first_that_holds, numbers_end};
-ghost use Rattle.land_acts.specs.Mutations.Subdividing.{all_parts, copies_made, entries_of, has_parcel_in};
-ghost use Rattle.land_acts.specs.Mutations.Subdividing.{in_unit, origin_of, outlines_of, parcels_beside};
-ghost use Rattle.land_acts.specs.Mutations.Subdividing.{parcels_made, staying, subdivision_change};
+ghost use Rattle.land_acts.specs.Mutations.Numbering.{with_numbers_from};
+ghost use Rattle.land_acts.specs.Mutations.Planning.{first_refusal_of, numbers_end};
+ghost use Rattle.land_acts.specs.Mutations.Subdividing.{all_parts, copies_made, list_entries_of, has_parcel_in};
+ghost use Rattle.land_acts.specs.Mutations.Subdividing.{in_unit, origin_of, outlines_of, count_other_parcels};
+ghost use Rattle.land_acts.specs.Mutations.Subdividing.{parcels_made, count_staying, subdivision_change};
 ghost use Rattle.land_acts.specs.Mutations.Subdividing.{subdivision_count, subdivision_refusals, units_made};
 ghost use Rattle.land_acts.specs.Mutations.Subdividing.{would_have_many_parcels};
 
 use crate::mutations::grounds::{are_same_ground, outlines_at, outlines_of_parts};
-use crate::mutations::planning::{Slice, lacks_numbers};
+use crate::mutations::planning::{Slice, runs_out_of_numbers};
 use crate::mutations::refusal::Refusal;
 use crate::mutations::transfer::is_checked;
 use land_core::change::Change;
@@ -38,13 +38,13 @@ pub(crate) fn refusal(
     it: &Subdivision,
     stamp: Option<i64>,
 ) -> Result<Option<Refusal>, AllocError>
-    ensures { IfOk result (λ first. first ≡ first_that_holds (subdivision_refusals slice.now it.now stamp)) }
+    ensures { IfOk result (λ first. first ≡ first_refusal_of (subdivision_refusals slice.now it.now stamp)) }
 {
     let first = if !slice.stands(Kind::Unit, it.unit) {
         Some(Refusal::NoSuchUnit)
     } else if !has_parcel_in(slice, it.unit, it.parcel) {
         Some(Refusal::NoSuchParcel)
-    } else if lacks_numbers(slice, count(slice, it)) || would_have_many_parcels(slice, it) {
+    } else if runs_out_of_numbers(slice, count(slice, it)) || would_have_many_parcels(slice, it) {
         Some(Refusal::TooMany)
     } else if stamp.is_none() {
         Some(Refusal::ClockOut)
@@ -104,20 +104,20 @@ fn numbers_for(copies: u128, new_unit: &Option<Text>) -> u128
 fn would_have_many_parcels(slice: &Slice, it: &Subdivision) -> bool
     ensures { result ≡ would_have_many_parcels slice.now it.now }
 {
-    let standing = parcels_beside(slice, it.unit, &[it.parcel]) as u128;
-    256 < standing + (staying(it.rest.as_slice()) as u128 + 1)
+    let standing = count_other_parcels(slice, it.unit, &[it.parcel]) as u128;
+    256 < standing + (count_staying(it.rest.as_slice()) as u128 + 1)
 }
 
 /// Returns the number of parts that stay in the unit.
-fn staying(parts: &[Part]) -> usize
-    ensures { result ≡ staying parts.now }
+fn count_staying(parts: &[Part]) -> usize
+    ensures { result ≡ count_staying parts.now }
 {
     parts.iter().filter(|part| part.unit.is_none()).count()
 }
 
 /// Returns the number of parcels of a unit, except those that end.
-pub(crate) fn parcels_beside(slice: &Slice, unit: u64, ended: &[u64]) -> usize
-    ensures { result ≡ parcels_beside slice.now unit ended.now }
+pub(crate) fn count_other_parcels(slice: &Slice, unit: u64, ended: &[u64]) -> usize
+    ensures { result ≡ count_other_parcels slice.now unit ended.now }
 {
     slice
         .parcels
@@ -250,9 +250,9 @@ fn push_copies(
     unit: u64,
     new_unit: u64,
 ) -> Result<(), AllocError>
-    requires { new_unit + 2 + length (entries_of slice.now unit) ≤ numbers_end }
+    requires { new_unit + 2 + length (list_entries_of slice.now unit) ≤ numbers_end }
     ensures { OnOk result (rrrs.new ≡ rrrs.old
-        ++ numbered (new_unit + 2) (map_list (in_unit new_unit) (entries_of slice.now unit))) }
+        ++ with_numbers_from (new_unit + 2) (map_list (in_unit new_unit) (list_entries_of slice.now unit))) }
 {
     let mut number = new_unit + 2;
     for (_, entry) in slice.rrrs.iter() {

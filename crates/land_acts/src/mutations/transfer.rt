@@ -1,20 +1,20 @@
 //! The content `transfer`: a share of a right goes to another party.
 ghost use Rattle.std.specs.Prelude.{◌≡◌, ◌≤◌, ◌++◌, ◌∷◌, [], nat_lt, false, is_none, IfOk, OnOk};
 ghost use Rattle.std.specs.Option.{option_map_or};
-ghost use Rattle.land_acts.specs.Mutations.Planning.{first_that_holds, numbers_end};
+ghost use Rattle.land_acts.specs.Mutations.Planning.{first_refusal_of, numbers_end};
 ghost use Rattle.land_acts.specs.Mutations.Transferring.{are_too_fine, are_too_fine_after, are_too_many};
-ghost use Rattle.land_acts.specs.Mutations.Transferring.{given_up, grows_at, held_at, held_by, held_in};
-ghost use Rattle.land_acts.specs.Mutations.Transferring.{held_of, is_above, is_above_one, is_checked};
-ghost use Rattle.land_acts.specs.Mutations.Transferring.{is_held_by, is_itself, is_too_fine, is_too_large};
+ghost use Rattle.land_acts.specs.Mutations.Transferring.{ended_rights, right_of_receiver, right_at, right_by_party, right_in_unit};
+ghost use Rattle.land_acts.specs.Mutations.Transferring.{right_of_class, is_above, is_above_one, is_checked};
+ghost use Rattle.land_acts.specs.Mutations.Transferring.{is_right_held_by, gives_to_itself, is_too_fine, is_too_large};
 ghost use Rattle.land_acts.specs.Mutations.Transferring.{kept, move_change, new_rights, number_after};
-ghost use Rattle.land_acts.specs.Mutations.Transferring.{received, right_entry, share_grown, share_left};
+ghost use Rattle.land_acts.specs.Mutations.Transferring.{entries_of_receiver, right_entry, increased_share, remaining_share};
 ghost use Rattle.land_acts.specs.Mutations.Transferring.{transfer_refusals};
 ghost use Rattle.land_acts.specs.declared.mutations.refusal.Refusal.TheVariants.{ClockOut, SameParty};
 ghost use Rattle.land_core.specs.Changes.{after};
 ghost use Rattle.land_core.specs.Units.{rrr_count, type_shares};
 ghost use Rattle.land_fraction.specs.Wholeness.{common_of};
 
-use crate::mutations::planning::{Slice, lacks_numbers};
+use crate::mutations::planning::{Slice, runs_out_of_numbers};
 use crate::mutations::refusal::Refusal;
 use land_core::change::Change;
 use land_core::content::Transfer;
@@ -28,7 +28,7 @@ use std::cmp::Ordering;
 
 /// A right in a unit.
 #[derive(Clone, Copy, Debug)]
-pub struct Held {
+pub struct HeldRight {
     /// The number of the entry.
     pub number: u64,
     /// The party that has the right.
@@ -47,12 +47,12 @@ pub(crate) fn refusal(
     it: &Transfer,
     stamp: Option<i64>,
 ) -> Result<Option<Refusal>, AllocError>
-    ensures { IfOk result (λ first. first ≡ first_that_holds (transfer_refusals slice.now it.now stamp)) }
+    ensures { IfOk result (λ first. first ≡ first_refusal_of (transfer_refusals slice.now it.now stamp)) }
 {
     if !slice.stands(Kind::Unit, it.unit) {
         return Ok(Some(Refusal::NoSuchUnit));
     }
-    let Some(from) = held_at(slice, it.unit, it.right) else {
+    let Some(from) = right_at(slice, it.unit, it.right) else {
         return Ok(Some(Refusal::NoSuchRight));
     };
     if !slice.stands(Kind::Party, it.receiver) {
@@ -71,13 +71,13 @@ pub(crate) fn refusal(
 }
 
 /// Returns the refusals after 210: 217 or 219.
-fn last_refusal(it: &Transfer, from: &Held, stamp: Option<i64>) -> Option<Refusal>
-    ensures { result ≡ first_that_holds ((ClockOut, is_none stamp) ∷ (SameParty, is_itself it.now from.now)
+fn last_refusal(it: &Transfer, from: &HeldRight, stamp: Option<i64>) -> Option<Refusal>
+    ensures { result ≡ first_refusal_of ((ClockOut, is_none stamp) ∷ (SameParty, gives_to_itself it.now from.now)
         ∷ []) }
 {
     if stamp.is_none() {
         Some(Refusal::ClockOut)
-    } else if is_itself(it, from) {
+    } else if gives_to_itself(it, from) {
         Some(Refusal::SameParty)
     } else {
         None
@@ -87,32 +87,32 @@ fn last_refusal(it: &Transfer, from: &Held, stamp: Option<i64>) -> Option<Refusa
 // ---- the rights of giver and receiver
 
 /// Returns the right of this unit that exists at a number.
-pub(crate) fn held_at(slice: &Slice, unit: u64, number: u64) -> Option<Held>
-    ensures { result ≡ held_at slice.now unit number }
+pub(crate) fn right_at(slice: &Slice, unit: u64, number: u64) -> Option<HeldRight>
+    ensures { result ≡ right_at slice.now unit number }
 {
     match slice.rrrs.get(number) {
-        Some(entry) => held_in(unit, number, entry),
+        Some(entry) => right_in_unit(unit, number, entry),
         None => None,
     }
 }
 
 /// Returns an entry as a right, if it is a right of this unit.
-fn held_in(unit: u64, number: u64, entry: &RrrRecord) -> Option<Held>
-    ensures { result ≡ held_in unit number entry.now }
+fn right_in_unit(unit: u64, number: u64, entry: &RrrRecord) -> Option<HeldRight>
+    ensures { result ≡ right_in_unit unit number entry.now }
 {
     if entry.unit == unit {
-        held_of(number, entry.party, &entry.class)
+        right_of_class(number, entry.party, &entry.class)
     } else {
         None
     }
 }
 
 /// Returns an entry as a right, if it is one.
-fn held_of(number: u64, party: u64, class: &Class) -> Option<Held>
-    ensures { result ≡ held_of number party class.now }
+fn right_of_class(number: u64, party: u64, class: &Class) -> Option<HeldRight>
+    ensures { result ≡ right_of_class number party class.now }
 {
     match class {
-        Class::Right { right_type, share } => Some(Held {
+        Class::Right { right_type, share } => Some(HeldRight {
             number,
             party,
             right_type: *right_type,
@@ -123,19 +123,19 @@ fn held_of(number: u64, party: u64, class: &Class) -> Option<Held>
 }
 
 /// Returns the right of the same type that the receiver already has.
-fn grows_at(slice: &Slice, it: &Transfer, from: &Held) -> Option<Held>
-    ensures { result ≡ grows_at slice.now it.now from.now }
+fn right_of_receiver(slice: &Slice, it: &Transfer, from: &HeldRight) -> Option<HeldRight>
+    ensures { result ≡ right_of_receiver slice.now it.now from.now }
 {
-    held_by(slice, it.unit, it.receiver, from.right_type)
+    right_by_party(slice, it.unit, it.receiver, from.right_type)
 }
 
 /// Returns the right of a type that a party has in a unit. There is at most one.
-fn held_by(slice: &Slice, unit: u64, party: u64, right_type: RightType) -> Option<Held>
-    ensures { result ≡ held_by slice.now unit party right_type }
+fn right_by_party(slice: &Slice, unit: u64, party: u64, right_type: RightType) -> Option<HeldRight>
+    ensures { result ≡ right_by_party slice.now unit party right_type }
 {
     for (number, entry) in slice.rrrs.iter() {
-        if let Some(held) = held_in(unit, *number, entry) {
-            if is_held_by(&held, party, right_type) {
+        if let Some(held) = right_in_unit(unit, *number, entry) {
+            if is_right_held_by(&held, party, right_type) {
                 return Some(held);
             }
         }
@@ -143,8 +143,8 @@ fn held_by(slice: &Slice, unit: u64, party: u64, right_type: RightType) -> Optio
     None
 }
 
-fn is_held_by(held: &Held, party: u64, right_type: RightType) -> bool
-    ensures { result ≡ is_held_by party right_type held.now }
+fn is_right_held_by(held: &HeldRight, party: u64, right_type: RightType) -> bool
+    ensures { result ≡ is_right_held_by party right_type held.now }
 {
     held.party == party && held.right_type.is(right_type)
 }
@@ -152,21 +152,21 @@ fn is_held_by(held: &Held, party: u64, right_type: RightType) -> bool
 // ---- the refusals
 
 /// Returns whether the receiver is the party that gives.
-fn is_itself(it: &Transfer, from: &Held) -> bool
-    ensures { result ≡ is_itself it.now from.now }
+fn gives_to_itself(it: &Transfer, from: &HeldRight) -> bool
+    ensures { result ≡ gives_to_itself it.now from.now }
 {
     from.party == it.receiver
 }
 
 /// Returns whether the share is above that of the right, or another receiver would have more than one.
-fn is_too_large(slice: &Slice, it: &Transfer, from: &Held) -> bool
+fn is_too_large(slice: &Slice, it: &Transfer, from: &HeldRight) -> bool
     ensures { result ≡ is_too_large slice.now it.now from.now }
 {
-    is_above(it, from) || !is_itself(it, from) && grows_above_one(slice, it, from)
+    is_above(it, from) || !gives_to_itself(it, from) && exceeds_one(slice, it, from)
 }
 
 /// Returns whether the share is above that of the right.
-fn is_above(it: &Transfer, from: &Held) -> bool
+fn is_above(it: &Transfer, from: &HeldRight) -> bool
     ensures { result ≡ is_above it.now from.now }
 {
     match from.share.cmp(&it.share) {
@@ -176,11 +176,11 @@ fn is_above(it: &Transfer, from: &Held) -> bool
 }
 
 /// Returns whether the receiver would have more than one.
-fn grows_above_one(slice: &Slice, it: &Transfer, from: &Held) -> bool
-    ensures { result ≡ option_map_or (λ to. is_above_one (share_grown it.now to))
-        (grows_at slice.now it.now from.now) false }
+fn exceeds_one(slice: &Slice, it: &Transfer, from: &HeldRight) -> bool
+    ensures { result ≡ option_map_or (λ to. is_above_one (increased_share it.now to))
+        (right_of_receiver slice.now it.now from.now) false }
 {
-    match grows_at(slice, it, from) {
+    match right_of_receiver(slice, it, from) {
         Some(to) => is_above_one(to.share.plus(it.share)),
         None => false,
     }
@@ -207,11 +207,11 @@ fn is_too_fine(share: Result<Fraction, FractionFault>) -> bool
 }
 
 /// Returns whether the denominator of the receiver's new share is above 1,000,000,000.
-fn grows_too_fine(slice: &Slice, it: &Transfer, from: &Held) -> bool
-    ensures { result ≡ option_map_or (λ to. is_too_fine (share_grown it.now to))
-        (grows_at slice.now it.now from.now) false }
+fn becomes_too_fine(slice: &Slice, it: &Transfer, from: &HeldRight) -> bool
+    ensures { result ≡ option_map_or (λ to. is_too_fine (increased_share it.now to))
+        (right_of_receiver slice.now it.now from.now) false }
 {
-    match grows_at(slice, it, from) {
+    match right_of_receiver(slice, it, from) {
         Some(to) => is_too_fine(to.share.plus(it.share)),
         None => false,
     }
@@ -222,14 +222,14 @@ fn are_too_fine(
     alloc: Global,
     slice: &Slice,
     it: &Transfer,
-    from: &Held,
+    from: &HeldRight,
 ) -> Result<bool, AllocError>
     ensures { IfOk result (λ are. are ≡ are_too_fine slice.now it.now from.now) }
 {
-    if is_itself(it, from) {
+    if gives_to_itself(it, from) {
         return Ok(false);
     }
-    if is_too_fine(from.share.minus(it.share)) || grows_too_fine(slice, it, from) {
+    if is_too_fine(from.share.minus(it.share)) || becomes_too_fine(slice, it, from) {
         return Ok(true);
     }
     if !is_checked(slice, it.unit) {
@@ -254,16 +254,16 @@ fn are_too_fine_after(
     alloc: Global,
     slice: &Slice,
     it: &Transfer,
-    from: &Held,
+    from: &HeldRight,
 ) -> Result<bool, AllocError>
     ensures { IfOk result (λ are. are ≡ are_too_fine_after slice.now it.now from.now) }
 {
     let changed = after_move(alloc, slice, it, from)?;
-    lack_common(alloc, &changed, it.unit, from.right_type)
+    have_no_common_denominator(alloc, &changed, it.unit, from.right_type)
 }
 
 /// Returns the slice after the transfer, except for its next number. The only error is out of memory.
-fn after_move(alloc: Global, slice: &Slice, it: &Transfer, from: &Held) -> Result<Slice, AllocError>
+fn after_move(alloc: Global, slice: &Slice, it: &Transfer, from: &HeldRight) -> Result<Slice, AllocError>
     ensures { IfOk result (λ changed. changed
         ≡ after (record (move_change slice.now 0 it.now from.now) { next = slice.now.next }) slice.now) }
 {
@@ -272,7 +272,7 @@ fn after_move(alloc: Global, slice: &Slice, it: &Transfer, from: &Held) -> Resul
 }
 
 /// Returns whether the shares of a type in a unit have no common denominator up to 1,000,000,000.
-fn lack_common(
+fn have_no_common_denominator(
     alloc: Global,
     slice: &Slice,
     unit: u64,
@@ -290,25 +290,25 @@ fn are_too_many(
     alloc: Global,
     slice: &Slice,
     it: &Transfer,
-    from: &Held,
+    from: &HeldRight,
 ) -> Result<bool, AllocError>
     ensures { IfOk result (λ are. are ≡ are_too_many slice.now it.now from.now) }
 {
-    if grows_at(slice, it, from).is_some() {
+    if right_of_receiver(slice, it, from).is_some() {
         return Ok(false);
     }
-    if lacks_numbers(slice, 1) {
+    if runs_out_of_numbers(slice, 1) {
         return Ok(true);
     }
-    is_crowded_after(alloc, slice, it, from)
+    has_too_many_entries_after(alloc, slice, it, from)
 }
 
 /// Returns whether the unit has more than 256 entries after the transfer. The only error is out of memory.
-fn is_crowded_after(
+fn has_too_many_entries_after(
     alloc: Global,
     slice: &Slice,
     it: &Transfer,
-    from: &Held,
+    from: &HeldRight,
 ) -> Result<bool, AllocError>
     ensures { IfOk result (λ is_crowded. is_crowded
         ≡ nat_lt 256 (rrr_count (after (move_change slice.now 0 it.now from.now) slice.now) it.now.unit)) }
@@ -325,13 +325,13 @@ pub(crate) fn change(
     slice: &Slice,
     source: u64,
     it: &Transfer,
-    from: &Held,
+    from: &HeldRight,
 ) -> Result<Change, AllocError>
-    requires { number_after slice.now (grows_at slice.now it.now from.now) ≤ numbers_end }
+    requires { number_after slice.now (right_of_receiver slice.now it.now from.now) ≤ numbers_end }
     ensures { IfOk result (λ change. change ≡ move_change slice.now source it.now from.now) }
 {
     let mut change = change_of_entries(alloc, slice, source, it, from)?;
-    if grows_at(slice, it, from).is_none() {
+    if right_of_receiver(slice, it, from).is_none() {
         change.next = slice.next + 1;
     }
     Ok(change)
@@ -343,12 +343,12 @@ fn change_of_entries(
     slice: &Slice,
     source: u64,
     it: &Transfer,
-    from: &Held,
+    from: &HeldRight,
 ) -> Result<Change, AllocError>
     ensures { IfOk result (λ change. change
         ≡ record (move_change slice.now source it.now from.now) { next = slice.now.next }) }
 {
-    let ended = given_up(alloc, it, from)?;
+    let ended = ended_rights(alloc, it, from)?;
     let mut rrrs = kept(alloc, source, it, from)?;
     receive(&mut rrrs, slice, source, it, from)?;
     let mut change = Change::nothing(alloc, slice.next);
@@ -362,9 +362,9 @@ fn kept(
     alloc: Global,
     source: u64,
     it: &Transfer,
-    from: &Held,
+    from: &HeldRight,
 ) -> Result<Sequence<(u64, RrrRecord)>, AllocError>
-    ensures { IfOk result (λ rrrs. rrrs ≡ kept source it.now from.now (share_left it.now from.now)) }
+    ensures { IfOk result (λ rrrs. rrrs ≡ kept source it.now from.now (remaining_share it.now from.now)) }
 {
     match from.share.minus(it.share) {
         Ok(share) => {
@@ -376,8 +376,8 @@ fn kept(
 }
 
 /// Returns the number of the right if no share remains, because the right ends then.
-fn given_up(alloc: Global, it: &Transfer, from: &Held) -> Result<NumberList, AllocError>
-    ensures { IfOk result (λ ended. ended ≡ given_up from.now (share_left it.now from.now)) }
+fn ended_rights(alloc: Global, it: &Transfer, from: &HeldRight) -> Result<NumberList, AllocError>
+    ensures { IfOk result (λ ended. ended ≡ ended_rights from.now (remaining_share it.now from.now)) }
 {
     match from.share.minus(it.share) {
         Ok(_) => Ok(Sequence::new(alloc)),
@@ -391,12 +391,12 @@ fn receive(
     slice: &Slice,
     source: u64,
     it: &Transfer,
-    from: &Held,
+    from: &HeldRight,
 ) -> Result<(), AllocError>
     ensures { OnOk result (rrrs.new ≡ rrrs.old
-        ++ received slice.now source it.now from.now (grows_at slice.now it.now from.now)) }
+        ++ entries_of_receiver slice.now source it.now from.now (right_of_receiver slice.now it.now from.now)) }
 {
-    let Some(to) = grows_at(slice, it, from) else {
+    let Some(to) = right_of_receiver(slice, it, from) else {
         let entry = right_entry(it.unit, it.receiver, from.right_type, it.share, source);
         return rrrs.push((slice.next, entry));
     };
@@ -430,11 +430,11 @@ pub(crate) fn made(
     alloc: Global,
     slice: &Slice,
     it: &Transfer,
-    from: &Held,
+    from: &HeldRight,
 ) -> Result<NumberList, AllocError>
-    ensures { IfOk result (λ made. made ≡ new_rights slice.now (grows_at slice.now it.now from.now)) }
+    ensures { IfOk result (λ made. made ≡ new_rights slice.now (right_of_receiver slice.now it.now from.now)) }
 {
-    match grows_at(slice, it, from) {
+    match right_of_receiver(slice, it, from) {
         Some(_) => Ok(Sequence::new(alloc)),
         None => Sequence::of_one(alloc, slice.next),
     }

@@ -42,12 +42,12 @@ abbrev pub Places : Type 0
 Places = Bor (List (Bor Text))
 
 -- The choices are the words for roles and kinds, at any place in memory.
-pub record AreSpelled (choices : Choices) : Type 0 where
+pub record AreChoiceWords (choices : Choices) : Type 0 where
   pub roles : texts choices.roles.now ≡ role_words
   pub kinds : texts choices.kinds.now ≡ kind_words
 
 -- The value of a word, or none has this word.
 module _ {A : Type 0} (spell : A → Text) where
-  abbrev pub IsSpelled : Text → Option A → Type 0
-  IsSpelled word (Some a) = spell a ≡ word
-  IsSpelled word None = (a : A) → spell a ≡ word → ⊥
+  abbrev pub IsWordOf : Text → Option A → Type 0
+  IsWordOf word (Some a) = spell a ≡ word
+  IsWordOf word None = (a : A) → spell a ≡ word → ⊥

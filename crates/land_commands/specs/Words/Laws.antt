@@ -2,7 +2,7 @@
 use Rattle.std.specs.Prelude.{◌≡◌, ◌≢◌, ◌≤◌, ℕ, pos, List, [], ◌∷◌, ◌++◌, Some, None, codes}
 use Rattle.std.specs.Str.Parse.{IsNumeral, digits_value}
 use Rattle.clap.specs.Words.{Text, fault_of}
-use Rattle.land_commands.specs.Words.Choices.{AreSpelled, kind_word, role_word}
+use Rattle.land_commands.specs.Words.Choices.{AreChoiceWords, kind_word, role_word}
 use Rattle.land_commands.specs.Words.Commands.{land_app}
 use Rattle.land_commands.specs.Words.Names.{NamesBy}
 use Rattle.land_commands.specs.Words.PlainCommands.{PlainCommand, to_talk, to_make, to_serve, to_check}
@@ -30,7 +30,7 @@ OneCommandLaw =
 -- Arguments in which `clap` finds no fault name a command.
 abbrev pub FaultlessWordsLaw : Type 0
 FaultlessWordsLaw =
-    (choices : Choices) (words : List Text) → AreSpelled choices → fault_of (land_app choices) words ≡ []
+    (choices : Choices) (words : List Text) → AreChoiceWords choices → fault_of (land_app choices) words ≡ []
     → (order : PlainCommand) × NamesBy choices words order
 
 -- `talk --clock MS` names `talk`, if MS is a moment in decimal digits, for any name of the program.
@@ -68,7 +68,7 @@ abbrev pub PlainExtractLaw : Type 0
 PlainExtractLaw =
     (choices : Choices) (program file clock_digits party_digits : Text) (clock party : ℕ)
     (role : Role) (kind : Kind)
-    → AreSpelled choices → IsPlainText file → IsNumeralIn clock_digits 0 4102444799999 clock
+    → AreChoiceWords choices → IsPlainText file → IsNumeralIn clock_digits 0 4102444799999 clock
     → IsNumeralIn party_digits 1 1000000000 party
     → NamesBy choices (program ∷ codes "extract" ∷ extract_words file clock_digits party_digits role kind)
     (to_extract file (pos clock) party role kind None)

@@ -4,7 +4,7 @@ use Rattle.std.specs.Str.Parse.{signed_digits_value}
 use Rattle.clap.specs.Words.{IsSignedIn, Row, Text, fault_of, first_of, kind_of, subcommand_of}
 use Rattle.clap.specs.declared.error.Error.{Error}
 use Rattle.clap.specs.declared.error.kind.ErrorKind.TheVariants as kind
-use Rattle.land_commands.specs.Words.Choices.{AreSpelled, kind_word, role_word}
+use Rattle.land_commands.specs.Words.Choices.{AreChoiceWords, kind_word, role_word}
 use Rattle.land_commands.specs.Words.Commands.{land_app}
 use Rattle.land_commands.specs.Words.PlainCommands.{PlainCommand, to_talk, to_make, to_serve, to_check}
 use Rattle.land_commands.specs.Words.PlainCommands.{to_migrate, to_extract, order_of}
@@ -24,25 +24,25 @@ pub record HasNumber (rows : List Row) (option : Text) (least most number : ℤ)
   pub value : signed_digits_value 10 text ≡ number
 
 -- The number of an option, or it has none.
-abbrev pub IsNumberOf : List Row → Text → (least most : ℤ) → Option ℤ → Type 0
-IsNumberOf rows option least most (Some number) = HasNumber rows option least most number
-IsNumberOf rows option least most None = (number : ℤ) → HasNumber rows option least most number → ⊥
+abbrev pub IsOptionNumber : List Row → Text → (least most : ℤ) → Option ℤ → Type 0
+IsOptionNumber rows option least most (Some number) = HasNumber rows option least most number
+IsOptionNumber rows option least most None = (number : ℤ) → HasNumber rows option least most number → ⊥
 
 -- The number of an option, or the option is absent.
-abbrev pub HasMaybe : List Row → Text → (least most : ℤ) → Option ℤ → Type 0
-HasMaybe rows option least most (Some number) = HasNumber rows option least most number
-HasMaybe rows option least most None = first_of option rows ≡ None
+abbrev pub HasOptionalNumber : List Row → Text → (least most : ℤ) → Option ℤ → Type 0
+HasOptionalNumber rows option least most (Some number) = HasNumber rows option least most number
+HasOptionalNumber rows option least most None = first_of option rows ≡ None
 
 -- The number of an optional option, or its value is not valid.
-abbrev pub IsMaybeOf : List Row → Text → (least most : ℤ) → Option (Option ℤ) → Type 0
-IsMaybeOf rows option least most (Some maybe) = HasMaybe rows option least most maybe
-IsMaybeOf rows option least most None = (maybe : Option ℤ) → HasMaybe rows option least most maybe → ⊥
+abbrev pub IsOptionalNumber : List Row → Text → (least most : ℤ) → Option (Option ℤ) → Type 0
+IsOptionalNumber rows option least most (Some maybe) = HasOptionalNumber rows option least most maybe
+IsOptionalNumber rows option least most None = (maybe : Option ℤ) → HasOptionalNumber rows option least most maybe → ⊥
 
 -- The value whose word is given for an option, or the word is of no value.
 module _ {A : Type 0} (spell : A → Text) where
-  abbrev pub IsChosenOf : List Row → Text → Option A → Type 0
-  IsChosenOf rows option (Some a) = first_of option rows ≡ Some (spell a)
-  IsChosenOf rows option None = (a : A) → first_of option rows ≡ Some (spell a) → ⊥
+  abbrev pub IsChoiceOf : List Row → Text → Option A → Type 0
+  IsChoiceOf rows option (Some a) = first_of option rows ≡ Some (spell a)
+  IsChoiceOf rows option None = (a : A) → first_of option rows ≡ Some (spell a) → ⊥
 
 -- The options give this party and role as the caller.
 abbrev pub HasCaller : List Row → (party : ℕ) → Role → Type 0
@@ -51,9 +51,9 @@ HasCaller rows party role =
     × (first_of (codes "role") rows ≡ Some (role_word role))
 
 -- The caller, or the options give none.
-abbrev pub IsCallerOf : List Row → Option Caller → Type 0
-IsCallerOf rows (Some caller) = HasCaller rows caller.party caller.role
-IsCallerOf rows None = (party : ℕ) (role : Role) → HasCaller rows party role → ⊥
+abbrev pub IsCallerOption : List Row → Option Caller → Type 0
+IsCallerOption rows (Some caller) = HasCaller rows caller.party caller.role
+IsCallerOption rows None = (party : ℕ) (role : Role) → HasCaller rows party role → ⊥
 
 -- The name of a command.
 abbrev pub word_of : PlainCommand → Text
@@ -78,44 +78,44 @@ HasOptions rows (to_extract file clock party role kind at) =
     (first_of (codes "file") rows ≡ Some file)
     × HasNumber rows (codes "clock") (pos 0) last_moment clock × HasCaller rows party role
     × (first_of (codes "kind") rows ≡ Some (kind_word kind))
-    × HasMaybe rows (codes "at") (pos 0) last_moment at
+    × HasOptionalNumber rows (codes "at") (pos 0) last_moment at
 
 -- `clap` found this command with its options.
-abbrev pub IsFoundAs : Option (Text × List Row) → PlainCommand → Type 0
-IsFoundAs found order = (rows : List Row) × (found ≡ Some (word_of order, rows)) × HasOptions rows order
+abbrev pub IsCommandIn : Option (Text × List Row) → PlainCommand → Type 0
+IsCommandIn found order = (rows : List Row) × (found ≡ Some (word_of order, rows)) × HasOptions rows order
 
 -- The arguments name a command, with these words for roles and kinds: `clap` finds no fault, and finds the
 -- command with its options.
 pub record NamesBy (choices : Choices) (words : List Text) (order : PlainCommand) : Type 0 where
   pub faultless : fault_of (land_app choices) words ≡ []
-  pub found : IsFoundAs (subcommand_of (land_app choices) words) order
+  pub found : IsCommandIn (subcommand_of (land_app choices) words) order
 
 -- The arguments name a command, for choices at some place in memory.
 abbrev pub Names : List Text → PlainCommand → Type 0
-Names words order = (choices : Choices) × AreSpelled choices × NamesBy choices words order
+Names words order = (choices : Choices) × AreChoiceWords choices × NamesBy choices words order
 
 -- `clap` finds a fault in the arguments.
-abbrev pub AreFaulty : List Text → Type 0
-AreFaulty words = (choices : Choices) × AreSpelled choices × (fault_of (land_app choices) words ≢ [])
+abbrev pub HaveFault : List Text → Type 0
+HaveFault words = (choices : Choices) × AreChoiceWords choices × (fault_of (land_app choices) words ≢ [])
 
 -- The command that was found, or none was.
-abbrev pub IsNamedIn : Option (Text × List Row) → Option PlainCommand → Type 0
-IsNamedIn found (Some order) = IsFoundAs found order
-IsNamedIn found None = (order : PlainCommand) → IsFoundAs found order → ⊥
+abbrev pub FindsCommand : Option (Text × List Row) → Option PlainCommand → Type 0
+FindsCommand found (Some order) = IsCommandIn found order
+FindsCommand found None = (order : PlainCommand) → IsCommandIn found order → ⊥
 
 -- The command with this name and the options that were found, or they are not valid for it.
-abbrev pub IsOrderOf : (word : Text) → List Row → Option PlainCommand → Type 0
-IsOrderOf word rows (Some order) = (word_of order ≡ word) × HasOptions rows order
-IsOrderOf word rows None = (order : PlainCommand) → word_of order ≡ word → HasOptions rows order → ⊥
+abbrev pub HasOptionsOf : (word : Text) → List Row → Option PlainCommand → Type 0
+HasOptionsOf word rows (Some order) = (word_of order ≡ word) × HasOptions rows order
+HasOptionsOf word rows None = (order : PlainCommand) → word_of order ≡ word → HasOptions rows order → ⊥
 
 -- An error of `clap` other than out of memory rejects the arguments.
-abbrev pub IsRefusalOf : Error → WordsFault → Type 0
-IsRefusalOf error (Refused text) = kind_of error ≢ kind.OutOfMemory
-IsRefusalOf error NoMemory = Unit {0}
+abbrev pub IsFaultOfError : Error → WordsFault → Type 0
+IsFaultOfError error (Refused text) = kind_of error ≢ kind.OutOfMemory
+IsFaultOfError error NoMemory = Unit {0}
 
 -- The result of reading the arguments: the command that they name. If they are rejected, `clap` finds a fault
 -- in them.
 abbrev pub IsReading : List Text → Result Command WordsFault → Type 0
 IsReading words (Ok command) = Names words (order_of command)
-IsReading words (Err (Refused text)) = AreFaulty words
+IsReading words (Err (Refused text)) = HaveFault words
 IsReading words (Err NoMemory) = Unit {0}

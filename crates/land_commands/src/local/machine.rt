@@ -1,7 +1,7 @@
 //! Runs work on the local host.
 use crate::host::Host;
 use crate::local_host::LocalHost;
-use land_desk::service::stopwatch::Stopwatch;
+use land_desk::service::timer::RequestTimer;
 use std::rt::HostRuntime;
 
 /// Work for any host.
@@ -15,7 +15,7 @@ pub trait Work {
 
 /// Does the work on the local host and returns its result.
 pub fn on_local_host<W: Work>(rt: &HostRuntime, work: W) -> W::Outcome {
-    let watch = Stopwatch::new(*rt);
+    let watch = RequestTimer::new(*rt);
     let mut host = LocalHost::new(rt, &watch);
     work.done_on(&mut host)
 }

@@ -1,7 +1,7 @@
 //! The values of options that have a fixed set of words.
 ghost use Rattle.std.specs.Prelude.{◌≡◌};
 ghost use Rattle.clap.specs.Walk.{texts};
-ghost use Rattle.land_commands.specs.Words.Choices.{AreSpelled, kind_words, role_words};
+ghost use Rattle.land_commands.specs.Words.Choices.{AreChoiceWords, kind_words, role_words};
 
 /// The words for roles and kinds, passed to `clap`.
 #[derive(Clone, Copy, Debug)]
@@ -14,7 +14,7 @@ pub struct Choices<'a> {
 
 /// Returns the words for roles and kinds.
 pub fn all_choices<'a>() -> Choices<'a>
-    ensures { AreSpelled result }
+    ensures { AreChoiceWords result }
 {
     Choices {
         roles: role_words(),

@@ -3,7 +3,7 @@ ghost use Rattle.std.specs.Prelude.{◌≡◌, IfOk, map, option_map, string_byt
 ghost use Rattle.clap.specs.Kinds.{FailsBy};
 ghost use Rattle.clap.specs.Words.{fault_of, first_of, found_of, rows_of, subcommand_of, subcommand_rows_of};
 ghost use Rattle.land_commands.specs.Words.Commands.{land_app};
-ghost use Rattle.land_commands.specs.Words.Names.{IsNumberOf};
+ghost use Rattle.land_commands.specs.Words.Names.{IsOptionNumber};
 
 use crate::words::choices::Choices;
 use crate::words::commands::land;
@@ -26,7 +26,7 @@ pub fn matches<'a>(
 }
 
 /// Returns the name and the options of the subcommand.
-pub fn command_found<'m, 'a>(found: &'m ArgMatches<'a>) -> Option<(&'a str, &'m ArgMatches<'a>)>
+pub fn subcommand_found<'m, 'a>(found: &'m ArgMatches<'a>) -> Option<(&'a str, &'m ArgMatches<'a>)>
     ensures { option_map (λ p. (p.0.now, rows_of (found_of p.1.now))) result ≡ subcommand_rows_of found.now }
 {
     found.subcommand()
@@ -41,7 +41,7 @@ pub fn text_of<'a>(found: &ArgMatches<'a>, option: &str) -> Option<&'a str>
 
 /// Returns the value of an option as a number, if it is one from `least` to `most`.
 pub fn number_of(found: &ArgMatches<'_>, option: &str, least: i64, most: i64) -> Option<i64>
-    ensures { IsNumberOf (rows_of (found_of found.now)) option.now least most result }
+    ensures { IsOptionNumber (rows_of (found_of found.now)) option.now least most result }
 {
     let number = text_of(found, option)?.parse::<i64>().ok()?;
     if least <= number && number <= most {

@@ -15,7 +15,7 @@ use std::alloc::Global;
 pub const LAST_PORT: i64 = 65_535;
 
 /// The largest number of connections to serve.
-pub const MOST_CONNECTIONS: i64 = 1_000_000;
+pub const MAX_CONNECTIONS: i64 = 1_000_000;
 
 /// The largest number of a party that may be the caller.
 pub const LAST_PARTY: i64 = 1_000_000_000;
@@ -86,7 +86,7 @@ pub fn connections_option<'a>(alloc: Global) -> Arg<'a>
     ensures { IsOption connections_rule result }
 {
     let help = "How many connections to answer before it ends, 1 to 1000000";
-    let counts = clap::value_parser!(u32).range(1..=MOST_CONNECTIONS);
+    let counts = clap::value_parser!(u32).range(1..=MAX_CONNECTIONS);
     option(alloc, "connections", "COUNT", help, true, counts)
 }
 

@@ -1,17 +1,17 @@
 //! Reads the command that the arguments name.
 ghost use Rattle.std.specs.Prelude.{map, pos, codes, option_map, string_bytes};
 ghost use Rattle.clap.specs.Words.{found_of, rows_of, subcommand_rows_of};
-ghost use Rattle.land_commands.specs.Words.Choices.{IsSpelled, kind_word, role_word};
-ghost use Rattle.land_commands.specs.Words.Names.{IsCallerOf, IsChosenOf, IsMaybeOf, IsNamedIn, IsNumberOf};
-ghost use Rattle.land_commands.specs.Words.Names.{IsOrderOf};
-ghost use Rattle.land_commands.specs.Words.Names.{IsReading, IsRefusalOf};
+ghost use Rattle.land_commands.specs.Words.Choices.{IsWordOf, kind_word, role_word};
+ghost use Rattle.land_commands.specs.Words.Names.{IsCallerOption, IsChoiceOf, IsOptionalNumber, FindsCommand, IsOptionNumber};
+ghost use Rattle.land_commands.specs.Words.Names.{HasOptionsOf};
+ghost use Rattle.land_commands.specs.Words.Names.{IsReading, IsFaultOfError};
 ghost use Rattle.land_commands.specs.Words.PlainCommands.{order_of};
 ghost use Rattle.land_keep.specs.Moments.{last_moment};
 
 use crate::words::choices::all_choices;
-use crate::words::clap_matches::{command_found, matches, number_of, text_of};
+use crate::words::clap_matches::{subcommand_found, matches, number_of, text_of};
 use crate::words::command::Command;
-use crate::words::options::{LAST_PARTY, LAST_PORT, MOST_CONNECTIONS};
+use crate::words::options::{LAST_PARTY, LAST_PORT, MAX_CONNECTIONS};
 use crate::words::words_fault::WordsFault;
 use clap::error::ErrorKind;
 use clap::{ArgMatches, Error};
@@ -37,7 +37,7 @@ pub fn read_words<'a>(alloc: Global, words: &'a [String]) -> Result<Command<'a>,
 
 /// Returns the fault for an error of `clap`.
 fn clap_fault(alloc: Global, error: &Error) -> WordsFault
-    ensures { IsRefusalOf error.now result }
+    ensures { IsFaultOfError error.now result }
 {
     if error.kind() == ErrorKind::OutOfMemory {
         return WordsFault::NoMemory;
@@ -50,9 +50,9 @@ fn clap_fault(alloc: Global, error: &Error) -> WordsFault
 
 /// Reads the command and its options. `None`: the command is unknown, or an option is not valid.
 fn named_command<'a>(found: &ArgMatches<'a>) -> Option<Command<'a>>
-    ensures { IsNamedIn (subcommand_rows_of found.now) (option_map order_of result) }
+    ensures { FindsCommand (subcommand_rows_of found.now) (option_map order_of result) }
 {
-    match command_found(found)? {
+    match subcommand_found(found)? {
         ("talk", options) => talk_of(options),
         ("new", options) => new_of(options),
         ("serve", options) => serve_of(options),
@@ -65,7 +65,7 @@ fn named_command<'a>(found: &ArgMatches<'a>) -> Option<Command<'a>>
 
 /// Reads the options of `talk`.
 fn talk_of<'a>(found: &ArgMatches<'a>) -> Option<Command<'a>>
-    ensures { IsOrderOf (codes "talk") (rows_of (found_of found.now)) (option_map order_of result) }
+    ensures { HasOptionsOf (codes "talk") (rows_of (found_of found.now)) (option_map order_of result) }
 {
     let clock = clock_of(found)?;
     Some(Command::Talk { clock })
@@ -73,7 +73,7 @@ fn talk_of<'a>(found: &ArgMatches<'a>) -> Option<Command<'a>>
 
 /// Reads the options of `new`.
 fn new_of<'a>(found: &ArgMatches<'a>) -> Option<Command<'a>>
-    ensures { IsOrderOf (codes "new") (rows_of (found_of found.now)) (option_map order_of result) }
+    ensures { HasOptionsOf (codes "new") (rows_of (found_of found.now)) (option_map order_of result) }
 {
     let file = text_of(found, "file")?;
     Some(Command::New { file })
@@ -81,7 +81,7 @@ fn new_of<'a>(found: &ArgMatches<'a>) -> Option<Command<'a>>
 
 /// Reads the options of `serve`.
 fn serve_of<'a>(found: &ArgMatches<'a>) -> Option<Command<'a>>
-    ensures { IsOrderOf (codes "serve") (rows_of (found_of found.now)) (option_map order_of result) }
+    ensures { HasOptionsOf (codes "serve") (rows_of (found_of found.now)) (option_map order_of result) }
 {
     let file = text_of(found, "file")?;
     let port = port_of(found)?;
@@ -95,7 +95,7 @@ fn serve_of<'a>(found: &ArgMatches<'a>) -> Option<Command<'a>>
 
 /// Reads the options of `check`.
 fn check_of<'a>(found: &ArgMatches<'a>) -> Option<Command<'a>>
-    ensures { IsOrderOf (codes "check") (rows_of (found_of found.now)) (option_map order_of result) }
+    ensures { HasOptionsOf (codes "check") (rows_of (found_of found.now)) (option_map order_of result) }
 {
     let file = text_of(found, "file")?;
     Some(Command::Check { file })
@@ -103,7 +103,7 @@ fn check_of<'a>(found: &ArgMatches<'a>) -> Option<Command<'a>>
 
 /// Reads the options of `migrate`.
 fn migrate_of<'a>(found: &ArgMatches<'a>) -> Option<Command<'a>>
-    ensures { IsOrderOf (codes "migrate") (rows_of (found_of found.now)) (option_map order_of result) }
+    ensures { HasOptionsOf (codes "migrate") (rows_of (found_of found.now)) (option_map order_of result) }
 {
     let file = text_of(found, "file")?;
     Some(Command::Migrate { file })
@@ -111,7 +111,7 @@ fn migrate_of<'a>(found: &ArgMatches<'a>) -> Option<Command<'a>>
 
 /// Reads the options of `extract`.
 fn extract_of<'a>(found: &ArgMatches<'a>) -> Option<Command<'a>>
-    ensures { IsOrderOf (codes "extract") (rows_of (found_of found.now)) (option_map order_of result) }
+    ensures { HasOptionsOf (codes "extract") (rows_of (found_of found.now)) (option_map order_of result) }
 {
     let file = text_of(found, "file")?;
     let clock = clock_of(found)?;
@@ -129,14 +129,14 @@ fn extract_of<'a>(found: &ArgMatches<'a>) -> Option<Command<'a>>
 
 /// Reads `--clock`, in Unix milliseconds.
 fn clock_of(found: &ArgMatches<'_>) -> Option<i64>
-    ensures { IsNumberOf (rows_of (found_of found.now)) (codes "clock") (pos 0) last_moment result }
+    ensures { IsOptionNumber (rows_of (found_of found.now)) (codes "clock") (pos 0) last_moment result }
 {
     number_of(found, "clock", 0, LAST_MOMENT)
 }
 
 /// Reads `--party` and `--role`.
 fn caller_of(found: &ArgMatches<'_>) -> Option<Caller>
-    ensures { IsCallerOf (rows_of (found_of found.now)) result }
+    ensures { IsCallerOption (rows_of (found_of found.now)) result }
 {
     let party = party_of(found)?;
     let role = role_of(found)?;
@@ -145,7 +145,7 @@ fn caller_of(found: &ArgMatches<'_>) -> Option<Caller>
 
 /// Reads `--party`.
 fn party_of(found: &ArgMatches<'_>) -> Option<u64>
-    ensures { IsNumberOf (rows_of (found_of found.now)) (codes "party") (pos 1) (pos 1000000000)
+    ensures { IsOptionNumber (rows_of (found_of found.now)) (codes "party") (pos 1) (pos 1000000000)
         (option_map pos result) }
 {
     let party = number_of(found, "party", 1, LAST_PARTY)?;
@@ -154,14 +154,14 @@ fn party_of(found: &ArgMatches<'_>) -> Option<u64>
 
 /// Reads `--role`.
 fn role_of(found: &ArgMatches<'_>) -> Option<Role>
-    ensures { IsChosenOf role_word (rows_of (found_of found.now)) (codes "role") result }
+    ensures { IsChoiceOf role_word (rows_of (found_of found.now)) (codes "role") result }
 {
-    role_spelled(text_of(found, "role")?)
+    role_from_word(text_of(found, "role")?)
 }
 
 /// Returns the role of a word.
-fn role_spelled(word: &str) -> Option<Role>
-    ensures { IsSpelled role_word word.now result }
+fn role_from_word(word: &str) -> Option<Role>
+    ensures { IsWordOf role_word word.now result }
 {
     match word {
         "citizen" => Some(Role::Citizen),
@@ -176,14 +176,14 @@ fn role_spelled(word: &str) -> Option<Role>
 
 /// Reads `--kind`.
 fn kind_of(found: &ArgMatches<'_>) -> Option<Kind>
-    ensures { IsChosenOf kind_word (rows_of (found_of found.now)) (codes "kind") result }
+    ensures { IsChoiceOf kind_word (rows_of (found_of found.now)) (codes "kind") result }
 {
-    kind_spelled(text_of(found, "kind")?)
+    kind_from_word(text_of(found, "kind")?)
 }
 
 /// Returns the kind of a word.
-fn kind_spelled(word: &str) -> Option<Kind>
-    ensures { IsSpelled kind_word word.now result }
+fn kind_from_word(word: &str) -> Option<Kind>
+    ensures { IsWordOf kind_word word.now result }
 {
     match word {
         "party" => Some(Kind::Party),
@@ -198,7 +198,7 @@ fn kind_spelled(word: &str) -> Option<Kind>
 
 /// Reads `--at`, in Unix milliseconds. `Some(None)`: the option is absent.
 fn at_of(found: &ArgMatches<'_>) -> Option<Option<i64>>
-    ensures { IsMaybeOf (rows_of (found_of found.now)) (codes "at") (pos 0) last_moment result }
+    ensures { IsOptionalNumber (rows_of (found_of found.now)) (codes "at") (pos 0) last_moment result }
 {
     if text_of(found, "at").is_none() {
         return Some(None);
@@ -209,7 +209,7 @@ fn at_of(found: &ArgMatches<'_>) -> Option<Option<i64>>
 
 /// Reads `--port`.
 fn port_of(found: &ArgMatches<'_>) -> Option<u16>
-    ensures { IsNumberOf (rows_of (found_of found.now)) (codes "port") (pos 1) (pos 65535)
+    ensures { IsOptionNumber (rows_of (found_of found.now)) (codes "port") (pos 1) (pos 65535)
         (option_map pos result) }
 {
     let port = number_of(found, "port", 1, LAST_PORT)?;
@@ -218,9 +218,9 @@ fn port_of(found: &ArgMatches<'_>) -> Option<u16>
 
 /// Reads `--connections`.
 fn connections_of(found: &ArgMatches<'_>) -> Option<u32>
-    ensures { IsNumberOf (rows_of (found_of found.now)) (codes "connections") (pos 1) (pos 1000000)
+    ensures { IsOptionNumber (rows_of (found_of found.now)) (codes "connections") (pos 1) (pos 1000000)
         (option_map pos result) }
 {
-    let connections = number_of(found, "connections", 1, MOST_CONNECTIONS)?;
+    let connections = number_of(found, "connections", 1, MAX_CONNECTIONS)?;
     u32::try_from(connections).ok()
 }

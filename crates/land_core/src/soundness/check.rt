@@ -3,9 +3,9 @@ ghost use Rattle.std.specs.Prelude.{◌≡◌, ◌≢◌, true, IfOk, OnOk, IfEr
 ghost use Rattle.land_core.specs.Members.{are_group_shares};
 ghost use Rattle.land_core.specs.Register.{shares_of};
 ghost use Rattle.land_core.specs.Soundness.{IsSound, has_fault, has_unused, has_unused_number};
-ghost use Rattle.land_core.specs.Soundness.{has_loose_grant, has_loose_mandate, has_loose_members};
-ghost use Rattle.land_core.specs.Soundness.{has_loose_parcel, has_loose_rrr, is_loose_mandate, are_loose};
-ghost use Rattle.land_core.specs.Soundness.{has_loose_member, has_broken_group, has_administrator, is_used};
+ghost use Rattle.land_core.specs.Soundness.{has_dangling_grant, has_dangling_mandate, has_dangling_members};
+ghost use Rattle.land_core.specs.Soundness.{has_dangling_parcel, has_dangling_rrr, is_dangling_mandate, are_dangling_members};
+ghost use Rattle.land_core.specs.Soundness.{has_dangling_member, has_broken_group, has_administrator, is_used};
 
 use crate::kind::{Kind, PartyKind};
 use crate::limits::LAST_NEXT;
@@ -15,7 +15,7 @@ use crate::records::Records;
 use crate::register::Register;
 use crate::role::Role;
 use crate::soundness::Unsound;
-use crate::soundness::mutations::{has_loose_mutation, has_reused_reference};
+use crate::soundness::mutations::{has_dangling_mutation, has_reused_reference};
 use crate::soundness::units::check_units;
 use land_fraction::{Fraction, Whole, is_whole};
 use std::alloc::{AllocError, Global};
@@ -45,12 +45,12 @@ fn has_reference_fault(register: &Register) -> bool
 {
     register.next > LAST_NEXT
         || has_unused_number(register)
-        || has_loose_grant(register)
-        || has_loose_members(register)
-        || has_loose_parcel(register)
-        || has_loose_rrr(register)
-        || has_loose_mutation(register)
-        || has_loose_mandate(register)
+        || has_dangling_grant(register)
+        || has_dangling_members(register)
+        || has_dangling_parcel(register)
+        || has_dangling_rrr(register)
+        || has_dangling_mutation(register)
+        || has_dangling_mandate(register)
 }
 
 fn has_unused_number(register: &Register) -> bool
@@ -72,16 +72,16 @@ fn has_unused<T>(register: &Register, records: &Records<T>) -> bool
         .any(|(number, _)| !is_used(register, *number))
 }
 
-fn has_loose_parcel(register: &Register) -> bool
-    ensures { result ≡ has_loose_parcel register.now }
+fn has_dangling_parcel(register: &Register) -> bool
+    ensures { result ≡ has_dangling_parcel register.now }
 {
     register.parcels.iter().any(|(_, parcel)| {
         !(register.stands(Kind::Unit, parcel.unit) && register.stands(Kind::Source, parcel.source))
     })
 }
 
-fn has_loose_rrr(register: &Register) -> bool
-    ensures { result ≡ has_loose_rrr register.now }
+fn has_dangling_rrr(register: &Register) -> bool
+    ensures { result ≡ has_dangling_rrr register.now }
 {
     register.rrrs.iter().any(|(_, entry)| {
         !(register.stands(Kind::Unit, entry.unit)
@@ -90,8 +90,8 @@ fn has_loose_rrr(register: &Register) -> bool
     })
 }
 
-fn has_loose_grant(register: &Register) -> bool
-    ensures { result ≡ has_loose_grant register.now }
+fn has_dangling_grant(register: &Register) -> bool
+    ensures { result ≡ has_dangling_grant register.now }
 {
     register
         .roles
@@ -99,41 +99,41 @@ fn has_loose_grant(register: &Register) -> bool
         .any(|grant| !register.has_single_party(grant.party))
 }
 
-fn has_loose_mandate(register: &Register) -> bool
-    ensures { result ≡ has_loose_mandate register.now }
+fn has_dangling_mandate(register: &Register) -> bool
+    ensures { result ≡ has_dangling_mandate register.now }
 {
     register
         .mandates
         .iter()
-        .any(|mandate| is_loose_mandate(register, *mandate))
+        .any(|mandate| is_dangling_mandate(register, *mandate))
 }
 
 /// Whether a mandate is not between two different single parties that exist.
-fn is_loose_mandate(register: &Register, mandate: Mandate) -> bool
-    ensures { result ≡ is_loose_mandate register.now mandate }
+fn is_dangling_mandate(register: &Register, mandate: Mandate) -> bool
+    ensures { result ≡ is_dangling_mandate register.now mandate }
 {
     !(register.has_single_party(mandate.principal)
         && register.has_single_party(mandate.agent)
         && mandate.principal != mandate.agent)
 }
 
-fn has_loose_members(register: &Register) -> bool
-    ensures { result ≡ has_loose_members register.now }
+fn has_dangling_members(register: &Register) -> bool
+    ensures { result ≡ has_dangling_members register.now }
 {
     register
         .members
         .iter()
-        .any(|(group, members)| are_loose(register, *group, members))
+        .any(|(group, members)| are_dangling_members(register, *group, members))
 }
 
-fn are_loose(register: &Register, group: u64, members: &Members) -> bool
-    ensures { result ≡ are_loose register.now group members.now }
+fn are_dangling_members(register: &Register, group: u64, members: &Members) -> bool
+    ensures { result ≡ are_dangling_members register.now group members.now }
 {
-    !register.has_group(group) || has_loose_member(register, members)
+    !register.has_group(group) || has_dangling_member(register, members)
 }
 
-fn has_loose_member(register: &Register, members: &Members) -> bool
-    ensures { result ≡ has_loose_member register.now members.now }
+fn has_dangling_member(register: &Register, members: &Members) -> bool
+    ensures { result ≡ has_dangling_member register.now members.now }
 {
     members
         .iter()

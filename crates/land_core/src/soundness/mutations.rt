@@ -1,6 +1,6 @@
 //! The conditions of soundness on mutations.
 ghost use Rattle.std.specs.Prelude.{◌≡◌, IfOk};
-ghost use Rattle.land_core.specs.Soundness.{has_loose_mutation, has_reused_reference, is_loose_mutation};
+ghost use Rattle.land_core.specs.Soundness.{has_dangling_mutation, has_reused_reference, is_dangling_mutation};
 
 use crate::kind::Kind;
 use crate::mutation::MutationRecord;
@@ -9,17 +9,17 @@ use std::alloc::{AllocError, Global};
 use std::collections::BTreeSet;
 
 /// Whether a mutation's lodger or source does not exist, or its content is not within its limits.
-pub(crate) fn has_loose_mutation(register: &Register) -> bool
-    ensures { result ≡ has_loose_mutation register.now }
+pub(crate) fn has_dangling_mutation(register: &Register) -> bool
+    ensures { result ≡ has_dangling_mutation register.now }
 {
     register
         .mutations
         .iter()
-        .any(|(_, mutation)| is_loose_mutation(register, mutation))
+        .any(|(_, mutation)| is_dangling_mutation(register, mutation))
 }
 
-fn is_loose_mutation(register: &Register, mutation: &MutationRecord) -> bool
-    ensures { result ≡ is_loose_mutation register.now mutation.now }
+fn is_dangling_mutation(register: &Register, mutation: &MutationRecord) -> bool
+    ensures { result ≡ is_dangling_mutation register.now mutation.now }
 {
     !(register.stands(Kind::Party, mutation.lodger)
         && register.stands(Kind::Source, mutation.source)

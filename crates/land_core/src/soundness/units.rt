@@ -2,9 +2,9 @@
 ghost use Rattle.std.specs.Prelude.{◌≡◌, ◌≢◌, ◌&&◌, true, false, IfOk, OnOk, IfErr};
 ghost use Rattle.std.specs.List.{list_any};
 ghost use Rattle.land_core.specs.ByUnit.{are_claims_whole, claimed_shares, do_claims_clash, have_clash};
-ghost use Rattle.land_core.specs.ByUnit.{is_bare, is_claim_of, is_crowded, is_in_parts, under};
+ghost use Rattle.land_core.specs.ByUnit.{is_bare, is_claim_of, is_crowded, lacks_whole_shares, under};
 ghost use Rattle.land_core.specs.Entries.{some};
-ghost use Rattle.land_core.specs.Soundness.{has_fault, has_loose_rank, is_loose_rank};
+ghost use Rattle.land_core.specs.Soundness.{has_fault, has_rank_out_of_range, is_rank_out_of_range};
 ghost use Rattle.land_core.specs.Units.{are_whole_or_none};
 ghost use Rattle.land_core.specs.declared.rrr.RightType.TheVariants.{Ownership};
 
@@ -37,10 +37,10 @@ pub(crate) fn check_units(alloc: Global, register: &Register) -> Result<(), Unso
     if has_clash(register, &by_unit) {
         return Err(Unsound::Twice);
     }
-    if has_loose_rank(register) {
+    if has_rank_out_of_range(register) {
         return Err(Unsound::Rank);
     }
-    if has_unit_in_parts(alloc, register, &by_unit)? {
+    if has_unit_without_whole_shares(alloc, register, &by_unit)? {
         return Err(Unsound::Shares);
     }
     Ok(())
@@ -114,17 +114,17 @@ fn clashes(claim: Claim, others: &[Claim]) -> bool
     others.iter().any(|other| claim.do_clash(*other))
 }
 
-fn has_loose_rank(register: &Register) -> bool
-    ensures { result ≡ has_loose_rank register.now }
+fn has_rank_out_of_range(register: &Register) -> bool
+    ensures { result ≡ has_rank_out_of_range register.now }
 {
     register
         .rrrs
         .iter()
-        .any(|(_, entry)| is_loose_rank(register, entry.class.rank()))
+        .any(|(_, entry)| is_rank_out_of_range(register, entry.class.rank()))
 }
 
-fn is_loose_rank(register: &Register, rank: Option<u64>) -> bool
-    ensures { result ≡ is_loose_rank register.now rank }
+fn is_rank_out_of_range(register: &Register, rank: Option<u64>) -> bool
+    ensures { result ≡ is_rank_out_of_range register.now rank }
 {
     match rank {
         Some(rank) => !is_used(register, rank),
@@ -132,13 +132,13 @@ fn is_loose_rank(register: &Register, rank: Option<u64>) -> bool
     }
 }
 
-fn has_unit_in_parts(
+fn has_unit_without_whole_shares(
     alloc: Global,
     register: &Register,
     by_unit: &ByUnit,
 ) -> Result<bool, AllocError>
     ensures { IfOk result
-        (λ it. it ≡ some (λ n u. u.checked && is_in_parts by_unit.now n) register.now.units) }
+        (λ it. it ≡ some (λ n u. u.checked && lacks_whole_shares by_unit.now n) register.now.units) }
 {
     for (number, unit) in register.units.iter() {
         if unit.checked && !are_whole(alloc, by_unit.claims.under(*number))? {

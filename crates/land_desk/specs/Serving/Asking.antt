@@ -4,7 +4,7 @@ use Rattle.std.specs.Prelude.{Result, IfOk}
 use Rattle.land_desk.specs.declared.serve.DeskFault.{DeskFault}
 use Rattle.land_desk.specs.declared.serve.Served.{Served}
 use Rattle.land_wire.specs.Framing.Items.{Item, request, faulty, IsItem}
-use Rattle.land_wire.specs.Framing.Stream.{IsJustRead}
+use Rattle.land_wire.specs.Framing.Stream.{LastReadWasNeeded}
 use Rattle.land_wire.specs.declared.framing.frame_fault.FrameFault.TheVariants as fault
 
 -- A condition on the bytes of a reader before and after, if they are known.
@@ -24,30 +24,30 @@ BeginsWith bytes (item ∷ items) rest = (mid : List ℕ) × IsItem bytes item m
 
 -- The reader was not called once the first item was complete. `rest` follows the item, `left` is still in the
 -- reader.
-abbrev pub IsAskedFor : (bytes : List ℕ) → Item → (rest left : List ℕ) → Type 0
+abbrev pub ReadsNoFurther : (bytes : List ℕ) → Item → (rest left : List ℕ) → Type 0
 -- After a request at most 1023 bytes were read ahead.
-IsAskedFor bytes (request h body) rest left =
+ReadsNoFurther bytes (request h body) rest left =
     (ahead : List ℕ) × (rest ≡ ahead ++ left) × (length ahead < 1024)
 -- Without the last chunk the fault could not be found. A stream that is truncated may be read to its end.
-IsAskedFor bytes (faulty f) rest left =
-    (f ≡ fault.Cut) ⊎ ((taken : List ℕ) × (bytes ≡ taken ++ left) × IsJustRead taken)
+ReadsNoFurther bytes (faulty f) rest left =
+    (f ≡ fault.Cut) ⊎ ((taken : List ℕ) × (bytes ≡ taken ++ left) × LastReadWasNeeded taken)
 
 -- The first item of the bytes was the last one that was read.
-abbrev pub AsksForOne : (bytes left : List ℕ) → Type 0
-AsksForOne bytes left =
-    (item : Item) × (rest : List ℕ) × IsItem bytes item rest × IsAskedFor bytes item rest left
+abbrev pub ReadsForFirst : (bytes left : List ℕ) → Type 0
+ReadsForFirst bytes left =
+    (item : Item) × (rest : List ℕ) × IsItem bytes item rest × ReadsNoFurther bytes item rest left
 
 -- This number of items was read, and no more. If there was none, the reader was read to its end.
-abbrev pub AsksFor : (items : ℕ) → (bytes left : List ℕ) → Type 0
-AsksFor n bytes left =
+abbrev pub ReadsForItems : (items : ℕ) → (bytes left : List ℕ) → Type 0
+ReadsForItems n bytes left =
     ((n ≡ 0) × (left ≡ []))
     ⊎ ((items : List Item) × (at_last : List ℕ) × BeginsWith bytes items at_last × (n ≡ length items + 1)
-    × AsksForOne at_last left)
+    × ReadsForFirst at_last left)
 
 -- If serving ended without a fault, the reader was read no further than the served items require.
 abbrev pub ReadsOnlyItems : (old new : Option (List ℕ)) → Result Served DeskFault → Type 0
 ReadsOnlyItems old new result =
-    IfBoth old new (λ bytes left. IfOk result (λ served. AsksFor served.replies bytes left))
+    IfBoth old new (λ bytes left. IfOk result (λ served. ReadsForItems served.replies bytes left))
 
 -- At most this number of bytes was taken from the reader, if its bytes are known.
 abbrev pub ReadsAtMost : (most : ℕ) → (old new : Option (List ℕ)) → Type 0

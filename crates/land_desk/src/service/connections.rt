@@ -1,6 +1,6 @@
 //! Sources of connections.
 ghost use Rattle.std.specs.Prelude.{List, None, Option, ℕ};
-ghost use Rattle.land_desk.specs.Service.Coming.{Comes, brought};
+ghost use Rattle.land_desk.specs.Service.Coming.{Accepts, brought};
 
 use std::io;
 use std::io::{Read, Write};
@@ -17,8 +17,8 @@ pub trait Connections {
     ghost coming: { Self → Option (List (Option (List ℕ))) } = { λ _. None };
 
     /// Waits for the next connection and accepts it.
-    fn next_connection(&mut self) -> io::Result<(Self::Reader, Self::Writer)>
-        ensures { Comes (coming self.old) (coming self.new) (brought Self.Reader.remaining result) };
+    fn accept_connection(&mut self) -> io::Result<(Self::Reader, Self::Writer)>
+        ensures { Accepts (coming self.old) (coming self.new) (brought Self.Reader.remaining result) };
 
     /// Closes a connection that was served, so that its last reply arrives. Has access to the connection
     /// only.

@@ -1,6 +1,6 @@
 //! Serves connections one at a time.
 ghost use Rattle.std.specs.Prelude.{◌≡◌, false};
-ghost use Rattle.land_desk.specs.Service.{IsNext, IsService, TellsClosed};
+ghost use Rattle.land_desk.specs.Service.{ServesNextConnection, ServesConnections, ReportsClosed};
 ghost use Rattle.land_keep.specs.Keepers.{Represents, WasHonest, state_of};
 
 use crate::serve::serve;
@@ -29,8 +29,8 @@ pub fn serve_connections<L: Connections, K: Keeper, C: Clock>(
     keeper: &mut K,
     clock: &mut C,
 ) -> Result<(), ServiceFault>
-    ensures closed { TellsClosed result (K.closed keeper.new) }
-    ensures served { K.honest keeper.new → IsService C.reads connections
+    ensures closed { ReportsClosed result (K.closed keeper.new) }
+    ensures served { K.honest keeper.new → ServesConnections C.reads connections
         (state_of K.Keeper keeper.old clock.old) (Represents K.Keeper keeper.new clock.new)
         (L.coming listener.old) (L.coming listener.new) result }
     ensures was { WasHonest K.Keeper keeper.old keeper.new }
@@ -55,13 +55,13 @@ fn serve_next<L: Connections, K: Keeper, C: Clock>(
     clock: &mut C,
 ) -> Result<(), ServiceFault>
     requires { K.closed keeper.old ≡ false }
-    ensures closed { TellsClosed result (K.closed keeper.new) }
-    ensures served { K.honest keeper.new → IsNext C.reads
+    ensures closed { ReportsClosed result (K.closed keeper.new) }
+    ensures served { K.honest keeper.new → ServesNextConnection C.reads
         (state_of K.Keeper keeper.old clock.old) (Represents K.Keeper keeper.new clock.new)
         (L.coming listener.old) (L.coming listener.new) result }
     ensures was { WasHonest K.Keeper keeper.old keeper.new }
 {
-    let Ok((mut reader, mut writer)) = listener.next_connection() else {
+    let Ok((mut reader, mut writer)) = listener.accept_connection() else {
         return Err(ServiceFault::Accept);
     };
     match serve(alloc, &mut reader, &mut writer, keeper, clock) {

@@ -4,8 +4,8 @@ use Rattle.std.specs.Prelude.{◌≡◌, ◌↔◌, ℕ, Bool, true, false, not,
 use Rattle.std.specs.FinMap.{FinMap}
 use Rattle.std.specs.List.{Contains, list_any}
 use Rattle.std.specs.Ordering.{nat_cmp}
-use Rattle.land_core.specs.Contents.{names_where}
-use Rattle.land_core.specs.Entries.{only, some}
+use Rattle.land_core.specs.Contents.{refers_to_unit_where}
+use Rattle.land_core.specs.Entries.{entries_where, some}
 use Rattle.land_core.specs.Role.{is_role}
 use Rattle.land_core.specs.Units.{is_right_of}
 use Rattle.land_core.specs.declared.caller.Caller.{Caller}
@@ -20,10 +20,10 @@ use Rattle.land_core.specs.declared.rrr.RrrRecord.{RrrRecord}
 use Rattle.land_rules.specs.Circles.{circle_of, is_name_of}
 use Rattle.land_rules.specs.Laws.{IsSoundOrNothing}
 use Rattle.land_rules.specs.Relations.{is_mortgage, is_mutation_where, is_right, is_rrr_where}
-use Rattle.land_rules.specs.Relations.{is_told_to_creditor}
+use Rattle.land_rules.specs.Relations.{is_visible_to_creditor}
 use Rattle.land_rules.specs.Rules.{sees}
 use Rattle.land_rules.specs.declared.denials.interests.Interest.{Interest}
-use Rattle.land_rules.specs.declared.denials.interests.Interest.TheVariants.{Stranger, Holder, Owner}
+use Rattle.land_rules.specs.declared.denials.interests.Interest.TheVariants.{NoInterest, Holder, Owner}
 use Rattle.land_rules.specs.declared.denials.interests.Interest.TheVariants.{Creditor}
 
 -- ---- the interest, from the entries of a unit
@@ -33,8 +33,8 @@ abbrev pub Entries : Type 0
 Entries = FinMap nat_cmp RrrRecord
 
 -- the entries of a unit
-abbrev pub entries_of : Register → (unit : ℕ) → Entries
-entries_of at unit = only (λ n e. nat_eq e.unit unit) at.rrrs
+abbrev pub entries_in_unit : Register → (unit : ℕ) → Entries
+entries_in_unit at unit = entries_where (λ n e. nat_eq e.unit unit) at.rrrs
 
 -- whether an entry is a right under one of these names
 abbrev pub is_right_in : (is_name : ℕ → Bool) → RrrRecord → Bool
@@ -53,23 +53,23 @@ is_mortgage_for party e = is_mortgage e.class && nat_eq e.party party
 abbrev pub interest_of_citizen : (is_name : ℕ → Bool) → Entries → Interest
 interest_of_citizen is_name entries =
     if some (λ n e. is_right_in is_name e) entries
-    then (if some (λ n e. is_ownership_in is_name e) entries then Owner else Holder) else Stranger
+    then (if some (λ n e. is_ownership_in is_name e) entries then Owner else Holder) else NoInterest
 
 -- a bank that has a mortgage on a unit is a creditor
 abbrev pub interest_of_bank : (party : ℕ) → Entries → Interest
-interest_of_bank party entries = if some (λ n e. is_mortgage_for party e) entries then Creditor else Stranger
+interest_of_bank party entries = if some (λ n e. is_mortgage_for party e) entries then Creditor else NoInterest
 
 -- the interest of a caller; roles other than citizen and bank have no such interest
 abbrev pub interest_of : (is_name : ℕ → Bool) → Caller → Entries → Interest
 interest_of is_name caller entries =
     if is_role caller.role Citizen then interest_of_citizen is_name entries
-    else (if is_role caller.role Bank then interest_of_bank caller.party entries else Stranger)
+    else (if is_role caller.role Bank then interest_of_bank caller.party entries else NoInterest)
 
 -- ---- the objects that an interest makes visible
 
 -- any interest makes the unit visible
 abbrev pub shows_unit : Interest → Bool
-shows_unit Stranger = false
+shows_unit NoInterest = false
 shows_unit Holder = true
 shows_unit Owner = true
 shows_unit Creditor = true
@@ -77,10 +77,10 @@ shows_unit Creditor = true
 -- of the entries of the unit, a holder sees all except mortgages, an owner sees all, and a creditor sees all
 -- except the mortgages of other creditors
 abbrev pub shows_entry : Interest → (party : ℕ) → RrrRecord → Bool
-shows_entry Stranger party e = false
+shows_entry NoInterest party e = false
 shows_entry Holder party e = not (is_mortgage e.class)
 shows_entry Owner party e = true
-shows_entry Creditor party e = is_told_to_creditor party e
+shows_entry Creditor party e = is_visible_to_creditor party e
 
 -- ---- in a register
 
@@ -88,11 +88,11 @@ shows_entry Creditor party e = is_told_to_creditor party e
 -- which one of them is a member
 abbrev pub interest_at : Register → Caller → (unit : ℕ) → Interest
 interest_at at caller unit =
-    interest_of (is_name_of at (circle_of at caller.party)) caller (entries_of at unit)
+    interest_of (is_name_of at (circle_of at caller.party)) caller (entries_in_unit at unit)
 
 -- whether a mutation refers to a unit that the caller's interest makes visible
-abbrev pub names_shown : Register → Caller → MutationRecord → Bool
-names_shown at caller m = names_where (λ unit. shows_unit (interest_at at caller unit)) m.content
+abbrev pub names_visible_unit : Register → Caller → MutationRecord → Bool
+names_visible_unit at caller m = refers_to_unit_where (λ unit. shows_unit (interest_at at caller unit)) m.content
 
 -- whether an interest makes an object visible: a unit by the interest in it; an entry that exists by the
 -- interest in its unit; a mutation that exists by the interest in a unit to which it refers
@@ -103,7 +103,7 @@ is_shown_by_interest at caller kind.Parcel number = false
 is_shown_by_interest at caller kind.Rrr number =
     is_rrr_where (λ e. shows_entry (interest_at at caller e.unit) caller.party e) at number
 is_shown_by_interest at caller kind.Source number = false
-is_shown_by_interest at caller kind.Mutation number = is_mutation_where (names_shown at caller) at number
+is_shown_by_interest at caller kind.Mutation number = is_mutation_where (names_visible_unit at caller) at number
 
 -- citizens and banks see units and entries by interest, and citizens see mutations by interest
 abbrev pub sees_by_interest : Role → Kind → Bool
@@ -116,8 +116,8 @@ sees_by_interest role kind.Mutation = is_role role Citizen
 
 -- in a register that is sound or empty, these roles see an object of these kinds exactly if an interest makes
 -- it visible
-abbrev pub InterestsTellSight : Type 0
-InterestsTellSight = (at : Register) → IsSoundOrNothing at → (caller : Caller) (k : Kind) (number : ℕ)
+abbrev pub InterestsDecideSight : Type 0
+InterestsDecideSight = (at : Register) → IsSoundOrNothing at → (caller : Caller) (k : Kind) (number : ℕ)
     → sees_by_interest caller.role k ≡ true
     → sees at caller k number ≡ is_shown_by_interest at caller k number
 
@@ -130,8 +130,8 @@ AreNamesOf at caller names = is_role caller.role Citizen ≡ true → (named : �
     → Contains names named ↔ (is_name_of at (circle_of at caller.party) named ≡ true)
 
 -- the interest of a caller follows from such a list of names and the entries of the unit
-abbrev pub NamesTellInterests : Type 0
-NamesTellInterests =
+abbrev pub NamesDecideInterests : Type 0
+NamesDecideInterests =
     (at : Register) (caller : Caller) (names : List ℕ) → AreNamesOf at caller names → (entries : Entries)
     → interest_of (λ named. list_any (nat_eq named) names) caller entries
     ≡ interest_of (is_name_of at (circle_of at caller.party)) caller entries

@@ -9,8 +9,8 @@ use Rattle.land_core.specs.declared.register.Register.{Register}
 use Rattle.land_core.specs.declared.role.Role.{Role}
 use Rattle.land_core.specs.declared.role.Role.TheVariants.{Bank, CertifiedSurveyor, Conveyancer, Notary}
 use Rattle.land_core.specs.declared.role.Role.TheVariants.{StateAdministrator}
-use Rattle.land_rules.specs.Laws.{IsSoundOrNothing, is_itself, rule_of_role}
-use Rattle.land_rules.specs.Relations.{has_lodged, is_lodger_on, is_rrr_where}
+use Rattle.land_rules.specs.Laws.{IsSoundOrNothing, views_itself, rule_of_role}
+use Rattle.land_rules.specs.Relations.{has_lodged, has_pending_mutation_on, is_rrr_where}
 use Rattle.land_rules.specs.Rules.{first_denial, sees, view_rules}
 use Rattle.land_rules.specs.declared.verdict.Verdict.{Verdict}
 use Rattle.land_rules.specs.declared.verdict.Verdict.TheVariants.{Allowed, Denied}
@@ -27,16 +27,16 @@ is_unit_of_conveyancer role kind.Mutation = false
 -- a visible object is allowed. The rule of the caller's role and the kind denies every other object, but two
 -- cases get rule 27: a caller that views itself, and a conveyancer's unit to which its own undecided mutation
 -- refers
-abbrev pub told_by : (in_sight awaited : Bool) → Caller → Kind → (number : ℕ) → Verdict
-told_by in_sight awaited caller k number = if in_sight then Allowed
-    else Denied (if is_unit_of_conveyancer caller.role k && awaited || is_itself caller k number then 27
+abbrev pub verdict_given_sight : (in_sight awaited : Bool) → Caller → Kind → (number : ℕ) → Verdict
+verdict_given_sight in_sight awaited caller k number = if in_sight then Allowed
+    else Denied (if is_unit_of_conveyancer caller.role k && awaited || views_itself caller k number then 27
     else rule_of_role caller.role k)
 
 -- in a register that is sound or empty, the verdict on a view follows from the visibility of the object
-abbrev pub SightTellsVerdicts : Type 0
-SightTellsVerdicts = (at : Register) → IsSoundOrNothing at → (caller : Caller) (k : Kind) (number : ℕ)
+abbrev pub SightDecidesVerdicts : Type 0
+SightDecidesVerdicts = (at : Register) → IsSoundOrNothing at → (caller : Caller) (k : Kind) (number : ℕ)
     → first_denial (view_rules at caller k number)
-    ≡ told_by (sees at caller k number) (is_lodger_on at caller.party number) caller k number
+    ≡ verdict_given_sight (sees at caller k number) (has_pending_mutation_on at caller.party number) caller k number
 
 -- all roles see all parcels, and notaries and state administrators see all objects of all kinds
 abbrev pub sees_all : Role → Kind → Bool
@@ -48,8 +48,8 @@ sees_all role kind.Source = is_role role Notary || is_role role StateAdministrat
 sees_all role kind.Mutation = is_role role Notary || is_role role StateAdministrator
 
 -- a role that sees all objects of a kind sees exactly the objects that exist
-abbrev pub AllThatStandsIsSeen : Type 0
-AllThatStandsIsSeen = (at : Register) (caller : Caller) (k : Kind) (number : ℕ)
+abbrev pub FullSightShowsAll : Type 0
+FullSightShowsAll = (at : Register) (caller : Caller) (k : Kind) (number : ℕ)
     → sees_all caller.role k ≡ true → sees at caller k number ≡ stands at k number
 
 -- banks, conveyancers and certified surveyors see the mutations that they lodged
@@ -69,26 +69,26 @@ LodgersSeeTheirOwn =
     → sees at caller k number ≡ has_lodged at caller.party number
 
 -- conveyancers see units and entries by their undecided mutations
-abbrev pub sees_by_awaiting : Role → Kind → Bool
-sees_by_awaiting role kind.Party = false
-sees_by_awaiting role kind.Unit = is_role role Conveyancer
-sees_by_awaiting role kind.Parcel = false
-sees_by_awaiting role kind.Rrr = is_role role Conveyancer
-sees_by_awaiting role kind.Source = false
-sees_by_awaiting role kind.Mutation = false
+abbrev pub sees_by_pending : Role → Kind → Bool
+sees_by_pending role kind.Party = false
+sees_by_pending role kind.Unit = is_role role Conveyancer
+sees_by_pending role kind.Parcel = false
+sees_by_pending role kind.Rrr = is_role role Conveyancer
+sees_by_pending role kind.Source = false
+sees_by_pending role kind.Mutation = false
 
 -- a unit that exists and to which an undecided mutation of the caller refers, and the entries of a unit to
 -- which one refers
-abbrev pub is_awaited : Register → Caller → Kind → (number : ℕ) → Bool
-is_awaited at caller kind.Party number = false
-is_awaited at caller kind.Unit number = is_lodger_on at caller.party number && stands at kind.Unit number
-is_awaited at caller kind.Parcel number = false
-is_awaited at caller kind.Rrr number = is_rrr_where (λ e. is_lodger_on at caller.party e.unit) at number
-is_awaited at caller kind.Source number = false
-is_awaited at caller kind.Mutation number = false
+abbrev pub is_visible_by_pending : Register → Caller → Kind → (number : ℕ) → Bool
+is_visible_by_pending at caller kind.Party number = false
+is_visible_by_pending at caller kind.Unit number = has_pending_mutation_on at caller.party number && stands at kind.Unit number
+is_visible_by_pending at caller kind.Parcel number = false
+is_visible_by_pending at caller kind.Rrr number = is_rrr_where (λ e. has_pending_mutation_on at caller.party e.unit) at number
+is_visible_by_pending at caller kind.Source number = false
+is_visible_by_pending at caller kind.Mutation number = false
 
 -- in a register that is sound or empty, a conveyancer sees exactly these units and entries
-abbrev pub WhatIsAwaitedIsSeen : Type 0
-WhatIsAwaitedIsSeen = (at : Register) → IsSoundOrNothing at → (caller : Caller) (k : Kind) (number : ℕ)
-    → sees_by_awaiting caller.role k ≡ true
-    → sees at caller k number ≡ is_awaited at caller k number
+abbrev pub PendingUnitsAreVisible : Type 0
+PendingUnitsAreVisible = (at : Register) → IsSoundOrNothing at → (caller : Caller) (k : Kind) (number : ℕ)
+    → sees_by_pending caller.role k ≡ true
+    → sees at caller k number ≡ is_visible_by_pending at caller k number

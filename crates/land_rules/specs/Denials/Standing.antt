@@ -3,7 +3,7 @@ use Rattle.std.specs.Prelude.{◌≡◌, ℕ, Bool, Option, None, Some, IfSome, 
 use Rattle.std.specs.FinMap as map
 use Rattle.std.specs.FinMap.{FinMap}
 use Rattle.std.specs.Ordering.{nat_cmp}
-use Rattle.land_core.specs.Entries.{only}
+use Rattle.land_core.specs.Entries.{entries_where}
 use Rattle.land_core.specs.Grants.{Grants}
 use Rattle.land_core.specs.Register.{nothing, stands, holds}
 use Rattle.land_core.specs.declared.act.Act.{Act}
@@ -61,26 +61,26 @@ mutation_of_act (act.Approve it) = Some it.mutation
 mutation_of_act (act.Refuse it) = Some it.mutation
 
 -- the entry that a request would discharge; a request that only reads has none
-abbrev pub discharged : Ask → Option ℕ
-discharged (ask.View k number moment) = None
-discharged (ask.List k moment) = None
-discharged (ask.Sheet unit moment) = None
-discharged (ask.Do it) = entry_of_act it
+abbrev pub entry_of_ask : Ask → Option ℕ
+entry_of_ask (ask.View k number moment) = None
+entry_of_ask (ask.List k moment) = None
+entry_of_ask (ask.Sheet unit moment) = None
+entry_of_ask (ask.Do it) = entry_of_act it
 
 -- the mutation that a request would decide; a request that only reads has none
-abbrev pub decided : Ask → Option ℕ
-decided (ask.View k number moment) = None
-decided (ask.List k moment) = None
-decided (ask.Sheet unit moment) = None
-decided (ask.Do it) = mutation_of_act it
+abbrev pub mutation_of_ask : Ask → Option ℕ
+mutation_of_ask (ask.View k number moment) = None
+mutation_of_ask (ask.List k moment) = None
+mutation_of_ask (ask.Sheet unit moment) = None
+mutation_of_ask (ask.Do it) = mutation_of_act it
 
 -- evidence is sufficient for a request if it agrees with the register on the caller, on the role that it
 -- claims, on the entry that it would discharge and on the mutation that it would decide
 pub record IsEnough (evidence now : Register) (caller : Caller) (a : Ask) : Type 0 where
   pub party : stands evidence kind.Party caller.party ≡ stands now kind.Party caller.party
   pub role : holds evidence caller.party caller.role ≡ holds now caller.party caller.role
-  pub entry : IfSome (discharged a) (λ n. map.get evidence.rrrs n ≡ map.get now.rrrs n)
-  pub mutation : IfSome (decided a) (λ n. map.get evidence.mutations n ≡ map.get now.mutations n)
+  pub entry : IfSome (entry_of_ask a) (λ n. map.get evidence.rrrs n ≡ map.get now.rrrs n)
+  pub mutation : IfSome (mutation_of_ask a) (λ n. map.get evidence.mutations n ≡ map.get now.mutations n)
 
 -- from sufficient evidence, the first standing rule that denies is the same as from the whole register
 abbrev pub EvidenceIsEnough : Type 0
@@ -89,34 +89,34 @@ EvidenceIsEnough =
     → first_denial (standing_rules evidence caller a past) ≡ first_denial (standing_rules now caller a past)
 
 -- a map that has at most one record, under its number
-abbrev pub one_at : {V : Type 0} → Option ℕ → Option V → FinMap nat_cmp V
-one_at None found = map.empty
-one_at (Some n) None = map.empty
-one_at (Some n) (Some value) = map.insert map.empty n value
+abbrev pub at_most_one : {V : Type 0} → Option ℕ → Option V → FinMap nat_cmp V
+at_most_one None found = map.empty
+at_most_one (Some n) None = map.empty
+at_most_one (Some n) (Some value) = map.insert map.empty n value
 
 -- the evidence that consists of exactly these records
 abbrev pub evidence_of : Caller → Ask → Option PartyRecord → Grants → Option RrrRecord → Option MutationRecord
     → Register
 evidence_of caller a party roles entry mutation = record nothing {
-  parties = one_at (Some caller.party) party;
+  parties = at_most_one (Some caller.party) party;
   roles = roles;
-  rrrs = one_at (discharged a) entry;
-  mutations = one_at (decided a) mutation;
+  rrrs = at_most_one (entry_of_ask a) entry;
+  mutations = at_most_one (mutation_of_ask a) mutation;
 }
 
 -- the records are the register's: the caller with its roles, and the entry and the mutation to which the
 -- request refers
-pub record AreLookedUp (now : Register) (caller : Caller) (a : Ask) (party : Option PartyRecord)
+pub record AreLookupResults (now : Register) (caller : Caller) (a : Ask) (party : Option PartyRecord)
     (roles : Grants) (entry : Option RrrRecord) (mutation : Option MutationRecord) : Type 0 where
   pub party_is : party ≡ map.get now.parties caller.party
-  pub roles_are : roles ≡ only (λ grant u. nat_eq grant.party caller.party) now.roles
-  pub entry_is : IfSome (discharged a) (λ n. entry ≡ map.get now.rrrs n)
-  pub mutation_is : IfSome (decided a) (λ n. mutation ≡ map.get now.mutations n)
+  pub roles_are : roles ≡ entries_where (λ grant u. nat_eq grant.party caller.party) now.roles
+  pub entry_is : IfSome (entry_of_ask a) (λ n. entry ≡ map.get now.rrrs n)
+  pub mutation_is : IfSome (mutation_of_ask a) (λ n. mutation ≡ map.get now.mutations n)
 
 -- evidence from such records is sufficient
-abbrev pub LookedUpIsEnough : Type 0
-LookedUpIsEnough =
+abbrev pub LookupsAreEnough : Type 0
+LookupsAreEnough =
     (now : Register) (caller : Caller) (a : Ask) (party : Option PartyRecord) (roles : Grants)
     (entry : Option RrrRecord) (mutation : Option MutationRecord)
-    → AreLookedUp now caller a party roles entry mutation
+    → AreLookupResults now caller a party roles entry mutation
     → IsEnough (evidence_of caller a party roles entry mutation) now caller a

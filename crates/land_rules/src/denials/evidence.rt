@@ -1,8 +1,8 @@
 //! The evidence: the few records from which the standing rules are decided.
 ghost use Rattle.std.specs.Prelude.{◌≡◌, Some, IfOk};
-ghost use Rattle.land_rules.specs.Denials.Standing.{evidence_of, one_at};
+ghost use Rattle.land_rules.specs.Denials.Standing.{evidence_of, at_most_one};
 
-use crate::denials::standing::{decided, discharged};
+use crate::denials::standing::{mutation_of_ask, entry_of_ask};
 use land_core::ask::Ask;
 use land_core::caller::Caller;
 use land_core::mutation::MutationRecord;
@@ -14,12 +14,12 @@ use land_core::rrr::RrrRecord;
 use std::alloc::{AllocError, Global};
 
 /// Returns a map that has at most one record, under its number.
-fn one_at<V: Drop>(
+fn at_most_one<V: Drop>(
     alloc: Global,
     number: Option<u64>,
     found: Option<V>,
 ) -> Result<Records<V>, AllocError>
-    ensures { IfOk result (λ it. it ≡ one_at number found) }
+    ensures { IfOk result (λ it. it ≡ at_most_one number found) }
 {
     let mut records = Records::new(alloc);
     if let (Some(number), Some(value)) = (number, found) {
@@ -43,10 +43,10 @@ pub fn evidence_of(
     ensures { IfOk result (λ it. it ≡ evidence_of caller ask.now party roles entry mutation) }
 {
     Ok(Register {
-        parties: one_at(alloc, Some(caller.party), party)?,
+        parties: at_most_one(alloc, Some(caller.party), party)?,
         roles,
-        rrrs: one_at(alloc, discharged(ask), entry)?,
-        mutations: one_at(alloc, decided(ask), mutation)?,
+        rrrs: at_most_one(alloc, entry_of_ask(ask), entry)?,
+        mutations: at_most_one(alloc, mutation_of_ask(ask), mutation)?,
         ..Register::nothing(alloc)
     })
 }

@@ -7,7 +7,7 @@ ghost use Rattle.land_core.specs.Entries.{some};
 ghost use Rattle.land_rules.specs.Denials.Interests.{interest_of, interest_of_bank, interest_of_citizen};
 ghost use Rattle.land_rules.specs.Denials.Interests.{is_mortgage_for, is_ownership_in, is_right_in};
 ghost use Rattle.land_rules.specs.Denials.Interests.{sees_by_interest};
-ghost use Rattle.land_rules.specs.Relations.{is_mortgage, is_told_to_creditor};
+ghost use Rattle.land_rules.specs.Relations.{is_mortgage, is_visible_to_creditor};
 
 use land_core::caller::Caller;
 use land_core::kind::Kind;
@@ -19,7 +19,7 @@ use land_core::rrr::{Class, RightType, RrrRecord};
 #[derive(Clone, Copy, Debug)]
 pub enum Interest {
     /// There is none.
-    Stranger,
+    NoInterest,
     /// A citizen has a right in it, directly or through a group, but no ownership.
     Holder,
     /// A citizen owns it or a share of it, directly or through a group.
@@ -36,7 +36,7 @@ impl Interest {
         ensures { result ≡ shows_unit self }
     {
         match self {
-            Interest::Stranger => false,
+            Interest::NoInterest => false,
             Interest::Holder | Interest::Owner | Interest::Creditor => true,
         }
     }
@@ -46,10 +46,10 @@ impl Interest {
         ensures { result ≡ shows_entry self party entry.now }
     {
         match self {
-            Interest::Stranger => false,
+            Interest::NoInterest => false,
             Interest::Holder => !is_mortgage(&entry.class),
             Interest::Owner => true,
-            Interest::Creditor => is_told_to_creditor(party, entry),
+            Interest::Creditor => is_visible_to_creditor(party, entry),
         }
     }
 }
@@ -72,8 +72,8 @@ fn is_mortgage(class: &Class) -> bool
     class.rank().is_some()
 }
 
-fn is_told_to_creditor(party: u64, entry: &RrrRecord) -> bool
-    ensures { result ≡ is_told_to_creditor party entry.now }
+fn is_visible_to_creditor(party: u64, entry: &RrrRecord) -> bool
+    ensures { result ≡ is_visible_to_creditor party entry.now }
 {
     !is_mortgage(&entry.class) || entry.party == party
 }
@@ -129,7 +129,7 @@ fn interest_of_citizen(names: &[u64], entries: &Records<RrrRecord>) -> Interest
     ensures { result ≡ interest_of_citizen (λ named. list_any (nat_eq named) names.now) entries.now }
 {
     if !has_right(names, entries) {
-        Interest::Stranger
+        Interest::NoInterest
     } else if has_ownership(names, entries) {
         Interest::Owner
     } else {
@@ -143,7 +143,7 @@ fn interest_of_bank(party: u64, entries: &Records<RrrRecord>) -> Interest
     if has_mortgage(party, entries) {
         Interest::Creditor
     } else {
-        Interest::Stranger
+        Interest::NoInterest
     }
 }
 
@@ -157,6 +157,6 @@ pub fn interest_of(caller: Caller, names: &[u64], entries: &Records<RrrRecord>) 
     } else if caller.role == Role::Bank {
         interest_of_bank(caller.party, entries)
     } else {
-        Interest::Stranger
+        Interest::NoInterest
     }
 }

@@ -1,9 +1,9 @@
 //! The verdict on the view of an object, given whether the object is visible.
 ghost use Rattle.std.specs.Prelude.{◌≡◌};
 ghost use Rattle.land_core.specs.declared.role.Role.TheVariants as roles;
-ghost use Rattle.land_rules.specs.Denials.Sight.{is_unit_of_conveyancer, sees_all, sees_by_awaiting};
-ghost use Rattle.land_rules.specs.Denials.Sight.{sees_own_lodgings, told_by};
-ghost use Rattle.land_rules.specs.Laws.{is_itself, rule_of_role};
+ghost use Rattle.land_rules.specs.Denials.Sight.{is_unit_of_conveyancer, sees_all, sees_by_pending};
+ghost use Rattle.land_rules.specs.Denials.Sight.{sees_own_lodgings, verdict_given_sight};
+ghost use Rattle.land_rules.specs.Laws.{views_itself, rule_of_role};
 
 use crate::verdict::Verdict;
 use land_core::caller::Caller;
@@ -29,8 +29,8 @@ pub fn sees_own_lodgings(role: Role, kind: Kind) -> bool
 
 /// Returns whether a role sees the objects of a kind by its undecided mutations. Conveyancers see units and
 /// entries by this rule.
-pub fn sees_by_awaiting(role: Role, kind: Kind) -> bool
-    ensures { result ≡ sees_by_awaiting role kind }
+pub fn sees_by_pending(role: Role, kind: Kind) -> bool
+    ensures { result ≡ sees_by_pending role kind }
 {
     (kind == Kind::Unit || kind == Kind::Rrr) && role == Role::Conveyancer
 }
@@ -44,12 +44,12 @@ pub fn view_verdict(
     kind: Kind,
     number: u64,
 ) -> Verdict
-    ensures { result ≡ told_by in_sight awaited caller kind number }
+    ensures { result ≡ verdict_given_sight in_sight awaited caller kind number }
 {
     if in_sight {
         Verdict::Allowed
     } else if is_unit_of_conveyancer(caller.role, kind) && awaited
-        || is_itself(caller, kind, number)
+        || views_itself(caller, kind, number)
     {
         Verdict::Denied(27)
     } else {
@@ -66,8 +66,8 @@ pub fn is_unit_of_conveyancer(role: Role, kind: Kind) -> bool
 }
 
 /// Returns whether a caller views the party that it is itself.
-fn is_itself(caller: Caller, kind: Kind, number: u64) -> bool
-    ensures { result ≡ is_itself caller kind number }
+fn views_itself(caller: Caller, kind: Kind, number: u64) -> bool
+    ensures { result ≡ views_itself caller kind number }
 {
     kind == Kind::Party && number == caller.party
 }

@@ -1,6 +1,6 @@
 //! The standing rules, decided from the evidence.
 ghost use Rattle.std.specs.Prelude.{◌≡◌};
-ghost use Rattle.land_rules.specs.Denials.Standing.{decided, discharged, entry_of_act, entry_of_content};
+ghost use Rattle.land_rules.specs.Denials.Standing.{mutation_of_ask, entry_of_ask, entry_of_act, entry_of_content};
 ghost use Rattle.land_rules.specs.Denials.Standing.{mutation_of_act};
 ghost use Rattle.land_rules.specs.Rules.{first_denial, standing_rules};
 
@@ -14,8 +14,8 @@ use land_core::kind::Kind;
 use land_core::register::Register;
 
 /// Returns the number of the entry that a request would discharge, if there is one.
-pub fn discharged(ask: &Ask) -> Option<u64>
-    ensures { result ≡ discharged ask.now }
+pub fn entry_of_ask(ask: &Ask) -> Option<u64>
+    ensures { result ≡ entry_of_ask ask.now }
 {
     match ask {
         Ask::Do(act) => entry_of_act(act),
@@ -39,8 +39,8 @@ fn entry_of_act(act: &Act) -> Option<u64>
 }
 
 /// Returns the number of the mutation that a request would approve or refuse, if there is one.
-pub fn decided(ask: &Ask) -> Option<u64>
-    ensures { result ≡ decided ask.now }
+pub fn mutation_of_ask(ask: &Ask) -> Option<u64>
+    ensures { result ≡ mutation_of_ask ask.now }
 {
     match ask {
         Ask::Do(Act::Approve(decision) | Act::Refuse(decision)) => Some(decision.mutation),

@@ -2,14 +2,14 @@
 //! collected once, then each object takes only lookups.
 ghost use Rattle.std.specs.Prelude.{◌≡◌, IfOk, true};
 ghost use Rattle.std.specs.List.{list_any};
-ghost use Rattle.land_core.specs.Contents.{names_where};
+ghost use Rattle.land_core.specs.Contents.{refers_to_unit_where};
 ghost use Rattle.land_core.specs.declared.kind.Kind.TheVariants as kind;
 ghost use Rattle.land_rules.specs.Circles.{circle_of, is_held_by};
-ghost use Rattle.land_rules.specs.Holdings.{AreHoldings, AreMet, AreOfInterest, is_its_name, meets_parties};
+ghost use Rattle.land_rules.specs.Holdings.{AreHoldings, ArePartiesOfEntries, AreOfInterest, is_name_of_caller, sees_parties_of_entries};
 ghost use Rattle.land_rules.specs.Rules.{sees, seen_of};
 ghost use Rattle.land_rules.specs.declared.rules.holdings.Interest.TheVariants.{Holder};
 
-use crate::relations::{is_mortgage, is_told_to_creditor};
+use crate::relations::{is_mortgage, is_visible_to_creditor};
 use crate::rules::holdings::Holdings;
 use crate::rules::{seen_among, sees};
 use land_core::caller::Caller;
@@ -61,30 +61,30 @@ pub(crate) fn parties(
 ) -> Result<NumberList, AllocError>
     ensures { IfOk result (λ it. it ≡ seen_of at.now caller kind.Party) }
 {
-    if !meets_parties(caller) {
+    if !sees_parties_of_entries(caller) {
         return seen_among(alloc, &at.parties, at, caller, Kind::Party);
     }
     let holdings = Holdings::of(alloc, at, caller)?;
-    let met = met_parties(alloc, at, caller, &holdings)?;
-    parties_by(alloc, at, caller, &holdings, &met)
+    let met = parties_of_entries(alloc, at, caller, &holdings)?;
+    visible_parties(alloc, at, caller, &holdings, &met)
 }
 
 /// Returns whether a role sees the parties of the entries that it sees.
-fn meets_parties(caller: Caller) -> bool
-    ensures { result ≡ meets_parties caller }
+fn sees_parties_of_entries(caller: Caller) -> bool
+    ensures { result ≡ sees_parties_of_entries caller }
 {
     caller.role == Role::Citizen || caller.role == Role::Bank || caller.role == Role::Conveyancer
 }
 
 /// Returns the parties of the entries that a caller with these holdings sees.
-fn met_parties(
+fn parties_of_entries(
     alloc: Global,
     at: &Register,
     caller: Caller,
     holdings: &Holdings,
 ) -> Result<BTreeSet<u64>, AllocError>
     requires { AreHoldings at.now caller holdings.now }
-    ensures { IfOk result (λ it. AreMet at.now caller it) }
+    ensures { IfOk result (λ it. ArePartiesOfEntries at.now caller it) }
 {
     let mut met = BTreeSet::new(alloc);
     for (number, entry) in at.rrrs.iter() {
@@ -96,7 +96,7 @@ fn met_parties(
 }
 
 /// Returns the parties that a caller sees, ascending. `met` are the parties of the entries that it sees.
-fn parties_by(
+fn visible_parties(
     alloc: Global,
     at: &Register,
     caller: Caller,
@@ -104,8 +104,8 @@ fn parties_by(
     met: &BTreeSet<u64>,
 ) -> Result<NumberList, AllocError>
     requires holdings { AreHoldings at.now caller holdings.now }
-    requires met { AreMet at.now caller met.now }
-    requires role { meets_parties caller ≡ true }
+    requires met { ArePartiesOfEntries at.now caller met.now }
+    requires role { sees_parties_of_entries caller ≡ true }
     ensures { IfOk result (λ it. it ≡ seen_of at.now caller kind.Party) }
 {
     let mut seen = Sequence::new(alloc);
@@ -184,7 +184,7 @@ fn bank_sees_entry(at: &Register, caller: Caller, holdings: &Holdings, number: u
 {
     match at.rrrs.get(number) {
         Some(entry) => {
-            holdings.credited.contains(&entry.unit) && is_told_to_creditor(caller.party, entry)
+            holdings.credited.contains(&entry.unit) && is_visible_to_creditor(caller.party, entry)
         }
         None => false,
     }
@@ -220,13 +220,13 @@ fn citizen_sees_mutation(at: &Register, caller: Caller, holdings: &Holdings, num
     ensures { result ≡ sees at.now caller kind.Mutation number }
 {
     match at.mutations.get(number) {
-        Some(mutation) => names_held(at, caller.party, &holdings.held, &mutation.content),
+        Some(mutation) => content_names_held_unit(at, caller.party, &holdings.held, &mutation.content),
         None => false,
     }
 }
 
 /// Returns whether a member of the circle of a party is a holder in one of these units.
-fn holds_some(at: &Register, party: u64, held: &BTreeSet<u64>, units: &[u64]) -> bool
+fn holds_any(at: &Register, party: u64, held: &BTreeSet<u64>, units: &[u64]) -> bool
     requires { AreOfInterest Holder at.now party held.now }
     ensures { result ≡ list_any (is_held_by at.now (circle_of at.now party)) units.now }
 {
@@ -234,15 +234,15 @@ fn holds_some(at: &Register, party: u64, held: &BTreeSet<u64>, units: &[u64]) ->
 }
 
 /// Returns whether a content refers to a unit in which a member of the circle of a party is a holder.
-fn names_held(at: &Register, party: u64, held: &BTreeSet<u64>, content: &Content) -> bool
+fn content_names_held_unit(at: &Register, party: u64, held: &BTreeSet<u64>, content: &Content) -> bool
     requires { AreOfInterest Holder at.now party held.now }
-    ensures { result ≡ names_where (is_held_by at.now (circle_of at.now party)) content.now }
+    ensures { result ≡ refers_to_unit_where (is_held_by at.now (circle_of at.now party)) content.now }
 {
     match content {
         Content::Transfer(it) => held.contains(&it.unit),
         Content::Subdivision(it) => held.contains(&it.unit),
         Content::Merger(it) => {
-            held.contains(&it.unit) || holds_some(at, party, held, it.others.as_slice())
+            held.contains(&it.unit) || holds_any(at, party, held, it.others.as_slice())
         }
         Content::Mortgage(it) => held.contains(&it.unit),
         Content::Discharge(it) => held.contains(&it.unit),
@@ -251,9 +251,9 @@ fn names_held(at: &Register, party: u64, held: &BTreeSet<u64>, content: &Content
 
 /// Returns whether a number is a name of the caller: of a citizen a name under which its circle has rights,
 /// in another role its own.
-fn is_its_name(at: &Register, caller: Caller, holdings: &Holdings, number: u64) -> bool
+fn is_name_of_caller(at: &Register, caller: Caller, holdings: &Holdings, number: u64) -> bool
     requires { AreHoldings at.now caller holdings.now }
-    ensures { result ≡ is_its_name caller.role at.now caller.party number }
+    ensures { result ≡ is_name_of_caller caller.role at.now caller.party number }
 {
     match caller.role {
         Role::Citizen => holdings.names.contains(&number),
@@ -274,10 +274,10 @@ fn sees_party(
     number: u64,
 ) -> bool
     requires holdings { AreHoldings at.now caller holdings.now }
-    requires met { AreMet at.now caller met.now }
-    requires role { meets_parties caller ≡ true }
+    requires met { ArePartiesOfEntries at.now caller met.now }
+    requires role { sees_parties_of_entries caller ≡ true }
     ensures { result ≡ sees at.now caller kind.Party number }
 {
     at.stands(Kind::Party, number)
-        && (is_its_name(at, caller, holdings, number) || met.contains(&number))
+        && (is_name_of_caller(at, caller, holdings, number) || met.contains(&number))
 }

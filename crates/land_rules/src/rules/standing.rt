@@ -1,6 +1,6 @@
 //! Standing rules: the rules on callers and acts, by the register now.
 ghost use Rattle.std.specs.Prelude.{◌≡◌};
-ghost use Rattle.land_rules.specs.Rules.{first_denial, standing_rules, caller_rules, is_of_the_present};
+ghost use Rattle.land_rules.specs.Rules.{first_denial, standing_rules, caller_rules, sees_only_present};
 
 use crate::verdict::Verdict;
 use land_core::ask::Ask;
@@ -31,7 +31,7 @@ fn caller_verdict(now: &Register, caller: Caller, past: bool) -> Verdict
         Verdict::Denied(1)
     } else if !now.holds(caller.party, caller.role) {
         Verdict::Denied(2)
-    } else if past && is_of_the_present(caller) {
+    } else if past && sees_only_present(caller) {
         Verdict::Denied(3)
     } else {
         Verdict::Allowed
@@ -39,8 +39,8 @@ fn caller_verdict(now: &Register, caller: Caller, past: bool) -> Verdict
 }
 
 /// Returns whether the caller's role sees only the present.
-fn is_of_the_present(caller: Caller) -> bool
-    ensures { result ≡ is_of_the_present caller }
+fn sees_only_present(caller: Caller) -> bool
+    ensures { result ≡ sees_only_present caller }
 {
     caller.role == Role::Bank
         || caller.role == Role::Conveyancer

@@ -5,7 +5,7 @@ use Rattle.std.specs.FinMap.{FinMap}
 use Rattle.std.specs.List.{list_any}
 use Rattle.std.specs.Option.{option_map_or}
 use Rattle.std.specs.Ordering.{nat_cmp}
-use Rattle.land_acts.specs.Mandating.{given}
+use Rattle.land_acts.specs.Mandating.{mandate_of_caller}
 use Rattle.land_core.specs.declared.act.Act.{Act}
 use Rattle.land_core.specs.declared.act.Act.TheVariants as act
 use Rattle.land_core.specs.declared.caller.Caller.{Caller}
@@ -77,7 +77,7 @@ mandate_of_act caller (act.Group it) = None
 mandate_of_act caller (act.Regroup it) = None
 mandate_of_act caller (act.Grant it) = None
 mandate_of_act caller (act.Revoke it) = None
-mandate_of_act caller (act.Mandate it) = Some (given caller it)
+mandate_of_act caller (act.Mandate it) = Some (mandate_of_caller caller it)
 mandate_of_act caller (act.Withdraw it) = Some it
 mandate_of_act caller (act.Register it) = None
 mandate_of_act caller (act.Burden it) = None

@@ -45,9 +45,9 @@ impl GatheredSources {
 }
 
 impl Gathers for GatheredSources {
-    ghost use Rattle.land_select.specs.Slices.Gathered.{KnowsPapers};
+    ghost use Rattle.land_select.specs.Slices.Gathered.{KnowsSources};
 
-    ghost knows = { KnowsPapers };
+    ghost knows = { KnowsSources };
 
     fn gather<S: Alter>(
         self,

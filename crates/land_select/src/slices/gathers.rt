@@ -1,7 +1,7 @@
 //! Parts of a register that are read number by number.
 ghost use Rattle.std.specs.Prelude.{ℕ, Bool};
 ghost use Rattle.land_core.specs.declared.register.Register.{Register};
-ghost use Rattle.land_select.specs.Slices.Gathered.{Grows, with_number, with_numbers};
+ghost use Rattle.land_select.specs.Slices.Gathered.{KnowsMore, with_number, with_numbers};
 ghost use Rattle.land_select_joins.specs.TableReads.{ReadsTables};
 ghost use Rattle.land_tables_schema.specs.Connections.{HasRegisterTables, IsUsable, LeavesAutocommit};
 
@@ -22,10 +22,10 @@ pub(crate) trait Gathers: Sized {
         number: u64,
         at: i64,
     ) -> Result<Self, ReadFault>
-        requires land { HasRegisterTables S.Store conn.old }
-        ensures look { ReadsTables S.Store result (λ db it. Grows knows (with_number number) self it at db)
+        requires has_tables { HasRegisterTables S.Store conn.old }
+        ensures reads_only { ReadsTables S.Store result (λ db it. KnowsMore knows (with_number number) self it at db)
             conn.old conn.new }
-        ensures mode { LeavesAutocommit conn.old conn.new };
+        ensures autocommit { LeavesAutocommit conn.old conn.new };
 }
 
 /// Reads the records of a list of numbers at a time, in Unix milliseconds.
@@ -37,10 +37,10 @@ pub(crate) fn gather_all<G: Gathers + Drop, S: Alter>(
     at: i64,
 ) -> Result<G, ReadFault>
     requires open { IsUsable S.Store conn.old }
-    requires land { HasRegisterTables S.Store conn.old }
-    ensures look { ReadsTables S.Store result
-        (λ db it. Grows G.knows (with_numbers numbers.now) from it at db) conn.old conn.new }
-    ensures mode { LeavesAutocommit conn.old conn.new }
+    requires has_tables { HasRegisterTables S.Store conn.old }
+    ensures reads_only { ReadsTables S.Store result
+        (λ db it. KnowsMore G.knows (with_numbers numbers.now) from it at db) conn.old conn.new }
+    ensures autocommit { LeavesAutocommit conn.old conn.new }
 {
     let mut gathered = from;
     for number in numbers {

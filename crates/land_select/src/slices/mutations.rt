@@ -1,8 +1,8 @@
 //! The mutations that an act refers to.
 ghost use Rattle.std.specs.Prelude.{nat_eq};
-ghost use Rattle.land_acts.specs.Slices.{mutations_looked_at};
-ghost use Rattle.land_core.specs.Entries.{only};
-ghost use Rattle.land_select_joins.specs.Lookups.Parts.{IsPart};
+ghost use Rattle.land_acts.specs.Slices.{mutations_in_slice};
+ghost use Rattle.land_core.specs.Entries.{entries_where};
+ghost use Rattle.land_select_joins.specs.Lookups.Parts.{ReadsPart};
 ghost use Rattle.land_select_joins.specs.TableReads.{ReadsTables};
 ghost use Rattle.land_tables_schema.specs.Connections.{HasRegisterTables, IsUsable, LeavesAutocommit};
 
@@ -17,16 +17,16 @@ use sqlite::{Alter, Connection};
 use std::alloc::Global;
 
 /// Reads the mutation of a number, if it exists.
-fn at_number<S: Alter>(
+fn read_mutation_records<S: Alter>(
     alloc: Global,
     conn: &mut Connection<S>,
     number: u64,
     at: i64,
 ) -> Result<Records<MutationRecord>, ReadFault>
-    requires land { HasRegisterTables S.Store conn.old }
-    ensures look { ReadsTables S.Store result (IsPart (λ r. only (λ n m. nat_eq n number) r.mutations) at)
+    requires has_tables { HasRegisterTables S.Store conn.old }
+    ensures reads_only { ReadsTables S.Store result (ReadsPart (λ r. entries_where (λ n m. nat_eq n number) r.mutations) at)
         conn.old conn.new }
-    ensures mode { LeavesAutocommit conn.old conn.new }
+    ensures autocommit { LeavesAutocommit conn.old conn.new }
 {
     let found = by_number::record(alloc, conn, number, at)?;
     Ok(put_one(Records::new(alloc), number, found)?)
@@ -42,16 +42,16 @@ pub(crate) fn mutations_of<S: Alter>(
     at: i64,
 ) -> Result<Records<MutationRecord>, ReadFault>
     requires open { IsUsable S.Store conn.old }
-    requires land { HasRegisterTables S.Store conn.old }
-    ensures look { ReadsTables S.Store result (IsPart (λ r. mutations_looked_at r caller act.now) at) conn.old
+    requires has_tables { HasRegisterTables S.Store conn.old }
+    ensures reads_only { ReadsTables S.Store result (ReadsPart (λ r. mutations_in_slice r caller act.now) at) conn.old
         conn.new }
-    ensures mode { LeavesAutocommit conn.old conn.new }
+    ensures autocommit { LeavesAutocommit conn.old conn.new }
 {
     match act {
         Act::Lodge(it) => {
-            of_lodger::lodged_as(alloc, conn, caller.party, it.reference.as_str(), at)
+            of_lodger::find_lodged(alloc, conn, caller.party, it.reference.as_str(), at)
         }
-        Act::Approve(it) | Act::Refuse(it) => at_number(alloc, conn, it.mutation, at),
+        Act::Approve(it) | Act::Refuse(it) => read_mutation_records(alloc, conn, it.mutation, at),
         _ => Ok(Records::new(alloc)),
     }
 }

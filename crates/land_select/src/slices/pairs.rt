@@ -1,9 +1,9 @@
 //! The mandate that an act gives or withdraws.
 ghost use Rattle.std.specs.Prelude.{◌≡◌, IfOk};
-ghost use Rattle.land_acts.specs.Slices.{is_mandate, names_mandate};
-ghost use Rattle.land_core.specs.Entries.{only};
+ghost use Rattle.land_acts.specs.Slices.{is_same_mandate, names_mandate};
+ghost use Rattle.land_core.specs.Entries.{entries_where};
 ghost use Rattle.land_select.specs.Slices.Named.{mandate_of_act};
-ghost use Rattle.land_select_joins.specs.Lookups.Parts.{IsPart};
+ghost use Rattle.land_select_joins.specs.Lookups.Parts.{ReadsPart};
 ghost use Rattle.land_select_joins.specs.TableReads.{ReadsTables};
 ghost use Rattle.land_tables_schema.specs.Connections.{HasRegisterTables, IsUsable, LeavesAutocommit};
 
@@ -30,19 +30,19 @@ fn mandate_of_act(caller: Caller, act: &Act) -> Option<Mandate>
 }
 
 /// Checks if two mandates have the same principal and the same agent.
-fn is_mandate(it: Mandate, mandate: Mandate) -> bool
-    ensures { result ≡ is_mandate it mandate }
+fn is_same_mandate(it: Mandate, mandate: Mandate) -> bool
+    ensures { result ≡ is_same_mandate it mandate }
 {
     mandate.principal == it.principal && mandate.agent == it.agent
 }
 
 /// Returns a mandate as the only one, if it is in a list.
-fn one_of(alloc: Global, mandates: &Mandates, it: Mandate) -> Result<Mandates, AllocError>
-    ensures { IfOk result (λ kept. kept ≡ only (λ mandate u. is_mandate it mandate) mandates.now) }
+fn only_mandate(alloc: Global, mandates: &Mandates, it: Mandate) -> Result<Mandates, AllocError>
+    ensures { IfOk result (λ kept. kept ≡ entries_where (λ mandate u. is_same_mandate it mandate) mandates.now) }
 {
     let mut kept = Mandates::new(alloc);
     for mandate in mandates.iter() {
-        if is_mandate(it, *mandate) {
+        if is_same_mandate(it, *mandate) {
             kept.insert(*mandate)?;
         }
     }
@@ -50,19 +50,19 @@ fn one_of(alloc: Global, mandates: &Mandates, it: Mandate) -> Result<Mandates, A
 }
 
 /// Reads a mandate, if it exists, from those that its agent holds.
-fn between<S: Alter>(
+fn read_mandate<S: Alter>(
     alloc: Global,
     conn: &mut Connection<S>,
     it: Mandate,
     at: i64,
 ) -> Result<Mandates, ReadFault>
-    requires land { HasRegisterTables S.Store conn.old }
-    ensures look { ReadsTables S.Store result
-        (IsPart (λ r. only (λ mandate u. is_mandate it mandate) r.mandates) at) conn.old conn.new }
-    ensures mode { LeavesAutocommit conn.old conn.new }
+    requires has_tables { HasRegisterTables S.Store conn.old }
+    ensures reads_only { ReadsTables S.Store result
+        (ReadsPart (λ r. entries_where (λ mandate u. is_same_mandate it mandate) r.mandates) at) conn.old conn.new }
+    ensures autocommit { LeavesAutocommit conn.old conn.new }
 {
     let held = of_agent::mandates(alloc, conn, it.agent, at)?;
-    Ok(one_of(alloc, &held, it)?)
+    Ok(only_mandate(alloc, &held, it)?)
 }
 
 /// Reads the mandate that an act gives or withdraws, if it exists at a time, in Unix milliseconds.
@@ -74,14 +74,14 @@ pub(crate) fn mandates_of<S: Alter>(
     at: i64,
 ) -> Result<Mandates, ReadFault>
     requires open { IsUsable S.Store conn.old }
-    requires land { HasRegisterTables S.Store conn.old }
-    ensures look { ReadsTables S.Store result
-        (IsPart (λ r. only (λ mandate u. names_mandate caller act.now mandate) r.mandates) at) conn.old
+    requires has_tables { HasRegisterTables S.Store conn.old }
+    ensures reads_only { ReadsTables S.Store result
+        (ReadsPart (λ r. entries_where (λ mandate u. names_mandate caller act.now mandate) r.mandates) at) conn.old
         conn.new }
-    ensures mode { LeavesAutocommit conn.old conn.new }
+    ensures autocommit { LeavesAutocommit conn.old conn.new }
 {
     match mandate_of_act(caller, act) {
-        Some(it) => between(alloc, conn, it, at),
+        Some(it) => read_mandate(alloc, conn, it, at),
         None => Ok(Mandates::new(alloc)),
     }
 }

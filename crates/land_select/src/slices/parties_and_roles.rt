@@ -1,8 +1,8 @@
 //! Parties, with their roles and members.
 ghost use Rattle.std.specs.Prelude.{◌≡◌, ℕ, Bool, IfOk};
 ghost use Rattle.std.specs.FinMap as map;
-ghost use Rattle.land_select.specs.Slices.Gathered.{IsSo, KnowsPeople, put_all, put_one, with_number};
-ghost use Rattle.land_select.specs.Slices.Gathered.{with_person};
+ghost use Rattle.land_select.specs.Slices.Gathered.{HoldsOfRegister, KnowsParties, put_all, put_one, with_number};
+ghost use Rattle.land_select.specs.Slices.Gathered.{with_party};
 ghost use Rattle.land_select_joins.specs.TableReads.{ReadsTables};
 ghost use Rattle.land_tables_schema.specs.Connections.{HasRegisterTables, LeavesAutocommit};
 
@@ -82,7 +82,7 @@ impl PartiesAndRoles {
     }
 
     /// Adds a party, its roles and its members.
-    pub(crate) fn with_person(
+    pub(crate) fn with_party(
         self,
         alloc: Global,
         number: u64,
@@ -90,7 +90,7 @@ impl PartiesAndRoles {
         roles: &Roles,
         members: &Records<Members>,
     ) -> Result<PartiesAndRoles, AllocError>
-        ensures { IfOk result (λ it. it ≡ with_person self number party roles.now members.now) }
+        ensures { IfOk result (λ it. it ≡ with_party self number party roles.now members.now) }
     {
         let PartiesAndRoles {
             parties,
@@ -104,7 +104,7 @@ impl PartiesAndRoles {
         })
     }
     /// Adds a party, and reads its roles and members.
-    fn joined_by<S: Alter>(
+    fn with_looked_up<S: Alter>(
         self,
         alloc: Global,
         conn: &mut Connection<S>,
@@ -112,23 +112,23 @@ impl PartiesAndRoles {
         party: Option<PartyRecord>,
         at: i64,
     ) -> Result<PartiesAndRoles, ReadFault>
-        requires land { HasRegisterTables S.Store conn.old }
-        ensures look { ReadsTables S.Store result
-            (λ db it. IsSo (λ r. party ≡ map.get r.parties number → (asked : ℕ → Bool)
-            → KnowsPeople r asked self → KnowsPeople r (with_number number asked) it) at db) conn.old
+        requires has_tables { HasRegisterTables S.Store conn.old }
+        ensures reads_only { ReadsTables S.Store result
+            (λ db it. HoldsOfRegister (λ r. party ≡ map.get r.parties number → (asked : ℕ → Bool)
+            → KnowsParties r asked self → KnowsParties r (with_number number asked) it) at db) conn.old
             conn.new }
-        ensures mode { LeavesAutocommit conn.old conn.new }
+        ensures autocommit { LeavesAutocommit conn.old conn.new }
     {
         let roles = of_party::roles(alloc, conn, number, at)?;
         let members = of_group::members(alloc, conn, number, at)?;
-        Ok(self.with_person(alloc, number, party, &roles, &members)?)
+        Ok(self.with_party(alloc, number, party, &roles, &members)?)
     }
 }
 
 impl Gathers for PartiesAndRoles {
-    ghost use Rattle.land_select.specs.Slices.Gathered.{KnowsPeople};
+    ghost use Rattle.land_select.specs.Slices.Gathered.{KnowsParties};
 
-    ghost knows = { KnowsPeople };
+    ghost knows = { KnowsParties };
 
     fn gather<S: Alter>(
         self,
@@ -138,6 +138,6 @@ impl Gathers for PartiesAndRoles {
         at: i64,
     ) -> Result<PartiesAndRoles, ReadFault> {
         let party = by_number::record(alloc, conn, number, at)?;
-        self.joined_by(alloc, conn, number, party, at)
+        self.with_looked_up(alloc, conn, number, party, at)
     }
 }

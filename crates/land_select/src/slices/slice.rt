@@ -1,14 +1,14 @@
 //! Reads the slice of a register for an act, by lookups.
 ghost use Rattle.std.specs.FinMap as map;
 ghost use Rattle.std.specs.Prelude.{◌≡◌, ◌++◌, nat_eq, map as map_list, IfOk};
-ghost use Rattle.land_acts.specs.Slices.{looks_at_party, looks_at_source, mutations_looked_at, names_mandate};
+ghost use Rattle.land_acts.specs.Slices.{reads_party, reads_source, mutations_in_slice, names_mandate};
 ghost use Rattle.land_acts.specs.Slices.{names_rrr, names_unit, slice_of};
-ghost use Rattle.land_core.specs.Entries.{only, some};
+ghost use Rattle.land_core.specs.Entries.{entries_where, some};
 ghost use Rattle.land_core.specs.Grants.{grants_in};
 ghost use Rattle.land_core.specs.declared.caller.Caller.{Caller as Asker};
-ghost use Rattle.land_select.specs.Slices.Gathered.{IsKnown, IsSo, KnowsHoldings, KnowsPapers, KnowsPeople};
+ghost use Rattle.land_select.specs.Slices.Gathered.{IsKnown, HoldsOfRegister, KnowsUnits, KnowsSources, KnowsParties};
 ghost use Rattle.land_select.specs.Slices.Named.{parties_of};
-ghost use Rattle.land_select_joins.specs.Lookups.Parts.{IsPart};
+ghost use Rattle.land_select_joins.specs.Lookups.Parts.{ReadsPart};
 ghost use Rattle.land_select_joins.specs.TableReads.{ReadsTables};
 ghost use Rattle.land_tables_schema.specs.Connections.{HasRegisterTables, IsUsable, LeavesAutocommit};
 
@@ -35,7 +35,7 @@ use sqlite::{Alter, Connection};
 use std::alloc::{AllocError, Global};
 
 /// Returns the parties that an act refers to, and the holders of some roles.
-fn named_and_holders(
+fn referenced_and_holders(
     alloc: Global,
     act: &Act,
     mutations: &Records<MutationRecord>,
@@ -52,7 +52,7 @@ fn named_and_holders(
 }
 
 /// Reads the parties that an act refers to, and all state administrators.
-fn people_of<S: Alter>(
+fn read_parties<S: Alter>(
     alloc: Global,
     conn: &mut Connection<S>,
     act: &Act,
@@ -60,14 +60,14 @@ fn people_of<S: Alter>(
     at: i64,
 ) -> Result<PartiesAndRoles, ReadFault>
     requires open { IsUsable S.Store conn.old }
-    requires land { HasRegisterTables S.Store conn.old }
-    ensures look { ReadsTables S.Store result
-        (λ db it. IsSo (λ r. (caller : Asker) → mutations.now ≡ mutations_looked_at r caller act.now
-        → KnowsPeople r (λ n. looks_at_party r act.now n) it) at db) conn.old conn.new }
-    ensures mode { LeavesAutocommit conn.old conn.new }
+    requires has_tables { HasRegisterTables S.Store conn.old }
+    ensures reads_only { ReadsTables S.Store result
+        (λ db it. HoldsOfRegister (λ r. (caller : Asker) → mutations.now ≡ mutations_in_slice r caller act.now
+        → KnowsParties r (λ n. reads_party r act.now n) it) at db) conn.old conn.new }
+    ensures autocommit { LeavesAutocommit conn.old conn.new }
 {
     let office = office::administrators(alloc, conn, at)?;
-    let parties = named_and_holders(alloc, act, mutations, &office)?;
+    let parties = referenced_and_holders(alloc, act, mutations, &office)?;
     gather_all(
         alloc,
         conn,
@@ -78,7 +78,7 @@ fn people_of<S: Alter>(
 }
 
 /// Reads the units that an act refers to.
-fn holdings_of<S: Alter>(
+fn read_units<S: Alter>(
     alloc: Global,
     conn: &mut Connection<S>,
     act: &Act,
@@ -86,11 +86,11 @@ fn holdings_of<S: Alter>(
     at: i64,
 ) -> Result<UnitsAndEntries, ReadFault>
     requires open { IsUsable S.Store conn.old }
-    requires land { HasRegisterTables S.Store conn.old }
-    ensures look { ReadsTables S.Store result
-        (λ db it. IsSo (λ r. (caller : Asker) → mutations.now ≡ mutations_looked_at r caller act.now
-        → KnowsHoldings r (λ n. names_unit r act.now n) it) at db) conn.old conn.new }
-    ensures mode { LeavesAutocommit conn.old conn.new }
+    requires has_tables { HasRegisterTables S.Store conn.old }
+    ensures reads_only { ReadsTables S.Store result
+        (λ db it. HoldsOfRegister (λ r. (caller : Asker) → mutations.now ≡ mutations_in_slice r caller act.now
+        → KnowsUnits r (λ n. names_unit r act.now n) it) at db) conn.old conn.new }
+    ensures autocommit { LeavesAutocommit conn.old conn.new }
 {
     let units = units_of(alloc, act, mutations)?;
     gather_all(
@@ -103,18 +103,18 @@ fn holdings_of<S: Alter>(
 }
 
 /// Reads the sources of the mutations that an act refers to.
-fn papers_of<S: Alter>(
+fn read_sources<S: Alter>(
     alloc: Global,
     conn: &mut Connection<S>,
     mutations: &Records<MutationRecord>,
     at: i64,
 ) -> Result<GatheredSources, ReadFault>
     requires open { IsUsable S.Store conn.old }
-    requires land { HasRegisterTables S.Store conn.old }
-    ensures look { ReadsTables S.Store result
-        (λ db it. IsSo (λ r. KnowsPapers r (λ n. some (λ k m. nat_eq m.source n) mutations.now) it) at db)
+    requires has_tables { HasRegisterTables S.Store conn.old }
+    ensures reads_only { ReadsTables S.Store result
+        (λ db it. HoldsOfRegister (λ r. KnowsSources r (λ n. some (λ k m. nat_eq m.source n) mutations.now) it) at db)
         conn.old conn.new }
-    ensures mode { LeavesAutocommit conn.old conn.new }
+    ensures autocommit { LeavesAutocommit conn.old conn.new }
 {
     let sources = sources_of(alloc, mutations)?;
     gather_all(
@@ -133,27 +133,27 @@ fn entry_at<S: Alter>(
     number: u64,
     at: i64,
 ) -> Result<Records<RrrRecord>, ReadFault>
-    requires land { HasRegisterTables S.Store conn.old }
-    ensures look { ReadsTables S.Store result (IsPart (λ r. only (λ n e. nat_eq n number) r.rrrs) at) conn.old
+    requires has_tables { HasRegisterTables S.Store conn.old }
+    ensures reads_only { ReadsTables S.Store result (ReadsPart (λ r. entries_where (λ n e. nat_eq n number) r.rrrs) at) conn.old
         conn.new }
-    ensures mode { LeavesAutocommit conn.old conn.new }
+    ensures autocommit { LeavesAutocommit conn.old conn.new }
 {
     let found = by_number::record(alloc, conn, number, at)?;
     Ok(put_one(Records::new(alloc), number, found)?)
 }
 
 /// Reads the entry that an act lifts, if any.
-fn lifted_by<S: Alter>(
+fn read_lifted_entry<S: Alter>(
     alloc: Global,
     conn: &mut Connection<S>,
     act: &Act,
     at: i64,
 ) -> Result<Records<RrrRecord>, ReadFault>
     requires open { IsUsable S.Store conn.old }
-    requires land { HasRegisterTables S.Store conn.old }
-    ensures look { ReadsTables S.Store result (IsPart (λ r. only (λ n e. names_rrr r act.now n) r.rrrs) at)
+    requires has_tables { HasRegisterTables S.Store conn.old }
+    ensures reads_only { ReadsTables S.Store result (ReadsPart (λ r. entries_where (λ n e. names_rrr r act.now n) r.rrrs) at)
         conn.old conn.new }
-    ensures mode { LeavesAutocommit conn.old conn.new }
+    ensures autocommit { LeavesAutocommit conn.old conn.new }
 {
     match act {
         Act::Lift(it) => entry_at(alloc, conn, it.rrr, at),
@@ -180,11 +180,11 @@ fn slice_with<S: Alter>(
     at: i64,
 ) -> Result<Slice, ReadFault>
     requires open { IsUsable S.Store conn.old }
-    requires land { HasRegisterTables S.Store conn.old }
-    ensures look { ReadsTables S.Store result
-        (λ db it. IsSo (λ r. (caller : Asker) → IsKnown r caller act.now known
+    requires has_tables { HasRegisterTables S.Store conn.old }
+    ensures reads_only { ReadsTables S.Store result
+        (λ db it. HoldsOfRegister (λ r. (caller : Asker) → IsKnown r caller act.now known
         → it ≡ slice_of r caller act.now) at db) conn.old conn.new }
-    ensures mode { LeavesAutocommit conn.old conn.new }
+    ensures autocommit { LeavesAutocommit conn.old conn.new }
 {
     let Known {
         mutations,
@@ -193,8 +193,8 @@ fn slice_with<S: Alter>(
         mandates,
         next,
     } = known;
-    let gathered_sources = papers_of(alloc, conn, &mutations, at)?;
-    let lifted = lifted_by(alloc, conn, act, at)?;
+    let gathered_sources = read_sources(alloc, conn, &mutations, at)?;
+    let lifted = read_lifted_entry(alloc, conn, act, at)?;
     Ok(Register {
         parties: parties_and_roles.parties,
         roles: parties_and_roles.roles,
@@ -220,16 +220,16 @@ fn slice_about<S: Alter>(
     at: i64,
 ) -> Result<Slice, ReadFault>
     requires open { IsUsable S.Store conn.old }
-    requires land { HasRegisterTables S.Store conn.old }
-    ensures look { ReadsTables S.Store result
-        (λ db it. IsSo (λ r. r.next ≡ next → (caller : Asker)
-        → mutations ≡ mutations_looked_at r caller act.now
-        → mandates ≡ only (λ m u. names_mandate caller act.now m) r.mandates → it ≡ slice_of r caller act.now)
+    requires has_tables { HasRegisterTables S.Store conn.old }
+    ensures reads_only { ReadsTables S.Store result
+        (λ db it. HoldsOfRegister (λ r. r.next ≡ next → (caller : Asker)
+        → mutations ≡ mutations_in_slice r caller act.now
+        → mandates ≡ entries_where (λ m u. names_mandate caller act.now m) r.mandates → it ≡ slice_of r caller act.now)
         at db) conn.old conn.new }
-    ensures mode { LeavesAutocommit conn.old conn.new }
+    ensures autocommit { LeavesAutocommit conn.old conn.new }
 {
-    let parties_and_roles = people_of(alloc, conn, act, &mutations, at)?;
-    let units_and_entries = holdings_of(alloc, conn, act, &mutations, at)?;
+    let parties_and_roles = read_parties(alloc, conn, act, &mutations, at)?;
+    let units_and_entries = read_units(alloc, conn, act, &mutations, at)?;
     let known = Known {
         mutations,
         parties_and_roles,
@@ -252,10 +252,10 @@ pub fn slice_at<S: Alter>(
     at: i64,
 ) -> Result<Slice, ReadFault>
     requires open { IsUsable S.Store conn.old }
-    requires land { HasRegisterTables S.Store conn.old }
-    ensures look { ReadsTables S.Store result
-        (λ db it. IsSo (λ r. r.next ≡ next → it ≡ slice_of r caller act.now) at db) conn.old conn.new }
-    ensures mode { LeavesAutocommit conn.old conn.new }
+    requires has_tables { HasRegisterTables S.Store conn.old }
+    ensures reads_only { ReadsTables S.Store result
+        (λ db it. HoldsOfRegister (λ r. r.next ≡ next → it ≡ slice_of r caller act.now) at db) conn.old conn.new }
+    ensures autocommit { LeavesAutocommit conn.old conn.new }
 {
     let mutations = mutations_of(alloc, conn, caller, act, at)?;
     let mandates = mandates_of(alloc, conn, caller, act, at)?;

@@ -1,7 +1,7 @@
 //! Units, with their parcels and entries.
 ghost use Rattle.std.specs.FinMap as map;
 ghost use Rattle.std.specs.Prelude.{◌≡◌, ℕ, Bool, IfOk};
-ghost use Rattle.land_select.specs.Slices.Gathered.{IsSo, KnowsHoldings, with_number, with_unit};
+ghost use Rattle.land_select.specs.Slices.Gathered.{HoldsOfRegister, KnowsUnits, with_number, with_unit};
 ghost use Rattle.land_select_joins.specs.TableReads.{ReadsTables};
 ghost use Rattle.land_tables_schema.specs.Connections.{HasRegisterTables, LeavesAutocommit};
 
@@ -63,7 +63,7 @@ impl UnitsAndEntries {
     }
 
     /// Adds a unit, and reads its parcels and entries.
-    fn joined_by<S: Alter>(
+    fn with_looked_up<S: Alter>(
         self,
         alloc: Global,
         conn: &mut Connection<S>,
@@ -71,12 +71,12 @@ impl UnitsAndEntries {
         unit: Option<UnitRecord>,
         at: i64,
     ) -> Result<UnitsAndEntries, ReadFault>
-        requires land { HasRegisterTables S.Store conn.old }
-        ensures look { ReadsTables S.Store result
-            (λ db it. IsSo (λ r. unit ≡ map.get r.units number → (asked : ℕ → Bool)
-            → KnowsHoldings r asked self → KnowsHoldings r (with_number number asked) it) at db) conn.old
+        requires has_tables { HasRegisterTables S.Store conn.old }
+        ensures reads_only { ReadsTables S.Store result
+            (λ db it. HoldsOfRegister (λ r. unit ≡ map.get r.units number → (asked : ℕ → Bool)
+            → KnowsUnits r asked self → KnowsUnits r (with_number number asked) it) at db) conn.old
             conn.new }
-        ensures mode { LeavesAutocommit conn.old conn.new }
+        ensures autocommit { LeavesAutocommit conn.old conn.new }
     {
         let parcels = of_unit::parcels(alloc, conn, number, at)?;
         let rrrs = of_unit::entries(alloc, conn, number, at)?;
@@ -85,9 +85,9 @@ impl UnitsAndEntries {
 }
 
 impl Gathers for UnitsAndEntries {
-    ghost use Rattle.land_select.specs.Slices.Gathered.{KnowsHoldings};
+    ghost use Rattle.land_select.specs.Slices.Gathered.{KnowsUnits};
 
-    ghost knows = { KnowsHoldings };
+    ghost knows = { KnowsUnits };
 
     fn gather<S: Alter>(
         self,
@@ -97,6 +97,6 @@ impl Gathers for UnitsAndEntries {
         at: i64,
     ) -> Result<UnitsAndEntries, ReadFault> {
         let unit = by_number::record(alloc, conn, number, at)?;
-        self.joined_by(alloc, conn, number, unit, at)
+        self.with_looked_up(alloc, conn, number, unit, at)
     }
 }

@@ -2,23 +2,23 @@
 ghost use Rattle.std.specs.FinMap as map;
 ghost use Rattle.std.specs.Prelude.{if◌then◌else◌};
 ghost use Rattle.land_core.specs.declared.kind.Kind.TheVariants as kinds;
-ghost use Rattle.land_rules.specs.Denials.Sight.{is_awaited};
-ghost use Rattle.land_rules.specs.Relations.{is_lodger_on};
-ghost use Rattle.land_select.specs.Cache.{IsToldWith};
-ghost use Rattle.land_select.specs.Views.{awaited_of};
-ghost use Rattle.land_select_joins.specs.Lookups.Parts.{IsPart};
+ghost use Rattle.land_rules.specs.Denials.Sight.{is_visible_by_pending};
+ghost use Rattle.land_rules.specs.Relations.{has_pending_mutation_on};
+ghost use Rattle.land_select.specs.Cache.{IsFactWith};
+ghost use Rattle.land_select.specs.Views.{pending_entries};
+ghost use Rattle.land_select_joins.specs.Lookups.Parts.{ReadsPart};
 ghost use Rattle.land_select_joins.specs.TableReads.{ReadsTables};
 ghost use Rattle.land_tables_schema.specs.Connections.{HasRegisterTables, IsUsable, LeavesAutocommit};
 
 use crate::cache::{CachedValue, cached_object};
 use land_core::caller::Caller;
 use land_core::kind::Kind;
-use land_core::laws::soundness_by_look_ups;
+use land_core::laws::soundness_by_number;
 use land_core::records::Records;
 use land_core::rrr::RrrRecord;
 use land_select_joins::lookups::by_number;
-use land_select_joins::lookups::lodgers::is_lodger_on;
-use land_select_joins::lookups::presence::unit_stands;
+use land_select_joins::lookups::lodgers::has_pending_mutation_on;
+use land_select_joins::lookups::existence::unit_exists;
 use land_select_joins::lookups::shown::Shown;
 use land_tables_rows::listing::fault::ReadFault;
 use sqlite::{Alter, Connection};
@@ -26,66 +26,66 @@ use std::alloc::Global;
 
 /// Returns if a unit exists at a time and a pending mutation of the caller refers to it; and if one refers to
 /// it, regardless of its existence.
-pub(crate) fn unit_awaited<S: Alter>(
+pub(crate) fn read_pending_unit<S: Alter>(
     alloc: Global,
     conn: &mut Connection<S>,
     caller: Caller,
     unit: u64,
     at: i64,
 ) -> Result<(bool, bool), ReadFault>
-    requires land { HasRegisterTables S.Store conn.old }
-    ensures look { ReadsTables S.Store result
-        (IsPart (λ r. (is_awaited r caller kinds.Unit unit, is_lodger_on r caller.party unit)) at) conn.old
+    requires has_tables { HasRegisterTables S.Store conn.old }
+    ensures reads_only { ReadsTables S.Store result
+        (ReadsPart (λ r. (is_visible_by_pending r caller kinds.Unit unit, has_pending_mutation_on r caller.party unit)) at) conn.old
         conn.new }
-    ensures mode { LeavesAutocommit conn.old conn.new }
+    ensures autocommit { LeavesAutocommit conn.old conn.new }
 {
-    if !is_lodger_on(alloc, conn, caller.party, unit, at)? {
+    if !has_pending_mutation_on(alloc, conn, caller.party, unit, at)? {
         return Ok((false, false));
     }
-    let there = unit_stands(alloc, conn, unit, at)?;
+    let there = unit_exists(alloc, conn, unit, at)?;
     Ok((there, true))
 }
 
 /// Checks if a unit exists at a time and a pending mutation of the caller refers to it.
-fn is_unit_awaited<S: Alter>(
+fn is_unit_pending<S: Alter>(
     alloc: Global,
     conn: &mut Connection<S>,
     caller: Caller,
     unit: u64,
     at: i64,
 ) -> Result<bool, ReadFault>
-    requires land { HasRegisterTables S.Store conn.old }
-    ensures look { ReadsTables S.Store result (IsPart (λ r. is_awaited r caller kinds.Unit unit) at) conn.old
+    requires has_tables { HasRegisterTables S.Store conn.old }
+    ensures reads_only { ReadsTables S.Store result (ReadsPart (λ r. is_visible_by_pending r caller kinds.Unit unit) at) conn.old
         conn.new }
-    ensures mode { LeavesAutocommit conn.old conn.new }
+    ensures autocommit { LeavesAutocommit conn.old conn.new }
 {
-    let told = unit_awaited(alloc, conn, caller, unit, at)?;
-    let (awaited, _) = told;
-    Ok(awaited)
+    let told = read_pending_unit(alloc, conn, caller, unit, at)?;
+    let (is_pending, _) = told;
+    Ok(is_pending)
 }
 
 /// Checks if an entry exists at a time and a pending mutation of the caller refers to its unit. Also returns
 /// the entry.
-fn entry_awaited<S: Alter>(
+fn read_pending_entry<S: Alter>(
     alloc: Global,
     conn: &mut Connection<S>,
     caller: Caller,
     number: u64,
     at: i64,
 ) -> Result<(bool, CachedValue), ReadFault>
-    requires land { HasRegisterTables S.Store conn.old }
-    ensures look { ReadsTables S.Store result
-        (IsToldWith (λ r. is_awaited r caller kinds.Rrr number) caller kinds.Rrr number at) conn.old
+    requires has_tables { HasRegisterTables S.Store conn.old }
+    ensures reads_only { ReadsTables S.Store result
+        (IsFactWith (λ r. is_visible_by_pending r caller kinds.Rrr number) caller kinds.Rrr number at) conn.old
         conn.new }
-    ensures mode { LeavesAutocommit conn.old conn.new }
+    ensures autocommit { LeavesAutocommit conn.old conn.new }
 {
-    soundness_by_look_ups();
+    soundness_by_number();
     let found = by_number::record::<RrrRecord, S>(alloc, conn, number, at)?;
     match found {
         Some(entry) => {
-            let awaited = is_lodger_on(alloc, conn, caller.party, entry.unit, at)?;
+            let is_pending = has_pending_mutation_on(alloc, conn, caller.party, entry.unit, at)?;
             Ok((
-                awaited,
+                is_pending,
                 cached_object(RrrRecord::shown(number, Some(entry))),
             ))
         }
@@ -95,7 +95,7 @@ fn entry_awaited<S: Alter>(
 
 /// Checks if an object exists at a time and is a unit to which a pending mutation of the caller refers, or an
 /// entry of such a unit. Also returns the entry, if it exists.
-pub(crate) fn awaited<S: Alter>(
+pub(crate) fn is_pending<S: Alter>(
     alloc: Global,
     conn: &mut Connection<S>,
     caller: Caller,
@@ -104,18 +104,18 @@ pub(crate) fn awaited<S: Alter>(
     at: i64,
 ) -> Result<(bool, CachedValue), ReadFault>
     requires open { IsUsable S.Store conn.old }
-    requires land { HasRegisterTables S.Store conn.old }
-    ensures look { ReadsTables S.Store result
-        (IsToldWith (λ r. is_awaited r caller kind number) caller kind number at) conn.old conn.new }
-    ensures mode { LeavesAutocommit conn.old conn.new }
+    requires has_tables { HasRegisterTables S.Store conn.old }
+    ensures reads_only { ReadsTables S.Store result
+        (IsFactWith (λ r. is_visible_by_pending r caller kind number) caller kind number at) conn.old conn.new }
+    ensures autocommit { LeavesAutocommit conn.old conn.new }
 {
-    soundness_by_look_ups();
+    soundness_by_number();
     match kind {
         Kind::Unit => {
-            let awaited = is_unit_awaited(alloc, conn, caller, number, at)?;
-            Ok((awaited, CachedValue::Nothing))
+            let is_pending = is_unit_pending(alloc, conn, caller, number, at)?;
+            Ok((is_pending, CachedValue::Nothing))
         }
-        Kind::Rrr => entry_awaited(alloc, conn, caller, number, at),
+        Kind::Rrr => read_pending_entry(alloc, conn, caller, number, at),
         Kind::Party | Kind::Parcel | Kind::Source | Kind::Mutation => Ok((
             false,
             CachedValue::Nothing,
@@ -124,7 +124,7 @@ pub(crate) fn awaited<S: Alter>(
 }
 
 /// Returns the entries of a unit if a pending mutation of the party refers to the unit at a time, else none.
-pub(crate) fn awaited_of<S: Alter>(
+pub(crate) fn pending_entries<S: Alter>(
     alloc: Global,
     conn: &mut Connection<S>,
     party: u64,
@@ -132,12 +132,12 @@ pub(crate) fn awaited_of<S: Alter>(
     entries: Records<RrrRecord>,
     at: i64,
 ) -> Result<Records<RrrRecord>, ReadFault>
-    requires land { HasRegisterTables S.Store conn.old }
-    ensures look { ReadsTables S.Store result (IsPart (λ r. awaited_of r party unit entries) at) conn.old
+    requires has_tables { HasRegisterTables S.Store conn.old }
+    ensures reads_only { ReadsTables S.Store result (ReadsPart (λ r. pending_entries r party unit entries) at) conn.old
         conn.new }
-    ensures mode { LeavesAutocommit conn.old conn.new }
+    ensures autocommit { LeavesAutocommit conn.old conn.new }
 {
-    if is_lodger_on(alloc, conn, party, unit, at)? {
+    if has_pending_mutation_on(alloc, conn, party, unit, at)? {
         return Ok(entries);
     }
     Ok(Records::new(alloc))

@@ -1,29 +1,29 @@
 //! The interest of a citizen or a bank in a unit, and the objects that it shows.
 ghost use Rattle.std.specs.Prelude.{◌≡◌, ◌++◌, true, IfOk};
-ghost use Rattle.land_core.specs.Entries.{only};
+ghost use Rattle.land_core.specs.Entries.{entries_where};
 ghost use Rattle.land_core.specs.Role.{is_role};
 ghost use Rattle.land_core.specs.declared.kind.Kind.TheVariants as kinds;
 ghost use Rattle.land_core.specs.declared.role.Role.TheVariants as roles;
 ghost use Rattle.land_rules.specs.Circles.{circle_of, is_name_of};
 ghost use Rattle.land_rules.specs.Denials.Interests.{interest_at, interest_of, is_shown_by_interest};
 ghost use Rattle.land_rules.specs.Denials.Interests.{sees_by_interest, shows_entry, shows_unit};
-ghost use Rattle.land_select.specs.Cache.{IsToldWith};
-ghost use Rattle.land_select.specs.Views.{AreGroupsAt, AreNamesAt, shown_of};
-ghost use Rattle.land_select_joins.specs.Lookups.Parts.{IsPart};
+ghost use Rattle.land_select.specs.Cache.{IsFactWith};
+ghost use Rattle.land_select.specs.Views.{AreGroupsAt, AreNamesAt, entries_by_interest};
+ghost use Rattle.land_select_joins.specs.Lookups.Parts.{ReadsPart};
 ghost use Rattle.land_select_joins.specs.TableReads.{ReadsTables};
 ghost use Rattle.land_tables_schema.specs.Connections.{HasRegisterTables, IsUsable, LeavesAutocommit};
 
 use crate::cache::{CachedValue, cached_object};
 use land_core::caller::Caller;
 use land_core::duplicate::Duplicate;
-use land_core::laws::soundness_by_look_ups;
+use land_core::laws::soundness_by_number;
 use land_core::records::Records;
 use land_core::role::Role;
 use land_core::rrr::RrrRecord;
 use land_core::sequence::{NumberList, Sequence};
 use land_rules::denials::interests::{Interest, interest_of};
-use land_rules::denials::laws::{interests_tell_sight, names_tell_interests};
-use land_select_joins::joins::running::unite_for;
+use land_rules::denials::laws::{interests_decide_sight, names_decide_interests};
+use land_select_joins::joins::running::run_union_for;
 use land_select_joins::lookups::of_agent::circle;
 use land_select_joins::lookups::shown::Shown;
 use land_select_joins::lookups::{by_number, of_unit};
@@ -40,18 +40,18 @@ pub(crate) fn is_citizen(role: Role) -> bool
 }
 
 /// Reads the groups with a member in a list, at a time.
-fn groups_of<S: Alter>(
+fn read_groups<S: Alter>(
     alloc: Global,
     conn: &mut Connection<S>,
     callers: &[u64],
     at: i64,
 ) -> Result<NumberList, ReadFault>
     requires open { IsUsable S.Store conn.old }
-    requires land { HasRegisterTables S.Store conn.old }
-    ensures look { ReadsTables S.Store result (AreGroupsAt callers.now at) conn.old conn.new }
-    ensures mode { LeavesAutocommit conn.old conn.new }
+    requires has_tables { HasRegisterTables S.Store conn.old }
+    ensures reads_only { ReadsTables S.Store result (AreGroupsAt callers.now at) conn.old conn.new }
+    ensures autocommit { LeavesAutocommit conn.old conn.new }
 {
-    unite_for(alloc, conn, &[Selection::ItsGroups], callers, at)
+    run_union_for(alloc, conn, &[Selection::ItsGroups], callers, at)
 }
 
 /// Returns the names of groups and of a circle.
@@ -65,27 +65,27 @@ fn together(groups: NumberList, circle: &[u64]) -> Result<NumberList, AllocError
 
 /// Reads the names in which a citizen holds rights at a time, in any order: its circle, and the groups with a
 /// member in the circle. Other roles have none.
-pub(crate) fn names_of<S: Alter>(
+pub(crate) fn read_names<S: Alter>(
     alloc: Global,
     conn: &mut Connection<S>,
     caller: Caller,
     at: i64,
 ) -> Result<NumberList, ReadFault>
     requires open { IsUsable S.Store conn.old }
-    requires land { HasRegisterTables S.Store conn.old }
-    ensures look { ReadsTables S.Store result (AreNamesAt caller at) conn.old conn.new }
-    ensures mode { LeavesAutocommit conn.old conn.new }
+    requires has_tables { HasRegisterTables S.Store conn.old }
+    ensures reads_only { ReadsTables S.Store result (AreNamesAt caller at) conn.old conn.new }
+    ensures autocommit { LeavesAutocommit conn.old conn.new }
 {
     if !is_citizen(caller.role) {
         return Ok(Sequence::new(alloc));
     }
     let callers = circle(alloc, conn, caller.party, at)?;
-    let groups = groups_of(alloc, conn, callers.as_slice(), at)?;
+    let groups = read_groups(alloc, conn, callers.as_slice(), at)?;
     Ok(together(groups, callers.as_slice())?)
 }
 
 /// Reads the interest of a caller at a time in the unit with these entries.
-fn interest_by<S: Alter>(
+fn read_interest_from<S: Alter>(
     alloc: Global,
     conn: &mut Connection<S>,
     caller: Caller,
@@ -93,19 +93,19 @@ fn interest_by<S: Alter>(
     at: i64,
 ) -> Result<Interest, ReadFault>
     requires open { IsUsable S.Store conn.old }
-    requires land { HasRegisterTables S.Store conn.old }
-    ensures look { ReadsTables S.Store result
-        (IsPart (λ r. interest_of (is_name_of r (circle_of r caller.party)) caller entries.now) at) conn.old
+    requires has_tables { HasRegisterTables S.Store conn.old }
+    ensures reads_only { ReadsTables S.Store result
+        (ReadsPart (λ r. interest_of (is_name_of r (circle_of r caller.party)) caller entries.now) at) conn.old
         conn.new }
-    ensures mode { LeavesAutocommit conn.old conn.new }
+    ensures autocommit { LeavesAutocommit conn.old conn.new }
 {
-    names_tell_interests();
-    let names = names_of(alloc, conn, caller, at)?;
+    names_decide_interests();
+    let names = read_names(alloc, conn, caller, at)?;
     Ok(interest_of(caller, names.as_slice(), entries))
 }
 
 /// Reads the interest of a caller in a unit at a time.
-fn interest_in<S: Alter>(
+fn read_interest<S: Alter>(
     alloc: Global,
     conn: &mut Connection<S>,
     caller: Caller,
@@ -113,12 +113,12 @@ fn interest_in<S: Alter>(
     at: i64,
 ) -> Result<Interest, ReadFault>
     requires open { IsUsable S.Store conn.old }
-    requires land { HasRegisterTables S.Store conn.old }
-    ensures look { ReadsTables S.Store result (IsPart (λ r. interest_at r caller unit) at) conn.old conn.new }
-    ensures mode { LeavesAutocommit conn.old conn.new }
+    requires has_tables { HasRegisterTables S.Store conn.old }
+    ensures reads_only { ReadsTables S.Store result (ReadsPart (λ r. interest_at r caller unit) at) conn.old conn.new }
+    ensures autocommit { LeavesAutocommit conn.old conn.new }
 {
     let entries = of_unit::entries(alloc, conn, unit, at)?;
-    interest_by(alloc, conn, caller, &entries, at)
+    read_interest_from(alloc, conn, caller, &entries, at)
 }
 
 /// Checks if a caller's interest in a unit shows the unit, at a time.
@@ -130,12 +130,12 @@ pub(crate) fn is_unit_shown<S: Alter>(
     at: i64,
 ) -> Result<bool, ReadFault>
     requires open { IsUsable S.Store conn.old }
-    requires land { HasRegisterTables S.Store conn.old }
-    ensures look { ReadsTables S.Store result (IsPart (λ r. shows_unit (interest_at r caller unit)) at)
+    requires has_tables { HasRegisterTables S.Store conn.old }
+    ensures reads_only { ReadsTables S.Store result (ReadsPart (λ r. shows_unit (interest_at r caller unit)) at)
         conn.old conn.new }
-    ensures mode { LeavesAutocommit conn.old conn.new }
+    ensures autocommit { LeavesAutocommit conn.old conn.new }
 {
-    let interest = interest_in(alloc, conn, caller, unit, at)?;
+    let interest = read_interest(alloc, conn, caller, unit, at)?;
     Ok(interest.shows_unit())
 }
 
@@ -148,19 +148,19 @@ fn is_entry_shown<S: Alter>(
     at: i64,
 ) -> Result<bool, ReadFault>
     requires open { IsUsable S.Store conn.old }
-    requires land { HasRegisterTables S.Store conn.old }
-    ensures look { ReadsTables S.Store result
-        (IsPart (λ r. shows_entry (interest_at r caller entry.now.unit) caller.party entry.now) at) conn.old
+    requires has_tables { HasRegisterTables S.Store conn.old }
+    ensures reads_only { ReadsTables S.Store result
+        (ReadsPart (λ r. shows_entry (interest_at r caller entry.now.unit) caller.party entry.now) at) conn.old
         conn.new }
-    ensures mode { LeavesAutocommit conn.old conn.new }
+    ensures autocommit { LeavesAutocommit conn.old conn.new }
 {
-    let interest = interest_in(alloc, conn, caller, entry.unit, at)?;
+    let interest = read_interest(alloc, conn, caller, entry.unit, at)?;
     Ok(interest.shows_entry(caller.party, entry))
 }
 
 /// Checks if an entry exists at a time and the caller's interest in its unit shows it. Also returns the
 /// entry.
-pub(crate) fn entry_shown<S: Alter>(
+pub(crate) fn read_shown_entry<S: Alter>(
     alloc: Global,
     conn: &mut Connection<S>,
     caller: Caller,
@@ -168,13 +168,13 @@ pub(crate) fn entry_shown<S: Alter>(
     at: i64,
 ) -> Result<(bool, CachedValue), ReadFault>
     requires open { IsUsable S.Store conn.old }
-    requires land { HasRegisterTables S.Store conn.old }
-    ensures look { ReadsTables S.Store result
-        (IsToldWith (λ r. is_shown_by_interest r caller kinds.Rrr number) caller kinds.Rrr number at) conn.old
+    requires has_tables { HasRegisterTables S.Store conn.old }
+    ensures reads_only { ReadsTables S.Store result
+        (IsFactWith (λ r. is_shown_by_interest r caller kinds.Rrr number) caller kinds.Rrr number at) conn.old
         conn.new }
-    ensures mode { LeavesAutocommit conn.old conn.new }
+    ensures autocommit { LeavesAutocommit conn.old conn.new }
 {
-    soundness_by_look_ups();
+    soundness_by_number();
     let found = by_number::record(alloc, conn, number, at)?;
     match found {
         Some(entry) => {
@@ -186,13 +186,13 @@ pub(crate) fn entry_shown<S: Alter>(
 }
 
 /// Returns the entries of a unit that a party's interest in the unit shows.
-fn shown_by(
+fn filter_by_interest(
     alloc: Global,
     interest: Interest,
     party: u64,
     entries: &Records<RrrRecord>,
 ) -> Result<Records<RrrRecord>, AllocError>
-    ensures { IfOk result (λ it. it ≡ only (λ n e. shows_entry interest party e) entries.now) }
+    ensures { IfOk result (λ it. it ≡ entries_where (λ n e. shows_entry interest party e) entries.now) }
 {
     let mut kept = Records::new(alloc);
     for (number, entry) in entries.iter() {
@@ -204,7 +204,7 @@ fn shown_by(
 }
 
 /// Returns the entries of a unit that a caller's interest in the unit shows, at a time.
-pub(crate) fn shown_of<S: Alter>(
+pub(crate) fn entries_by_interest<S: Alter>(
     alloc: Global,
     conn: &mut Connection<S>,
     caller: Caller,
@@ -212,18 +212,18 @@ pub(crate) fn shown_of<S: Alter>(
     at: i64,
 ) -> Result<Records<RrrRecord>, ReadFault>
     requires open { IsUsable S.Store conn.old }
-    requires land { HasRegisterTables S.Store conn.old }
-    ensures look { ReadsTables S.Store result (IsPart (λ r. shown_of r caller entries.now) at) conn.old
+    requires has_tables { HasRegisterTables S.Store conn.old }
+    ensures reads_only { ReadsTables S.Store result (ReadsPart (λ r. entries_by_interest r caller entries.now) at) conn.old
         conn.new }
-    ensures mode { LeavesAutocommit conn.old conn.new }
+    ensures autocommit { LeavesAutocommit conn.old conn.new }
 {
-    let interest = interest_by(alloc, conn, caller, entries, at)?;
-    Ok(shown_by(alloc, interest, caller.party, entries)?)
+    let interest = read_interest_from(alloc, conn, caller, entries, at)?;
+    Ok(filter_by_interest(alloc, interest, caller.party, entries)?)
 }
 
 /// Checks if a caller's interest in a unit shows the unit, at a time. Also returns the visible entries, if it
 /// does.
-pub(crate) fn unit_with_entries<S: Alter>(
+pub(crate) fn read_shown_unit<S: Alter>(
     alloc: Global,
     conn: &mut Connection<S>,
     caller: Caller,
@@ -232,19 +232,19 @@ pub(crate) fn unit_with_entries<S: Alter>(
 ) -> Result<(bool, CachedValue), ReadFault>
     requires role { sees_by_interest caller.role kinds.Rrr ≡ true }
     requires open { IsUsable S.Store conn.old }
-    requires land { HasRegisterTables S.Store conn.old }
-    ensures look { ReadsTables S.Store result
-        (IsToldWith (λ r. is_shown_by_interest r caller kinds.Unit unit) caller kinds.Unit unit at) conn.old
+    requires has_tables { HasRegisterTables S.Store conn.old }
+    ensures reads_only { ReadsTables S.Store result
+        (IsFactWith (λ r. is_shown_by_interest r caller kinds.Unit unit) caller kinds.Unit unit at) conn.old
         conn.new }
-    ensures mode { LeavesAutocommit conn.old conn.new }
+    ensures autocommit { LeavesAutocommit conn.old conn.new }
 {
-    soundness_by_look_ups();
-    interests_tell_sight();
+    soundness_by_number();
+    interests_decide_sight();
     let all = of_unit::entries(alloc, conn, unit, at)?;
-    let interest = interest_by(alloc, conn, caller, &all, at)?;
+    let interest = read_interest_from(alloc, conn, caller, &all, at)?;
     if !interest.shows_unit() {
         return Ok((false, CachedValue::Nothing));
     }
-    let shown = shown_by(alloc, interest, caller.party, &all)?;
+    let shown = filter_by_interest(alloc, interest, caller.party, &all)?;
     Ok((true, CachedValue::VisibleEntries(shown)))
 }

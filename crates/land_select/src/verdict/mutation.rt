@@ -2,10 +2,10 @@
 ghost use Rattle.std.specs.List.{list_any};
 ghost use Rattle.std.specs.Prelude.{◌||◌};
 ghost use Rattle.land_core.specs.declared.kind.Kind.TheVariants as kinds;
-ghost use Rattle.land_rules.specs.Denials.Interests.{interest_at, is_shown_by_interest, names_shown};
+ghost use Rattle.land_rules.specs.Denials.Interests.{interest_at, is_shown_by_interest, names_visible_unit};
 ghost use Rattle.land_rules.specs.Denials.Interests.{shows_unit};
-ghost use Rattle.land_select.specs.Cache.{IsToldWith};
-ghost use Rattle.land_select_joins.specs.Lookups.Parts.{IsPart};
+ghost use Rattle.land_select.specs.Cache.{IsFactWith};
+ghost use Rattle.land_select_joins.specs.Lookups.Parts.{ReadsPart};
 ghost use Rattle.land_select_joins.specs.TableReads.{ReadsTables};
 ghost use Rattle.land_tables_schema.specs.Connections.{HasRegisterTables, IsUsable, LeavesAutocommit};
 
@@ -13,7 +13,7 @@ use crate::cache::{CachedValue, cached_object};
 use crate::verdict::interest::is_unit_shown;
 use land_core::caller::Caller;
 use land_core::content::Content;
-use land_core::laws::soundness_by_look_ups;
+use land_core::laws::soundness_by_number;
 use land_core::merger::Merger;
 use land_core::mutation::MutationRecord;
 use land_select_joins::lookups::by_number;
@@ -23,7 +23,7 @@ use sqlite::{Alter, Connection};
 use std::alloc::Global;
 
 /// Checks if the caller's interest shows at least one of some units, at a time.
-fn is_one_shown<S: Alter>(
+fn is_any_unit_shown<S: Alter>(
     alloc: Global,
     conn: &mut Connection<S>,
     caller: Caller,
@@ -31,11 +31,11 @@ fn is_one_shown<S: Alter>(
     at: i64,
 ) -> Result<bool, ReadFault>
     requires open { IsUsable S.Store conn.old }
-    requires land { HasRegisterTables S.Store conn.old }
-    ensures look { ReadsTables S.Store result
-        (IsPart (λ r. list_any (λ unit. shows_unit (interest_at r caller unit)) units.now) at) conn.old
+    requires has_tables { HasRegisterTables S.Store conn.old }
+    ensures reads_only { ReadsTables S.Store result
+        (ReadsPart (λ r. list_any (λ unit. shows_unit (interest_at r caller unit)) units.now) at) conn.old
         conn.new }
-    ensures mode { LeavesAutocommit conn.old conn.new }
+    ensures autocommit { LeavesAutocommit conn.old conn.new }
 {
     for unit in units {
         if is_unit_shown(alloc, conn, caller, *unit, at)? {
@@ -54,21 +54,21 @@ fn is_merger_shown<S: Alter>(
     at: i64,
 ) -> Result<bool, ReadFault>
     requires open { IsUsable S.Store conn.old }
-    requires land { HasRegisterTables S.Store conn.old }
-    ensures look { ReadsTables S.Store result
-        (IsPart (λ r. shows_unit (interest_at r caller merger.now.unit)
+    requires has_tables { HasRegisterTables S.Store conn.old }
+    ensures reads_only { ReadsTables S.Store result
+        (ReadsPart (λ r. shows_unit (interest_at r caller merger.now.unit)
         || list_any (λ unit. shows_unit (interest_at r caller unit)) merger.now.others) at) conn.old
         conn.new }
-    ensures mode { LeavesAutocommit conn.old conn.new }
+    ensures autocommit { LeavesAutocommit conn.old conn.new }
 {
     if is_unit_shown(alloc, conn, caller, merger.unit, at)? {
         return Ok(true);
     }
-    is_one_shown(alloc, conn, caller, merger.others.as_slice(), at)
+    is_any_unit_shown(alloc, conn, caller, merger.others.as_slice(), at)
 }
 
 /// Checks if a mutation refers to a unit that the caller's interest in it shows, at a time.
-fn names_shown<S: Alter>(
+fn names_visible_unit<S: Alter>(
     alloc: Global,
     conn: &mut Connection<S>,
     caller: Caller,
@@ -76,10 +76,10 @@ fn names_shown<S: Alter>(
     at: i64,
 ) -> Result<bool, ReadFault>
     requires open { IsUsable S.Store conn.old }
-    requires land { HasRegisterTables S.Store conn.old }
-    ensures look { ReadsTables S.Store result (IsPart (λ r. names_shown r caller mutation.now) at) conn.old
+    requires has_tables { HasRegisterTables S.Store conn.old }
+    ensures reads_only { ReadsTables S.Store result (ReadsPart (λ r. names_visible_unit r caller mutation.now) at) conn.old
         conn.new }
-    ensures mode { LeavesAutocommit conn.old conn.new }
+    ensures autocommit { LeavesAutocommit conn.old conn.new }
 {
     match &mutation.content {
         Content::Transfer(it) => is_unit_shown(alloc, conn, caller, it.unit, at),
@@ -92,7 +92,7 @@ fn names_shown<S: Alter>(
 
 /// Checks if a mutation exists at a time and refers to a unit that the caller's interest in it shows. Also
 /// returns the mutation.
-pub(crate) fn mutation_shown<S: Alter>(
+pub(crate) fn read_shown_mutation<S: Alter>(
     alloc: Global,
     conn: &mut Connection<S>,
     caller: Caller,
@@ -100,17 +100,17 @@ pub(crate) fn mutation_shown<S: Alter>(
     at: i64,
 ) -> Result<(bool, CachedValue), ReadFault>
     requires open { IsUsable S.Store conn.old }
-    requires land { HasRegisterTables S.Store conn.old }
-    ensures look { ReadsTables S.Store result
-        (IsToldWith (λ r. is_shown_by_interest r caller kinds.Mutation number) caller kinds.Mutation number
+    requires has_tables { HasRegisterTables S.Store conn.old }
+    ensures reads_only { ReadsTables S.Store result
+        (IsFactWith (λ r. is_shown_by_interest r caller kinds.Mutation number) caller kinds.Mutation number
         at) conn.old conn.new }
-    ensures mode { LeavesAutocommit conn.old conn.new }
+    ensures autocommit { LeavesAutocommit conn.old conn.new }
 {
-    soundness_by_look_ups();
+    soundness_by_number();
     let found = by_number::record(alloc, conn, number, at)?;
     match found {
         Some(mutation) => {
-            let shown = names_shown(alloc, conn, caller, &mutation, at)?;
+            let shown = names_visible_unit(alloc, conn, caller, &mutation, at)?;
             Ok((
                 shown,
                 cached_object(MutationRecord::shown(number, Some(mutation))),

@@ -4,24 +4,24 @@ ghost use Rattle.std.specs.Prelude.{◌≡◌, false, nat_eq, Some};
 ghost use Rattle.land_core.specs.declared.kind.Kind.TheVariants as kinds;
 ghost use Rattle.land_rules.specs.Denials.Sight.{sees_all};
 ghost use Rattle.land_rules.specs.Rules.{sees};
-ghost use Rattle.land_select.specs.Cache.{IsToldWith};
+ghost use Rattle.land_select.specs.Cache.{IsFactWith};
 ghost use Rattle.land_select.specs.Parties.{AreOtherNames, AreOwnNamesAt, relation_of};
-ghost use Rattle.land_select.specs.Views.{IsShown, IsShownGiven};
+ghost use Rattle.land_select.specs.Views.{AgreesWithRegister, AgreesIfGiven};
 ghost use Rattle.land_select_joins.specs.TableReads.{ReadsTables};
 ghost use Rattle.land_tables_schema.specs.Connections.{HasRegisterTables, IsUsable, LeavesAutocommit};
 
 use crate::cache::CachedValue;
-use crate::verdict::interest::{is_citizen, names_of};
-use crate::verdict::view::standing_object;
+use crate::verdict::interest::{is_citizen, read_names};
+use crate::verdict::view::read_object;
 use crate::view::is_listed;
 use land_core::caller::Caller;
 use land_core::kind::Kind;
 use land_core::role::Role;
 use land_core::sequence::{NumberList, Sequence};
-use land_rules::laws::{circles_see_together, seen_is_exact};
+use land_rules::laws::{circles_see_together, seen_lists_are_exact};
 use land_select_joins::joins::sight::sight;
 use land_select_joins::lookups::relation::Relation;
-use land_select_joins::lookups::seers::seers;
+use land_select_joins::lookups::viewers_of_party::viewers_of_party;
 use land_select_joins::sights::laws::selections_are_the_rules;
 use land_tables_rows::listing::fault::ReadFault;
 use sqlite::{Alter, Connection};
@@ -40,7 +40,7 @@ fn relation_of(role: Role) -> Option<Relation>
 }
 
 /// Checks if two lists have a common number.
-fn are_met(parties: &[u64], others: &[u64]) -> bool
+fn intersects(parties: &[u64], others: &[u64]) -> bool
     ensures { result ≡ list_any (λ party. list_any (nat_eq party) others.now) parties.now }
 {
     parties.iter().any(|party| is_listed(others, *party))
@@ -48,25 +48,25 @@ fn are_met(parties: &[u64], others: &[u64]) -> bool
 
 /// Reads the names of a caller at a time, in any order: those in which a citizen holds rights; for other
 /// roles, the caller itself.
-fn own_names<S: Alter>(
+fn read_own_names<S: Alter>(
     alloc: Global,
     conn: &mut Connection<S>,
     caller: Caller,
     at: i64,
 ) -> Result<NumberList, ReadFault>
     requires open { IsUsable S.Store conn.old }
-    requires land { HasRegisterTables S.Store conn.old }
-    ensures look { ReadsTables S.Store result (AreOwnNamesAt caller at) conn.old conn.new }
-    ensures mode { LeavesAutocommit conn.old conn.new }
+    requires has_tables { HasRegisterTables S.Store conn.old }
+    ensures reads_only { ReadsTables S.Store result (AreOwnNamesAt caller at) conn.old conn.new }
+    ensures autocommit { LeavesAutocommit conn.old conn.new }
 {
     if is_citizen(caller.role) {
-        return names_of(alloc, conn, caller, at);
+        return read_names(alloc, conn, caller, at);
     }
     Ok(Sequence::of_one(alloc, caller.party)?)
 }
 
 /// Checks if a party is in the list of all parties that a caller sees.
-fn is_in_list<S: Alter>(
+fn is_in_sight_list<S: Alter>(
     alloc: Global,
     conn: &mut Connection<S>,
     caller: Caller,
@@ -74,12 +74,12 @@ fn is_in_list<S: Alter>(
     at: i64,
 ) -> Result<bool, ReadFault>
     requires open { IsUsable S.Store conn.old }
-    requires land { HasRegisterTables S.Store conn.old }
-    ensures look { ReadsTables S.Store result (IsShown (λ r. sees r caller kinds.Party number) at) conn.old
+    requires has_tables { HasRegisterTables S.Store conn.old }
+    ensures reads_only { ReadsTables S.Store result (AgreesWithRegister (λ r. sees r caller kinds.Party number) at) conn.old
         conn.new }
-    ensures mode { LeavesAutocommit conn.old conn.new }
+    ensures autocommit { LeavesAutocommit conn.old conn.new }
 {
-    seen_is_exact();
+    seen_lists_are_exact();
     let listed = sight(alloc, conn, caller, Kind::Party, at)?;
     Ok(is_listed(listed.as_slice(), number))
 }
@@ -87,7 +87,7 @@ fn is_in_list<S: Alter>(
 /// Checks if a caller sees, by a relation, a party that is not one of its names. If the party has few
 /// viewers, one of them has to be a name of the caller; else the list of all parties that the caller sees
 /// decides. So the cost is that of a few rows, or of the caller's own list.
-fn is_told_by<S: Alter>(
+fn is_visible_by_relation<S: Alter>(
     alloc: Global,
     conn: &mut Connection<S>,
     caller: Caller,
@@ -99,24 +99,24 @@ fn is_told_by<S: Alter>(
     requires role { sees_all caller.role kinds.Party ≡ false }
     requires by { relation_of caller.role ≡ Some relation }
     requires open { IsUsable S.Store conn.old }
-    requires land { HasRegisterTables S.Store conn.old }
-    ensures look { ReadsTables S.Store result
-        (IsShownGiven (AreOtherNames caller names.now number) (λ r. sees r caller kinds.Party number) at)
+    requires has_tables { HasRegisterTables S.Store conn.old }
+    ensures reads_only { ReadsTables S.Store result
+        (AgreesIfGiven (AreOtherNames caller names.now number) (λ r. sees r caller kinds.Party number) at)
         conn.old conn.new }
-    ensures mode { LeavesAutocommit conn.old conn.new }
+    ensures autocommit { LeavesAutocommit conn.old conn.new }
 {
-    seen_is_exact();
+    seen_lists_are_exact();
     circles_see_together();
     selections_are_the_rules();
-    let told = seers(alloc, conn, relation, number, at)?;
+    let told = viewers_of_party(alloc, conn, relation, number, at)?;
     match told {
-        Some(few) => Ok(are_met(few.as_slice(), names)),
-        None => is_in_list(alloc, conn, caller, number, at),
+        Some(few) => Ok(intersects(few.as_slice(), names)),
+        None => is_in_sight_list(alloc, conn, caller, number, at),
     }
 }
 
 /// Checks if a caller sees a party that is not one of its names.
-fn is_told<S: Alter>(
+fn is_other_party_visible<S: Alter>(
     alloc: Global,
     conn: &mut Connection<S>,
     caller: Caller,
@@ -126,24 +126,24 @@ fn is_told<S: Alter>(
 ) -> Result<bool, ReadFault>
     requires role { sees_all caller.role kinds.Party ≡ false }
     requires open { IsUsable S.Store conn.old }
-    requires land { HasRegisterTables S.Store conn.old }
-    ensures look { ReadsTables S.Store result
-        (IsShownGiven (AreOtherNames caller names.now number) (λ r. sees r caller kinds.Party number) at)
+    requires has_tables { HasRegisterTables S.Store conn.old }
+    ensures reads_only { ReadsTables S.Store result
+        (AgreesIfGiven (AreOtherNames caller names.now number) (λ r. sees r caller kinds.Party number) at)
         conn.old conn.new }
-    ensures mode { LeavesAutocommit conn.old conn.new }
+    ensures autocommit { LeavesAutocommit conn.old conn.new }
 {
-    seen_is_exact();
+    seen_lists_are_exact();
     circles_see_together();
     selections_are_the_rules();
     match relation_of(caller.role) {
-        Some(relation) => is_told_by(alloc, conn, caller, relation, names, number, at),
+        Some(relation) => is_visible_by_relation(alloc, conn, caller, relation, names, number, at),
         None => Ok(false),
     }
 }
 
 /// Checks if a caller sees a party at a time: one of its own names if it exists, another party if the caller
 /// is one of its viewers. Also returns the party, if it was read.
-pub(crate) fn party_in_sight<S: Alter>(
+pub(crate) fn is_party_visible<S: Alter>(
     alloc: Global,
     conn: &mut Connection<S>,
     caller: Caller,
@@ -152,18 +152,18 @@ pub(crate) fn party_in_sight<S: Alter>(
 ) -> Result<(bool, CachedValue), ReadFault>
     requires role { sees_all caller.role kinds.Party ≡ false }
     requires open { IsUsable S.Store conn.old }
-    requires land { HasRegisterTables S.Store conn.old }
-    ensures look { ReadsTables S.Store result
-        (IsToldWith (λ r. sees r caller kinds.Party number) caller kinds.Party number at) conn.old conn.new }
-    ensures mode { LeavesAutocommit conn.old conn.new }
+    requires has_tables { HasRegisterTables S.Store conn.old }
+    ensures reads_only { ReadsTables S.Store result
+        (IsFactWith (λ r. sees r caller kinds.Party number) caller kinds.Party number at) conn.old conn.new }
+    ensures autocommit { LeavesAutocommit conn.old conn.new }
 {
-    seen_is_exact();
+    seen_lists_are_exact();
     circles_see_together();
     selections_are_the_rules();
-    let names = own_names(alloc, conn, caller, at)?;
+    let names = read_own_names(alloc, conn, caller, at)?;
     if is_listed(names.as_slice(), number) {
-        return standing_object(alloc, conn, caller, Kind::Party, number, at);
+        return read_object(alloc, conn, caller, Kind::Party, number, at);
     }
-    let seen = is_told(alloc, conn, caller, names.as_slice(), number, at)?;
+    let seen = is_other_party_visible(alloc, conn, caller, names.as_slice(), number, at)?;
     Ok((seen, CachedValue::Nothing))
 }

@@ -1,5 +1,5 @@
 //! Authorizes a request: the verdict, and the object or the entries that it read.
-ghost use Rattle.land_select.specs.Cache.{IsSightedWith};
+ghost use Rattle.land_select.specs.Cache.{IsSightVerdictWith};
 ghost use Rattle.land_select.specs.Verdicts.{IsVerdictWith};
 ghost use Rattle.land_select_joins.specs.TableReads.{ReadsTables};
 ghost use Rattle.land_tables_schema.specs.Connections.{HasRegisterTables, IsUsable, LeavesAutocommit};
@@ -8,7 +8,7 @@ use crate::cache::CachedValue;
 use crate::query::Query;
 use crate::verdict::caller::read_standing_verdict;
 use crate::verdict::sheet::read_sheet_verdict;
-use crate::verdict::view::viewing;
+use crate::verdict::view::read_view_verdict;
 use land_core::ask::Ask;
 use land_core::caller::Caller;
 use land_core::limits::LAST_MOMENT;
@@ -18,7 +18,7 @@ use sqlite::{Alter, Connection};
 use std::alloc::Global;
 
 /// Returns the verdict of the sight rules on a request by the register at a time, and the value that it read.
-fn sighted<S: Alter>(
+fn read_sight_verdict<S: Alter>(
     alloc: Global,
     conn: &mut Connection<S>,
     caller: Caller,
@@ -26,12 +26,12 @@ fn sighted<S: Alter>(
     at: i64,
 ) -> Result<(Verdict, CachedValue), ReadFault>
     requires open { IsUsable S.Store conn.old }
-    requires land { HasRegisterTables S.Store conn.old }
-    ensures look { ReadsTables S.Store result (IsSightedWith caller ask.now at) conn.old conn.new }
-    ensures mode { LeavesAutocommit conn.old conn.new }
+    requires has_tables { HasRegisterTables S.Store conn.old }
+    ensures reads_only { ReadsTables S.Store result (IsSightVerdictWith caller ask.now at) conn.old conn.new }
+    ensures autocommit { LeavesAutocommit conn.old conn.new }
 {
     match ask {
-        Ask::View { kind, number, .. } => viewing(alloc, conn, caller, *kind, *number, at),
+        Ask::View { kind, number, .. } => read_view_verdict(alloc, conn, caller, *kind, *number, at),
         Ask::Sheet { unit, .. } => read_sheet_verdict(alloc, conn, caller, *unit, at),
         Ask::List { .. } | Ask::Do(_) => Ok((Verdict::Allowed, CachedValue::Nothing)),
     }
@@ -48,13 +48,13 @@ fn read_verdict<S: Alter>(
     at: i64,
 ) -> Result<(Verdict, CachedValue), ReadFault>
     requires open { IsUsable S.Store conn.old }
-    requires land { HasRegisterTables S.Store conn.old }
-    ensures look { ReadsTables S.Store result (IsVerdictWith caller ask.now past at) conn.old conn.new }
-    ensures mode { LeavesAutocommit conn.old conn.new }
+    requires has_tables { HasRegisterTables S.Store conn.old }
+    ensures reads_only { ReadsTables S.Store result (IsVerdictWith caller ask.now past at) conn.old conn.new }
+    ensures autocommit { LeavesAutocommit conn.old conn.new }
 {
     let first = read_standing_verdict(alloc, conn, caller, ask, past, LAST_MOMENT)?;
     match first {
-        Verdict::Allowed => sighted(alloc, conn, caller, ask, at),
+        Verdict::Allowed => read_sight_verdict(alloc, conn, caller, ask, at),
         Verdict::Denied(rule) => Ok((Verdict::Denied(rule), CachedValue::Nothing)),
     }
 }

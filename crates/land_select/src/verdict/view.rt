@@ -1,31 +1,31 @@
 //! Authorizes the view of an object.
 ghost use Rattle.land_core.specs.Register.{stands};
 ghost use Rattle.land_core.specs.declared.kind.Kind.TheVariants as kinds;
-ghost use Rattle.land_rules.specs.Denials.Sight.{is_awaited, told_by};
-ghost use Rattle.land_rules.specs.Relations.{is_lodger_on};
+ghost use Rattle.land_rules.specs.Denials.Sight.{is_visible_by_pending, verdict_given_sight};
+ghost use Rattle.land_rules.specs.Relations.{has_pending_mutation_on};
 ghost use Rattle.land_rules.specs.Rules.{first_denial, sees, view_rules};
-ghost use Rattle.land_select.specs.Cache.{IsToldWith};
-ghost use Rattle.land_select_joins.specs.Lookups.Parts.{IsPart};
+ghost use Rattle.land_select.specs.Cache.{IsFactWith};
+ghost use Rattle.land_select_joins.specs.Lookups.Parts.{ReadsPart};
 ghost use Rattle.land_select_joins.specs.TableReads.{ReadsTables};
 ghost use Rattle.land_tables_schema.specs.Connections.{HasRegisterTables, IsUsable, LeavesAutocommit};
 
 use crate::cache::{CachedValue, cached_object};
-use crate::verdict::by_interest::shown_by_interest;
-use crate::verdict::conveyancer::{awaited, unit_awaited};
-use crate::verdict::party::party_in_sight;
+use crate::verdict::by_interest::is_visible_by_interest;
+use crate::verdict::conveyancer::{is_pending, read_pending_unit};
+use crate::verdict::party::is_party_visible;
 use crate::view::is_listed;
 use land_core::caller::Caller;
 use land_core::kind::Kind;
-use land_core::laws::soundness_by_look_ups;
+use land_core::laws::soundness_by_number;
 use land_rules::denials::interests::sees_by_interest;
 use land_rules::denials::laws::{
-    all_that_stands_is_seen, interests_tell_sight, lodgers_see_their_own, sight_tells_verdicts,
-    what_is_awaited_is_seen,
+    full_sight_shows_all, interests_decide_sight, lodgers_see_their_own, sight_decides_verdicts,
+    pending_units_are_visible,
 };
 use land_rules::denials::sight::{
-    is_unit_of_conveyancer, sees_all, sees_by_awaiting, sees_own_lodgings, view_verdict,
+    is_unit_of_conveyancer, sees_all, sees_by_pending, sees_own_lodgings, view_verdict,
 };
-use land_rules::laws::seen_is_exact;
+use land_rules::laws::seen_lists_are_exact;
 use land_rules::verdict::Verdict;
 use land_select_joins::joins::sight::sight;
 use land_select_joins::lookups::lodgers::has_lodged;
@@ -35,7 +35,7 @@ use sqlite::{Alter, Connection};
 use std::alloc::Global;
 
 /// Checks if an object exists at a time. Also returns the object.
-pub(crate) fn standing_object<S: Alter>(
+pub(crate) fn read_object<S: Alter>(
     alloc: Global,
     conn: &mut Connection<S>,
     caller: Caller,
@@ -43,12 +43,12 @@ pub(crate) fn standing_object<S: Alter>(
     number: u64,
     at: i64,
 ) -> Result<(bool, CachedValue), ReadFault>
-    requires land { HasRegisterTables S.Store conn.old }
-    ensures look { ReadsTables S.Store result (IsToldWith (λ r. stands r kind number) caller kind number at)
+    requires has_tables { HasRegisterTables S.Store conn.old }
+    ensures reads_only { ReadsTables S.Store result (IsFactWith (λ r. stands r kind number) caller kind number at)
         conn.old conn.new }
-    ensures mode { LeavesAutocommit conn.old conn.new }
+    ensures autocommit { LeavesAutocommit conn.old conn.new }
 {
-    soundness_by_look_ups();
+    soundness_by_number();
     let found = object(alloc, conn, kind, number, at)?;
     Ok((found.is_some(), cached_object(found)))
 }
@@ -64,7 +64,7 @@ pub(crate) fn standing_object<S: Alter>(
 /// | by an interest in a unit (citizen, bank) | entries of the unit or of the mutation's units, a citizen's groups |
 /// | by a pending mutation (conveyancer) | the lodgers of mutations that refer to the unit |
 /// | parties of visible entries | the party's viewers if there are at most 16 rows, else the caller's list |
-fn in_sight<S: Alter>(
+fn is_visible<S: Alter>(
     alloc: Global,
     conn: &mut Connection<S>,
     caller: Caller,
@@ -73,32 +73,32 @@ fn in_sight<S: Alter>(
     at: i64,
 ) -> Result<(bool, CachedValue), ReadFault>
     requires open { IsUsable S.Store conn.old }
-    requires land { HasRegisterTables S.Store conn.old }
-    ensures look { ReadsTables S.Store result
-        (IsToldWith (λ r. sees r caller kind number) caller kind number at) conn.old conn.new }
-    ensures mode { LeavesAutocommit conn.old conn.new }
+    requires has_tables { HasRegisterTables S.Store conn.old }
+    ensures reads_only { ReadsTables S.Store result
+        (IsFactWith (λ r. sees r caller kind number) caller kind number at) conn.old conn.new }
+    ensures autocommit { LeavesAutocommit conn.old conn.new }
 {
-    seen_is_exact();
-    soundness_by_look_ups();
-    all_that_stands_is_seen();
+    seen_lists_are_exact();
+    soundness_by_number();
+    full_sight_shows_all();
     lodgers_see_their_own();
-    interests_tell_sight();
-    what_is_awaited_is_seen();
+    interests_decide_sight();
+    pending_units_are_visible();
     if sees_all(caller.role, kind) {
-        return standing_object(alloc, conn, caller, kind, number, at);
+        return read_object(alloc, conn, caller, kind, number, at);
     }
     if sees_own_lodgings(caller.role, kind) {
         let own = has_lodged(alloc, conn, caller.party, number, at)?;
         return Ok((own, CachedValue::Nothing));
     }
     if sees_by_interest(caller.role, kind) {
-        return shown_by_interest(alloc, conn, caller, kind, number, at);
+        return is_visible_by_interest(alloc, conn, caller, kind, number, at);
     }
-    if sees_by_awaiting(caller.role, kind) {
-        return awaited(alloc, conn, caller, kind, number, at);
+    if sees_by_pending(caller.role, kind) {
+        return is_pending(alloc, conn, caller, kind, number, at);
     }
     if kind == Kind::Party {
-        return party_in_sight(alloc, conn, caller, number, at);
+        return is_party_visible(alloc, conn, caller, number, at);
     }
     let listed = sight(alloc, conn, caller, kind, at)?;
     Ok((is_listed(listed.as_slice(), number), CachedValue::Nothing))
@@ -113,19 +113,19 @@ fn unit_verdict<S: Alter>(
     unit: u64,
     at: i64,
 ) -> Result<Verdict, ReadFault>
-    requires land { HasRegisterTables S.Store conn.old }
-    ensures look { ReadsTables S.Store result
-        (IsPart (λ r. told_by (is_awaited r caller kinds.Unit unit) (is_lodger_on r caller.party unit) caller
+    requires has_tables { HasRegisterTables S.Store conn.old }
+    ensures reads_only { ReadsTables S.Store result
+        (ReadsPart (λ r. verdict_given_sight (is_visible_by_pending r caller kinds.Unit unit) (has_pending_mutation_on r caller.party unit) caller
         kinds.Unit unit) at) conn.old conn.new }
-    ensures mode { LeavesAutocommit conn.old conn.new }
+    ensures autocommit { LeavesAutocommit conn.old conn.new }
 {
-    let told = unit_awaited(alloc, conn, caller, unit, at)?;
+    let told = read_pending_unit(alloc, conn, caller, unit, at)?;
     let (is_seen, is_named) = told;
     Ok(view_verdict(is_seen, is_named, caller, Kind::Unit, unit))
 }
 
 /// Returns the verdict on the view of an object at a time. Also returns the object, if it was read.
-pub(crate) fn viewing<S: Alter>(
+pub(crate) fn read_view_verdict<S: Alter>(
     alloc: Global,
     conn: &mut Connection<S>,
     caller: Caller,
@@ -134,20 +134,20 @@ pub(crate) fn viewing<S: Alter>(
     at: i64,
 ) -> Result<(Verdict, CachedValue), ReadFault>
     requires open { IsUsable S.Store conn.old }
-    requires land { HasRegisterTables S.Store conn.old }
-    ensures look { ReadsTables S.Store result
-        (IsToldWith (λ r. first_denial (view_rules r caller kind number)) caller kind number at) conn.old
+    requires has_tables { HasRegisterTables S.Store conn.old }
+    ensures reads_only { ReadsTables S.Store result
+        (IsFactWith (λ r. first_denial (view_rules r caller kind number)) caller kind number at) conn.old
         conn.new }
-    ensures mode { LeavesAutocommit conn.old conn.new }
+    ensures autocommit { LeavesAutocommit conn.old conn.new }
 {
-    soundness_by_look_ups();
-    sight_tells_verdicts();
-    what_is_awaited_is_seen();
+    soundness_by_number();
+    sight_decides_verdicts();
+    pending_units_are_visible();
     if is_unit_of_conveyancer(caller.role, kind) {
         let verdict = unit_verdict(alloc, conn, caller, number, at)?;
         return Ok((verdict, CachedValue::Nothing));
     }
-    let told = in_sight(alloc, conn, caller, kind, number, at)?;
+    let told = is_visible(alloc, conn, caller, kind, number, at)?;
     let (is_seen, found) = told;
     let verdict = view_verdict(is_seen, false, caller, kind, number);
     Ok((verdict, found))

@@ -6,7 +6,7 @@ use Rattle.land_select_joins.specs.declared.sights.selection.Selection.{Selectio
 use Rattle.land_tables_history.specs.declared.history.History.{History}
 use Rattle.land_tables_history.specs.declared.moment.Moment.{Moment}
 use Rattle.land_tables_rows.specs.Writing.History.{HoldsHistory}
-use Rattle.land_tables_schema.specs.Land.{land_with}
+use Rattle.land_tables_schema.specs.Schemas.{schema_v2_with}
 use Rattle.sqlite.specs.Command.{Command}
 use Rattle.sqlite.specs.Command.TheVariants.{Nothing}
 use Rattle.sqlite.specs.Effect.{Reads}
@@ -37,11 +37,11 @@ pub record AreNumberRows (rows : List Row) (Wanted : ℕ → Type 0) : Type 0 wh
 -- exactly the wanted numbers.
 pub record GivesNumbers (text : List ℕ) (indexes : List Index) (db : Trees) (caller : ℕ) (t : ℤ)
     (Wanted : ℕ → Type 0) : Type 0 where
-  pub each : (rows : List Row) → Reads (command_in (understood (land_with indexes) text))
-      (record { schema = land_with indexes; trees = db }) (given caller t) rows → AreNumberRows rows Wanted
+  pub each : (rows : List Row) → Reads (command_in (understood (schema_v2_with indexes) text))
+      (record { schema = schema_v2_with indexes; trees = db }) (given caller t) rows → AreNumberRows rows Wanted
   pub rows : List Row
-  pub answer : Reads (command_in (understood (land_with indexes) text))
-      (record { schema = land_with indexes; trees = db }) (given caller t) rows
+  pub answer : Reads (command_in (understood (schema_v2_with indexes) text))
+      (record { schema = schema_v2_with indexes; trees = db }) (given caller t) rows
 
 -- If the tables hold a history, then with any indexes the statement of a selection returns exactly the
 -- numbers of the selection.

@@ -6,10 +6,10 @@ use Rattle.land_core.specs.Entries.{some}
 use Rattle.land_core.specs.declared.party.PartyRecord.{PartyRecord}
 use Rattle.land_core.specs.declared.register.Register.{Register}
 use Rattle.land_core.specs.declared.rrr.RrrRecord.{RrrRecord}
-use Rattle.land_select_joins.specs.Joins.Running.{OfHeld}
+use Rattle.land_select_joins.specs.Joins.Execution.{HoldsOfHistory}
 use Rattle.land_select_joins.specs.Lookups.Ranges.{is_within}
-use Rattle.land_select_joins.specs.Sights.Selections.{Entry, Stands}
-use Rattle.land_tables_history.specs.History.{StandsAt}
+use Rattle.land_select_joins.specs.Sights.Selections.{Entry, IsCurrent}
+use Rattle.land_tables_history.specs.History.{IsRegisterAt}
 use Rattle.land_tables_history.specs.declared.history.History.{History}
 use Rattle.land_tables_history.specs.declared.version.Version.{Version}
 use Rattle.land_tables_rows.specs.Listing.Reading.{parties}
@@ -35,14 +35,14 @@ has_entry_in r unit party = has_entry_among r (of_unit unit) party
 -- a party is current at time t and has a current entry that matches
 pub record HasEntry (t : ℤ) (h : History) (meant : ℕ → RrrRecord → Bool) (party : ℕ × PartyRecord) : Type 0
   where
-    pub party_stands : Stands t h.parties party
+    pub party_exists : IsCurrent t h.parties party
     pub entry : Entry
-    pub entry_stands : Stands t h.rrrs entry
+    pub entry_stands : IsCurrent t h.rrrs entry
     pub is_meant : meant entry.0 entry.1 ≡ true
     pub of_party : entry.1.party ≡ party.0
 
 -- Each row decodes to a version of a wanted party, and each wanted party has a row.
-pub record SayParties (rows : List Row) (Wanted : ℕ × PartyRecord → Type 0) : Type 0 where
+pub record YieldParties (rows : List Row) (Wanted : ℕ × PartyRecord → Type 0) : Type 0 where
   pub each : (row : Row) → Has rows row → (v : Version (ℕ × PartyRecord)) × (parties.said row ≡ Ok v)
       × Wanted v.what
   pub all : (party : ℕ × PartyRecord) → Wanted party → (row : Row) × Has rows row
@@ -50,14 +50,14 @@ pub record SayParties (rows : List Row) (Wanted : ℕ × PartyRecord → Type 0)
 
 -- the rows of the parties that have a matching entry at a time
 abbrev pub ArePartyRows : (ℕ → RrrRecord → Bool) → (t : ℤ) → Trees → List Row → Type 0
-ArePartyRows meant t db rows = OfHeld db (λ h. SayParties rows (HasEntry t h meant))
+ArePartyRows meant t db rows = HoldsOfHistory db (λ h. YieldParties rows (HasEntry t h meant))
 
 -- If the tables hold a history that at time t represents a register, these are versions of the parties that
 -- have a matching entry in it.
 abbrev pub ArePartiesAmong : (ℕ → RrrRecord → Bool) → (t : ℤ) → Trees → List (Version (ℕ × PartyRecord))
     → Type 0
 ArePartiesAmong meant t db versions =
-    OfHeld db (λ h. (r : Register) → StandsAt t h r → (party : ℕ × PartyRecord)
+    HoldsOfHistory db (λ h. (r : Register) → IsRegisterAt t h r → (party : ℕ × PartyRecord)
     → Contains (map_list (λ (v : Version (ℕ × PartyRecord)). v.what) versions) party
     ↔ ((has_entry_among r meant party.0 ≡ true) × (map.get r.parties party.0 ≡ Some party.1)))
 

@@ -13,8 +13,8 @@ use Rattle.land_core.specs.declared.roles.Grant.{Grant}
 use Rattle.land_core.specs.declared.rrr.RrrRecord.{RrrRecord}
 use Rattle.land_core.specs.declared.source.SourceRecord.{SourceRecord}
 use Rattle.land_core.specs.declared.unit.UnitRecord.{UnitRecord}
-use Rattle.land_select_joins.specs.declared.lookups.record_lookup.LookUp.{LookUp}
-use Rattle.land_select_joins.specs.declared.lookups.record_lookup.LookUp.TheVariants as record_lookup
+use Rattle.land_select_joins.specs.declared.lookups.record_lookup.RecordLookup.{RecordLookup}
+use Rattle.land_select_joins.specs.declared.lookups.record_lookup.RecordLookup.TheVariants as record_lookup
 use Rattle.land_tables_history.specs.Standing.{stands}
 use Rattle.land_tables_history.specs.declared.group_member.GroupMember.{GroupMember}
 use Rattle.land_tables_history.specs.declared.version.Version.{Version}
@@ -28,22 +28,22 @@ use Rattle.sqlite_trees.specs.Tree.{Trees}
 use Rattle.sqlite_value.specs.Order.{Row}
 
 -- the type of the records that a lookup returns
-abbrev pub Found : LookUp → Type 0
-Found record_lookup.Party = ℕ × PartyRecord
-Found record_lookup.Unit = ℕ × UnitRecord
-Found record_lookup.Parcel = ℕ × ParcelRecord
-Found record_lookup.Entry = ℕ × RrrRecord
-Found record_lookup.Source = ℕ × SourceRecord
-Found record_lookup.Mutation = ℕ × MutationRecord
-Found record_lookup.ParcelsOfUnit = ℕ × ParcelRecord
-Found record_lookup.EntriesOfUnit = ℕ × RrrRecord
-Found record_lookup.RolesOfParty = Grant
-Found record_lookup.MembersOfGroup = GroupMember
-Found record_lookup.MandatesOfAgent = Mandate
-Found record_lookup.Administrators = Grant
+abbrev pub LookupItem : RecordLookup → Type 0
+LookupItem record_lookup.Party = ℕ × PartyRecord
+LookupItem record_lookup.Unit = ℕ × UnitRecord
+LookupItem record_lookup.Parcel = ℕ × ParcelRecord
+LookupItem record_lookup.Entry = ℕ × RrrRecord
+LookupItem record_lookup.Source = ℕ × SourceRecord
+LookupItem record_lookup.Mutation = ℕ × MutationRecord
+LookupItem record_lookup.ParcelsOfUnit = ℕ × ParcelRecord
+LookupItem record_lookup.EntriesOfUnit = ℕ × RrrRecord
+LookupItem record_lookup.RolesOfParty = Grant
+LookupItem record_lookup.MembersOfGroup = GroupMember
+LookupItem record_lookup.MandatesOfAgent = Mandate
+LookupItem record_lookup.Administrators = Grant
 
 -- the table of a lookup, with the decoder of its rows
-abbrev pub listing_of : (l : LookUp) → Listing (Version (Found l))
+abbrev pub listing_of : (l : RecordLookup) → Listing (Version (LookupItem l))
 listing_of record_lookup.Party = parties
 listing_of record_lookup.Unit = units
 listing_of record_lookup.Parcel = parcels
@@ -58,7 +58,7 @@ listing_of record_lookup.MandatesOfAgent = mandates
 listing_of record_lookup.Administrators = roles
 
 -- whether a record matches the given number
-abbrev pub is_meant : (l : LookUp) → (number : ℕ) → Found l → Bool
+abbrev pub is_meant : (l : RecordLookup) → (number : ℕ) → LookupItem l → Bool
 is_meant record_lookup.Party number party = nat_eq party.0 number
 is_meant record_lookup.Unit number unit = nat_eq unit.0 number
 is_meant record_lookup.Parcel number parcel = nat_eq parcel.0 number
@@ -83,17 +83,17 @@ AreRows {X} listing meant t db rows = (versions : List (Version X)) → Says lis
     → IsPermutation (map listing.said rows) (map (λ v. Ok v) (wanted meant t versions))
 
 -- the rows that a lookup returns for a number at a time
-abbrev pub AreRowsOf : LookUp → (number : ℕ) → (t : ℤ) → Trees → List Row → Type 0
+abbrev pub AreRowsOf : RecordLookup → (number : ℕ) → (t : ℤ) → Trees → List Row → Type 0
 AreRowsOf l number t db rows = AreRows (listing_of l) (is_meant l number) t db rows
 
 -- the rows of the mutation that a party lodged with a reference
-abbrev pub AreRowsLodgedAs : (lodger : ℕ) → (reference : List ℕ) → (t : ℤ) → Trees → List Row → Type 0
-AreRowsLodgedAs lodger reference t db rows =
+abbrev pub AreLodgedRows : (lodger : ℕ) → (reference : List ℕ) → (t : ℤ) → Trees → List Row → Type 0
+AreLodgedRows lodger reference t db rows =
     AreRows mutations (λ mutation. is_lodged_as lodger reference mutation.1) t db rows
 
 -- the rows, of the given kind, decode to this list
-abbrev pub AreSaid : {X : Type 0} → (Row → Result X WireFault) → (List Row → Type 0) → List X → Type 0
-AreSaid said Are xs = (rows : List Row) × Are rows × (each_of said rows ≡ Ok xs)
+abbrev pub AreReadFrom : {X : Type 0} → (Row → Result X WireFault) → (List Row → Type 0) → List X → Type 0
+AreReadFrom said Are xs = (rows : List Row) × Are rows × (each_of said rows ≡ Ok xs)
 
 -- A fault says that rows are unreadable only if some rows of the given kind do not decode.
 abbrev pub CannotBeRead : {X : Type 0} → (Row → Result X WireFault) → (List Row → Type 0) → ReadFault → Type 0
@@ -101,13 +101,13 @@ CannotBeRead {X} said Are fault = fault ≡ Unreadable → (rows : List Row) × 
     × ((xs : List X) → each_of said rows ≢ Ok xs)
 
 -- the same two for the rows that a lookup returns for a number
-abbrev pub AreSaidOf : {X : Type 0} → (Row → Result X WireFault) → LookUp → (number : ℕ) → (t : ℤ) → Trees
+abbrev pub AreReadByLookup : {X : Type 0} → (Row → Result X WireFault) → RecordLookup → (number : ℕ) → (t : ℤ) → Trees
     → List X → Type 0
-AreSaidOf said l number t db xs = AreSaid said (AreRowsOf l number t db) xs
+AreReadByLookup said l number t db xs = AreReadFrom said (AreRowsOf l number t db) xs
 
-abbrev pub CannotBeSaid : {X : Type 0} → (Row → Result X WireFault) → LookUp → (number : ℕ) → (t : ℤ) → Trees
+abbrev pub LookupCannotBeRead : {X : Type 0} → (Row → Result X WireFault) → RecordLookup → (number : ℕ) → (t : ℤ) → Trees
     → ReadFault → Type 0
-CannotBeSaid said l number t db fault = CannotBeRead said (AreRowsOf l number t db) fault
+LookupCannotBeRead said l number t db fault = CannotBeRead said (AreRowsOf l number t db) fault
 
 -- the record of one of the versions, or `None` if there are none
 abbrev pub IsOneOf : {V : Type 0} → List (Version (ℕ × V)) → Option V → Type 0

@@ -1,15 +1,15 @@
 -- The SQL statement of each lookup.
 use Rattle.std.specs.Prelude.{ℕ, List}
 use Rattle.land_select_joins.specs.declared.joins.own.TheConstants as own
-use Rattle.land_select_joins.specs.declared.lookups.record_lookup.LookUp.{LookUp}
-use Rattle.land_select_joins.specs.declared.lookups.record_lookup.LookUp.TheVariants as record_lookup
-use Rattle.land_select_joins.specs.declared.lookups.number_look_up.NumberLookUp.{NumberLookUp}
-use Rattle.land_select_joins.specs.declared.lookups.number_look_up.NumberLookUp.TheVariants as number_look_up
+use Rattle.land_select_joins.specs.declared.lookups.record_lookup.RecordLookup.{RecordLookup}
+use Rattle.land_select_joins.specs.declared.lookups.record_lookup.RecordLookup.TheVariants as record_lookup
+use Rattle.land_select_joins.specs.declared.lookups.column_lookup.ColumnLookup.{ColumnLookup}
+use Rattle.land_select_joins.specs.declared.lookups.column_lookup.ColumnLookup.TheVariants as column_lookup
 use Rattle.land_select_joins.specs.declared.lookups.relation.Relation.{Relation}
 use Rattle.land_select_joins.specs.declared.lookups.relation.Relation.TheVariants as relation
 use Rattle.land_select_joins.specs.declared.lookups.texts.TheConstants as texts
 
-abbrev pub text_of : LookUp → List ℕ
+abbrev pub text_of : RecordLookup → List ℕ
 text_of record_lookup.Party = texts.PARTY.now
 text_of record_lookup.Unit = texts.UNIT.now
 text_of record_lookup.Parcel = texts.PARCEL.now
@@ -24,14 +24,14 @@ text_of record_lookup.MandatesOfAgent = texts.MANDATES_OF_AGENT.now
 text_of record_lookup.Administrators = texts.ADMINISTRATORS.now
 
 -- the statement of each lookup of one column
-abbrev pub number_text_of : NumberLookUp → List ℕ
-number_text_of number_look_up.Party = own.ITSELF.now
-number_text_of number_look_up.Unit = texts.UNIT_NUMBER.now
-number_text_of number_look_up.LodgerOfMutation = texts.LODGER_OF_MUTATION.now
-number_text_of number_look_up.LodgersOnUnit = texts.LODGERS_ON_UNIT.now
+abbrev pub column_text_of : ColumnLookup → List ℕ
+column_text_of column_lookup.Party = own.ITSELF.now
+column_text_of column_lookup.Unit = texts.UNIT_NUMBER.now
+column_text_of column_lookup.LodgerOfMutation = texts.LODGER_OF_MUTATION.now
+column_text_of column_lookup.LodgersOnUnit = texts.LODGERS_ON_UNIT.now
 
 -- the statement of each relation between a viewer and a unit
-abbrev pub seer_text_of : Relation → List ℕ
-seer_text_of relation.Holding = texts.SEERS_BY_HOLDING.now
-seer_text_of relation.Crediting = texts.SEERS_BY_CREDITING.now
-seer_text_of relation.Awaiting = texts.SEERS_BY_AWAITING.now
+abbrev pub viewer_text_of : Relation → List ℕ
+viewer_text_of relation.Holding = texts.VIEWERS_BY_HOLDING.now
+viewer_text_of relation.Crediting = texts.VIEWERS_BY_CREDITING.now
+viewer_text_of relation.Awaiting = texts.VIEWERS_BY_LODGING.now

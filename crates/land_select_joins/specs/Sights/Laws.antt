@@ -12,49 +12,49 @@ use Rattle.land_rules.specs.CircleLaws.{without_mandates}
 use Rattle.land_rules.specs.Laws.{IsSoundOrNothing}
 use Rattle.land_rules.specs.Rules.{seen_of}
 use Rattle.land_select_joins.specs.Sights.{AnySelects, selections_of}
-use Rattle.land_select_joins.specs.Sights.Selections.{Entry, Stands, StandsUnder}
+use Rattle.land_select_joins.specs.Sights.Selections.{Entry, IsCurrent, IsCurrentUnder}
 use Rattle.land_select_joins.specs.declared.sights.selection.Selection.{Selection}
-use Rattle.land_tables_history.specs.History.{StandsAt}
+use Rattle.land_tables_history.specs.History.{IsRegisterAt}
 use Rattle.land_tables_history.specs.declared.group_member.GroupMember.{GroupMember}
 use Rattle.land_tables_history.specs.declared.history.History.{History}
 
 -- The selections of a role and a kind return exactly the numbers that the policy, without mandates, lets the
 -- caller see in the register at time t.
 abbrev pub SelectionsAreTheRules : Type 0
-SelectionsAreTheRules = (r : Register) (h : History) (t : ℤ) → IsSoundOrNothing r → StandsAt t h r
+SelectionsAreTheRules = (r : Register) (h : History) (t : ℤ) → IsSoundOrNothing r → IsRegisterAt t h r
     → (caller : Caller) (k : Kind) (number : ℕ)
     → AnySelects (selections_of caller.role k) t h caller.party number
     ↔ Contains (seen_of (without_mandates r) caller k) number
 
 -- the party is a member of a group, has an entry, or lodged a mutation that is current at time t
 abbrev pub IsMemberAt : (t : ℤ) → History → (party : ℕ) → Type 0
-IsMemberAt t h party = (joined : GroupMember) × Stands t h.members joined × (joined.member.party ≡ party)
+IsMemberAt t h party = (joined : GroupMember) × IsCurrent t h.members joined × (joined.member.party ≡ party)
 
 abbrev pub IsPartyAt : (t : ℤ) → History → (party : ℕ) → Type 0
-IsPartyAt t h party = (e : Entry) × Stands t h.rrrs e × (e.1.party ≡ party)
+IsPartyAt t h party = (e : Entry) × IsCurrent t h.rrrs e × (e.1.party ≡ party)
 
 abbrev pub IsLodgerAt : (t : ℤ) → History → (party : ℕ) → Type 0
-IsLodgerAt t h party = (m : ℕ × MutationRecord) × Stands t h.mutations m × (m.1.lodger ≡ party)
+IsLodgerAt t h party = (m : ℕ × MutationRecord) × IsCurrent t h.mutations m × (m.1.lodger ≡ party)
 
 -- the party is current at time t, or one of these
 abbrev pub IsNamedAt : (t : ℤ) → History → (party : ℕ) → Type 0
-IsNamedAt t h party = StandsUnder t h.parties party
+IsNamedAt t h party = IsCurrentUnder t h.parties party
     ⊎ (IsMemberAt t h party ⊎ (IsPartyAt t h party ⊎ IsLodgerAt t h party))
 
 -- A number that is not in use at time t sees only what each other number sees.
-abbrev pub TheUnnamedSeeTheLeast : Type 0
-TheUnnamedSeeTheLeast = (t : ℤ) (h : History) (party : ℕ) → ¬ IsNamedAt t h party
+abbrev pub UnreferencedSeeLeast : Type 0
+UnreferencedSeeLeast = (t : ℤ) (h : History) (party : ℕ) → ¬ IsNamedAt t h party
     → (ss : List Selection) (other number : ℕ)
     → AnySelects ss t h party number → AnySelects ss t h other number
 
 -- a number that no party can have: zero, or a number above the greatest
-abbrev pub IsNobody : (party : ℕ) → Type 0
-IsNobody party = (party ≡ 0) ⊎ (1000000000 < party)
+abbrev pub IsNeverParty : (party : ℕ) → Type 0
+IsNeverParty party = (party ≡ 0) ⊎ (1000000000 < party)
 
 -- Numbers that no party can have see the same, so that one can replace the other in a query.
-abbrev pub NobodiesSeeAlike : Type 0
-NobodiesSeeAlike = (r : Register) (h : History) (t : ℤ) → IsSoundOrNothing r → StandsAt t h r
-    → (party other : ℕ) → IsNobody party → IsNobody other → (role : Role) (k : Kind) (number : ℕ)
+abbrev pub OutOfRangeSeeAlike : Type 0
+OutOfRangeSeeAlike = (r : Register) (h : History) (t : ℤ) → IsSoundOrNothing r → IsRegisterAt t h r
+    → (party other : ℕ) → IsNeverParty party → IsNeverParty other → (role : Role) (k : Kind) (number : ℕ)
     → AnySelects (selections_of role k) t h party number → AnySelects (selections_of role k) t h other number
 
 -- increasing lists with the same numbers are equal
@@ -65,7 +65,7 @@ AscendingListsAreOne = (xs ys : List ℕ) → IsStrictlyIncreasing xs → IsStri
 -- The numbers of the selections, in increasing order and without repetition, are the list of visible numbers,
 -- without mandates.
 abbrev pub SelectedIsSeen : Type 0
-SelectedIsSeen = (r : Register) (h : History) (t : ℤ) → IsSoundOrNothing r → StandsAt t h r
+SelectedIsSeen = (r : Register) (h : History) (t : ℤ) → IsSoundOrNothing r → IsRegisterAt t h r
     → (caller : Caller) (k : Kind) (listed : List ℕ)
     → IsStrictlyIncreasing listed → ((n : ℕ) → Contains listed n
     ↔ AnySelects (selections_of caller.role k) t h caller.party n)

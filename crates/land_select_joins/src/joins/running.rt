@@ -2,15 +2,15 @@
 ghost use Rattle.std.specs.Prelude.{◌≡◌, IfErr, IfOk};
 ghost use Rattle.std.specs.List.{Contains};
 ghost use Rattle.std.specs.List.Sorted.{IsStrictlyIncreasing};
-ghost use Rattle.land_select_joins.specs.Joins.Running.{AreAll, AreNumbersForAny, AreNumbersOf};
-ghost use Rattle.land_select_joins.specs.Joins.Running.{AreNumbersOfAny, AreRowsOf, asked_for};
+ghost use Rattle.land_select_joins.specs.Joins.Execution.{AreAll, AreNumbersForAny, AreNumbersOf};
+ghost use Rattle.land_select_joins.specs.Joins.Execution.{AreNumbersOfAny, AreRowsOf, known_or_zero};
 ghost use Rattle.land_select_joins.specs.TableReads.{FailsOnlyWithoutHistory, ReadsTables};
 ghost use Rattle.land_tables_rows.specs.Listing.Reading.{IsRead};
 ghost use Rattle.land_tables_rows.specs.Reading.Cells.{natural_in};
 ghost use Rattle.land_tables_rows.specs.Reading.Readings.{each_of};
 ghost use Rattle.land_tables_rows.specs.declared.listing.fault.ReadFault.TheVariants.{NoMemory};
 ghost use Rattle.land_tables_schema.specs.Connections.{HasRegisterTables, IsUsable, LeavesAutocommit};
-ghost use Rattle.land_wire_json.specs.Bodies.WireFaults.{Gives};
+ghost use Rattle.land_wire_json.specs.Bodies.WireFaults.{Returns};
 ghost use Rattle.sqlite_value.specs.Order.{column};
 
 use crate::joins::text::text_of;
@@ -26,8 +26,8 @@ use std::alloc::Global;
 
 /// Returns the number to query for: the given one, or 0, which no object has, if it is out of range. Sqlite
 /// integers are signed, so a larger number cannot be a parameter.
-pub fn asked_for(caller: u64) -> u64
-    ensures { result ≡ asked_for caller }
+pub fn known_or_zero(caller: u64) -> u64
+    ensures { result ≡ known_or_zero caller }
 {
     if is_number(caller) { caller } else { 0 }
 }
@@ -39,21 +39,21 @@ fn rows_of<S: Alter>(
     caller: u64,
     at: i64,
 ) -> Result<Vec<Row>, Error>
-    requires land { HasRegisterTables S.Store conn.old }
-    ensures look { ReadsTables S.Store result (λ db rows. AreRowsOf selection at caller db rows.items)
+    requires has_tables { HasRegisterTables S.Store conn.old }
+    ensures reads_only { ReadsTables S.Store result (λ db rows. AreRowsOf selection at caller db rows.items)
         conn.old conn.new }
-    ensures mode { LeavesAutocommit conn.old conn.new }
+    ensures autocommit { LeavesAutocommit conn.old conn.new }
 {
     conn.query_all(
         text_of(selection),
-        &[of_number(asked_for(caller)), of_moment(at)],
+        &[of_number(known_or_zero(caller)), of_moment(at)],
     )
 }
 
 /// Decodes the number in the only column of each row. Returns error 131 for another type, 132 for a negative
 /// number, and 501 if out of memory.
 fn each_number(alloc: Global, rows: &[Row]) -> Result<NumberList, WireFault>
-    ensures { Gives (λ it. it) result (each_of (λ row. natural_in (column row 0)) rows.now) }
+    ensures { Returns (λ it. it) result (each_of (λ row. natural_in (column row 0)) rows.now) }
 {
     let mut all = Sequence::new(alloc);
     for row in rows {
@@ -78,10 +78,10 @@ pub fn numbers<S: Alter>(
     caller: u64,
     at: i64,
 ) -> Result<NumberList, ReadFault>
-    requires land { HasRegisterTables S.Store conn.old }
-    ensures look { ReadsTables S.Store result (AreNumbersOf selection at caller) conn.old conn.new }
+    requires has_tables { HasRegisterTables S.Store conn.old }
+    ensures reads_only { ReadsTables S.Store result (AreNumbersOf selection at caller) conn.old conn.new }
     ensures unreadable { FailsOnlyWithoutHistory S.Store result conn.old conn.new }
-    ensures mode { LeavesAutocommit conn.old conn.new }
+    ensures autocommit { LeavesAutocommit conn.old conn.new }
 {
     let rows = rows_of(conn, selection, caller, at)?;
     read(alloc, rows.as_slice())
@@ -97,11 +97,11 @@ fn collect_numbers<S: Alter>(
     at: i64,
 ) -> Result<Vec<u64>, ReadFault>
     requires open { IsUsable S.Store conn.old }
-    requires land { HasRegisterTables S.Store conn.old }
-    ensures look { ReadsTables S.Store result (λ db it. AreNumbersOfAny selections.now at caller db it.items)
+    requires has_tables { HasRegisterTables S.Store conn.old }
+    ensures reads_only { ReadsTables S.Store result (λ db it. AreNumbersOfAny selections.now at caller db it.items)
         conn.old conn.new }
     ensures unreadable { FailsOnlyWithoutHistory S.Store result conn.old conn.new }
-    ensures mode { LeavesAutocommit conn.old conn.new }
+    ensures autocommit { LeavesAutocommit conn.old conn.new }
 {
     let mut found = Vec::new(alloc);
     for selection in selections {
@@ -112,7 +112,7 @@ fn collect_numbers<S: Alter>(
 }
 
 /// Returns the numbers of several selections for several callers, in any order and with repetitions.
-fn gather_for<S: Alter>(
+fn collect_numbers_for<S: Alter>(
     alloc: Global,
     conn: &mut Connection<S>,
     selections: &[Selection],
@@ -120,11 +120,11 @@ fn gather_for<S: Alter>(
     at: i64,
 ) -> Result<Vec<u64>, ReadFault>
     requires open { IsUsable S.Store conn.old }
-    requires land { HasRegisterTables S.Store conn.old }
-    ensures look { ReadsTables S.Store result
+    requires has_tables { HasRegisterTables S.Store conn.old }
+    ensures reads_only { ReadsTables S.Store result
         (λ db it. AreNumbersForAny selections.now at callers.now db it.items) conn.old conn.new }
     ensures unreadable { FailsOnlyWithoutHistory S.Store result conn.old conn.new }
-    ensures mode { LeavesAutocommit conn.old conn.new }
+    ensures autocommit { LeavesAutocommit conn.old conn.new }
 {
     let mut found = Vec::new(alloc);
     for caller in callers {
@@ -135,7 +135,7 @@ fn gather_for<S: Alter>(
 }
 
 /// Sorts numbers and removes repetitions.
-fn each_once(mut numbers: Vec<u64>) -> Result<NumberList, ReadFault>
+fn sort_unique(mut numbers: Vec<u64>) -> Result<NumberList, ReadFault>
     ensures ascending { IfOk result IsStrictlyIncreasing }
     ensures same { IfOk result (λ it. AreAll it (λ n. Contains numbers.items n)) }
     ensures memory { IfErr result (λ fault. fault ≡ NoMemory) }
@@ -147,7 +147,7 @@ fn each_once(mut numbers: Vec<u64>) -> Result<NumberList, ReadFault>
 
 /// Returns the union of several selections for a caller at a time, in Unix milliseconds, in increasing order.
 /// Returns error 520 only if the tables hold no history, and 501 if out of memory.
-pub fn unite<S: Alter>(
+pub fn run_union<S: Alter>(
     alloc: Global,
     conn: &mut Connection<S>,
     selections: &[Selection],
@@ -155,18 +155,18 @@ pub fn unite<S: Alter>(
     at: i64,
 ) -> Result<NumberList, ReadFault>
     requires open { IsUsable S.Store conn.old }
-    requires land { HasRegisterTables S.Store conn.old }
+    requires has_tables { HasRegisterTables S.Store conn.old }
     ensures ascending { IfOk result IsStrictlyIncreasing }
-    ensures look { ReadsTables S.Store result (AreNumbersOfAny selections.now at caller) conn.old conn.new }
+    ensures reads_only { ReadsTables S.Store result (AreNumbersOfAny selections.now at caller) conn.old conn.new }
     ensures unreadable { FailsOnlyWithoutHistory S.Store result conn.old conn.new }
-    ensures mode { LeavesAutocommit conn.old conn.new }
+    ensures autocommit { LeavesAutocommit conn.old conn.new }
 {
-    each_once(collect_numbers(alloc, conn, selections, caller, at)?)
+    sort_unique(collect_numbers(alloc, conn, selections, caller, at)?)
 }
 
 /// Returns the union of several selections for several callers at a time, in Unix milliseconds, in increasing
 /// order. Returns error 520 only if the tables hold no history, and 501 if out of memory.
-pub fn unite_for<S: Alter>(
+pub fn run_union_for<S: Alter>(
     alloc: Global,
     conn: &mut Connection<S>,
     selections: &[Selection],
@@ -174,12 +174,12 @@ pub fn unite_for<S: Alter>(
     at: i64,
 ) -> Result<NumberList, ReadFault>
     requires open { IsUsable S.Store conn.old }
-    requires land { HasRegisterTables S.Store conn.old }
+    requires has_tables { HasRegisterTables S.Store conn.old }
     ensures ascending { IfOk result IsStrictlyIncreasing }
-    ensures look { ReadsTables S.Store result (AreNumbersForAny selections.now at callers.now) conn.old
+    ensures reads_only { ReadsTables S.Store result (AreNumbersForAny selections.now at callers.now) conn.old
         conn.new }
     ensures unreadable { FailsOnlyWithoutHistory S.Store result conn.old conn.new }
-    ensures mode { LeavesAutocommit conn.old conn.new }
+    ensures autocommit { LeavesAutocommit conn.old conn.new }
 {
-    each_once(gather_for(alloc, conn, selections, callers, at)?)
+    sort_unique(collect_numbers_for(alloc, conn, selections, callers, at)?)
 }

@@ -4,11 +4,11 @@ ghost use Rattle.land_core.specs.Role.{is_role};
 ghost use Rattle.land_core.specs.declared.role.Role.TheVariants as roles;
 ghost use Rattle.land_rules.specs.Denials.Sight.{sees_all};
 ghost use Rattle.land_rules.specs.Laws.{citizen};
-ghost use Rattle.land_select_joins.specs.Joins.Sight.{IsSight, IsSightAlone};
+ghost use Rattle.land_select_joins.specs.Joins.Sight.{IsSight, IsSightWithoutMandates};
 ghost use Rattle.land_select_joins.specs.TableReads.{FailsOnlyWithoutHistory, ReadsTables};
 ghost use Rattle.land_tables_schema.specs.Connections.{HasRegisterTables, IsUsable, LeavesAutocommit};
 
-use crate::joins::running::{unite, unite_for};
+use crate::joins::running::{run_union, run_union_for};
 use crate::lookups::of_agent::circle;
 use crate::sights::laws::{selected_is_seen, selections_are_the_rules};
 use crate::sights::sight::selections;
@@ -17,7 +17,7 @@ use land_core::kind::Kind;
 use land_core::role::Role;
 use land_core::sequence::NumberList;
 use land_rules::denials::sight::sees_all;
-use land_rules::laws::{circles_see_together, seen_is_exact};
+use land_rules::laws::{circles_see_together, seen_lists_are_exact};
 use land_tables_rows::listing::fault::ReadFault;
 use sqlite::{Alter, Connection};
 use std::alloc::Global;
@@ -32,7 +32,7 @@ fn has_circle(role: Role, kind: Kind) -> bool
 
 /// Returns the numbers of a kind that the policy, without mandates, lets a caller see at a time, in
 /// increasing order.
-fn sight_alone<S: Alter>(
+fn sight_without_mandates<S: Alter>(
     alloc: Global,
     conn: &mut Connection<S>,
     caller: Caller,
@@ -40,13 +40,13 @@ fn sight_alone<S: Alter>(
     at: i64,
 ) -> Result<NumberList, ReadFault>
     requires open { IsUsable S.Store conn.old }
-    requires land { HasRegisterTables S.Store conn.old }
-    ensures look { ReadsTables S.Store result (IsSightAlone caller kind at) conn.old conn.new }
+    requires has_tables { HasRegisterTables S.Store conn.old }
+    ensures reads_only { ReadsTables S.Store result (IsSightWithoutMandates caller kind at) conn.old conn.new }
     ensures unreadable { FailsOnlyWithoutHistory S.Store result conn.old conn.new }
-    ensures mode { LeavesAutocommit conn.old conn.new }
+    ensures autocommit { LeavesAutocommit conn.old conn.new }
 {
     selected_is_seen();
-    unite(alloc, conn, selections(caller.role, kind), caller.party, at)
+    run_union(alloc, conn, selections(caller.role, kind), caller.party, at)
 }
 
 /// Returns the numbers of a kind that the policy lets a citizen see at a time, in increasing order: the union
@@ -59,16 +59,16 @@ fn sight_of_circle<S: Alter>(
     at: i64,
 ) -> Result<NumberList, ReadFault>
     requires open { IsUsable S.Store conn.old }
-    requires land { HasRegisterTables S.Store conn.old }
-    ensures look { ReadsTables S.Store result (IsSight (citizen party) kind at) conn.old conn.new }
+    requires has_tables { HasRegisterTables S.Store conn.old }
+    ensures reads_only { ReadsTables S.Store result (IsSight (citizen party) kind at) conn.old conn.new }
     ensures unreadable { FailsOnlyWithoutHistory S.Store result conn.old conn.new }
-    ensures mode { LeavesAutocommit conn.old conn.new }
+    ensures autocommit { LeavesAutocommit conn.old conn.new }
 {
     selections_are_the_rules();
-    seen_is_exact();
+    seen_lists_are_exact();
     circles_see_together();
     let callers = circle(alloc, conn, party, at)?;
-    unite_for(
+    run_union_for(
         alloc,
         conn,
         selections(Role::Citizen, kind),
@@ -88,13 +88,13 @@ pub fn sight<S: Alter>(
     at: i64,
 ) -> Result<NumberList, ReadFault>
     requires open { IsUsable S.Store conn.old }
-    requires land { HasRegisterTables S.Store conn.old }
-    ensures look { ReadsTables S.Store result (IsSight caller kind at) conn.old conn.new }
+    requires has_tables { HasRegisterTables S.Store conn.old }
+    ensures reads_only { ReadsTables S.Store result (IsSight caller kind at) conn.old conn.new }
     ensures unreadable { FailsOnlyWithoutHistory S.Store result conn.old conn.new }
-    ensures mode { LeavesAutocommit conn.old conn.new }
+    ensures autocommit { LeavesAutocommit conn.old conn.new }
 {
     if has_circle(caller.role, kind) {
         return sight_of_circle(alloc, conn, caller.party, kind, at);
     }
-    sight_alone(alloc, conn, caller, kind, at)
+    sight_without_mandates(alloc, conn, caller, kind, at)
 }

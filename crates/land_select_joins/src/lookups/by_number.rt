@@ -1,7 +1,7 @@
 //! Records by their numbers.
 ghost use Rattle.std.specs.FinMap as map;
 ghost use Rattle.land_select_joins.specs.Lookups.RecordRows.{IsOneOf};
-ghost use Rattle.land_select_joins.specs.Lookups.Parts.{IsPart};
+ghost use Rattle.land_select_joins.specs.Lookups.Parts.{ReadsPart};
 ghost use Rattle.land_select_joins.specs.TableReads.{FailsOnlyWithoutHistory, ReadsTables};
 ghost use Rattle.land_tables_schema.specs.Connections.{HasRegisterTables, LeavesAutocommit};
 
@@ -43,10 +43,10 @@ pub fn record<V: Numbered, S: Alter>(
 ) -> Result<Option<V>, ReadFault>
 where
     Version<(u64, V)>: FromRow,
-    requires land { HasRegisterTables S.Store conn.old }
-    ensures look { ReadsTables S.Store result (IsPart (λ r. map.get (V.part r) number) at) conn.old conn.new }
+    requires has_tables { HasRegisterTables S.Store conn.old }
+    ensures reads_only { ReadsTables S.Store result (ReadsPart (λ r. map.get (V.part r) number) at) conn.old conn.new }
     ensures unreadable { FailsOnlyWithoutHistory S.Store result conn.old conn.new }
-    ensures mode { LeavesAutocommit conn.old conn.new }
+    ensures autocommit { LeavesAutocommit conn.old conn.new }
 {
     let found = find(alloc, conn, V::BY_NUMBER, number, at)?;
     Ok(record_of(found))

@@ -5,10 +5,10 @@ ghost use Rattle.land_core.specs.declared.register.Register.{Register};
 ghost use Rattle.land_core.specs.declared.kind.Kind.{Kind as WhichKind};
 ghost use Rattle.land_core.specs.declared.kind.Kind.TheVariants as kinds;
 ghost use Rattle.land_select_joins.specs.Lookups.Numbered.{IsFoundBy, IsFoundWithin};
-ghost use Rattle.land_select_joins.specs.declared.lookups.record_lookup.LookUp.{LookUp as Which};
-ghost use Rattle.land_select_joins.specs.declared.lookups.record_lookup.LookUp.TheVariants as record_lookup;
+ghost use Rattle.land_select_joins.specs.declared.lookups.record_lookup.RecordLookup.{RecordLookup as Which};
+ghost use Rattle.land_select_joins.specs.declared.lookups.record_lookup.RecordLookup.TheVariants as record_lookup;
 
-use crate::lookups::record_lookup::LookUp;
+use crate::lookups::record_lookup::RecordLookup;
 use land_core::kind::Kind;
 use land_core::mutation::MutationRecord;
 use land_core::parcel::ParcelRecord;
@@ -28,7 +28,7 @@ where
     ghost part: { Register → FinMap nat_cmp Self };
 
     /// The lookup of one record by its number.
-    const BY_NUMBER: LookUp;
+    const BY_NUMBER: RecordLookup;
 
     /// The lookup of one record by its number.
     ghost BY_NUMBER: { Which };
@@ -49,7 +49,7 @@ where
 impl Numbered for PartyRecord {
     ghost part = { λ r. r.parties };
 
-    const BY_NUMBER: LookUp = LookUp::Party;
+    const BY_NUMBER: RecordLookup = RecordLookup::Party;
 
     ghost BY_NUMBER = { record_lookup.Party };
 
@@ -75,7 +75,7 @@ impl Numbered for PartyRecord {
 impl Numbered for UnitRecord {
     ghost part = { λ r. r.units };
 
-    const BY_NUMBER: LookUp = LookUp::Unit;
+    const BY_NUMBER: RecordLookup = RecordLookup::Unit;
 
     ghost BY_NUMBER = { record_lookup.Unit };
 
@@ -101,7 +101,7 @@ impl Numbered for UnitRecord {
 impl Numbered for ParcelRecord {
     ghost part = { λ r. r.parcels };
 
-    const BY_NUMBER: LookUp = LookUp::Parcel;
+    const BY_NUMBER: RecordLookup = RecordLookup::Parcel;
 
     ghost BY_NUMBER = { record_lookup.Parcel };
 
@@ -127,7 +127,7 @@ impl Numbered for ParcelRecord {
 impl Numbered for RrrRecord {
     ghost part = { λ r. r.rrrs };
 
-    const BY_NUMBER: LookUp = LookUp::Entry;
+    const BY_NUMBER: RecordLookup = RecordLookup::Entry;
 
     ghost BY_NUMBER = { record_lookup.Entry };
 
@@ -153,7 +153,7 @@ impl Numbered for RrrRecord {
 impl Numbered for SourceRecord {
     ghost part = { λ r. r.sources };
 
-    const BY_NUMBER: LookUp = LookUp::Source;
+    const BY_NUMBER: RecordLookup = RecordLookup::Source;
 
     ghost BY_NUMBER = { record_lookup.Source };
 
@@ -179,7 +179,7 @@ impl Numbered for SourceRecord {
 impl Numbered for MutationRecord {
     ghost part = { λ r. r.mutations };
 
-    const BY_NUMBER: LookUp = LookUp::Mutation;
+    const BY_NUMBER: RecordLookup = RecordLookup::Mutation;
 
     ghost BY_NUMBER = { record_lookup.Mutation };
 

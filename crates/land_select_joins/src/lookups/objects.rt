@@ -2,11 +2,11 @@
 ghost use Rattle.std.specs.FinMap as map;
 ghost use Rattle.land_core.specs.Register.{object_at};
 ghost use Rattle.land_core.specs.declared.kind.Kind.TheVariants as kinds;
-ghost use Rattle.land_select_joins.specs.Lookups.Parts.{IsPart};
+ghost use Rattle.land_select_joins.specs.Lookups.Parts.{ReadsPart};
 ghost use Rattle.land_select_joins.specs.TableReads.{FailsOnlyWithoutHistory, ReadsTables};
 ghost use Rattle.land_tables_schema.specs.Connections.{HasRegisterTables, LeavesAutocommit};
 
-use crate::lookups::shown::{Shown, party_shown};
+use crate::lookups::shown::{Shown, party_object};
 use crate::lookups::{by_number, of_group, of_party};
 use land_core::kind::Kind;
 use land_core::mutation::MutationRecord;
@@ -30,16 +30,16 @@ fn party_with<S: Alter>(
     number: u64,
     at: i64,
 ) -> Result<Option<Object>, ReadFault>
-    requires land { HasRegisterTables S.Store conn.old }
-    ensures look { ReadsTables S.Store result
-        (IsPart (λ r. object_at (record r { parties = map.insert map.empty number found }) kinds.Party number)
+    requires has_tables { HasRegisterTables S.Store conn.old }
+    ensures reads_only { ReadsTables S.Store result
+        (ReadsPart (λ r. object_at (record r { parties = map.insert map.empty number found }) kinds.Party number)
         at) conn.old conn.new }
     ensures unreadable { FailsOnlyWithoutHistory S.Store result conn.old conn.new }
-    ensures mode { LeavesAutocommit conn.old conn.new }
+    ensures autocommit { LeavesAutocommit conn.old conn.new }
 {
     let roles = of_party::roles(alloc, conn, number, at)?;
     let members = of_group::members(alloc, conn, number, at)?;
-    Ok(party_shown(alloc, number, found, roles, members)?)
+    Ok(party_object(alloc, number, found, roles, members)?)
 }
 
 /// Reads the party of a number, with its roles and its members.
@@ -49,11 +49,11 @@ fn party<S: Alter>(
     number: u64,
     at: i64,
 ) -> Result<Option<Object>, ReadFault>
-    requires land { HasRegisterTables S.Store conn.old }
-    ensures look { ReadsTables S.Store result (IsPart (λ r. object_at r kinds.Party number) at) conn.old
+    requires has_tables { HasRegisterTables S.Store conn.old }
+    ensures reads_only { ReadsTables S.Store result (ReadsPart (λ r. object_at r kinds.Party number) at) conn.old
         conn.new }
     ensures unreadable { FailsOnlyWithoutHistory S.Store result conn.old conn.new }
-    ensures mode { LeavesAutocommit conn.old conn.new }
+    ensures autocommit { LeavesAutocommit conn.old conn.new }
 {
     let known = by_number::record(alloc, conn, number, at)?;
     match known {
@@ -71,10 +71,10 @@ fn shown<V: Shown, S: Alter>(
 ) -> Result<Option<Object>, ReadFault>
 where
     Version<(u64, V)>: FromRow,
-    requires land { HasRegisterTables S.Store conn.old }
-    ensures look { ReadsTables S.Store result (IsPart (λ r. object_at r V.kind number) at) conn.old conn.new }
+    requires has_tables { HasRegisterTables S.Store conn.old }
+    ensures reads_only { ReadsTables S.Store result (ReadsPart (λ r. object_at r V.kind number) at) conn.old conn.new }
     ensures unreadable { FailsOnlyWithoutHistory S.Store result conn.old conn.new }
-    ensures mode { LeavesAutocommit conn.old conn.new }
+    ensures autocommit { LeavesAutocommit conn.old conn.new }
 {
     let found = by_number::record::<V, S>(alloc, conn, number, at)?;
     Ok(V::shown(number, found))
@@ -89,10 +89,10 @@ pub fn object<S: Alter>(
     number: u64,
     at: i64,
 ) -> Result<Option<Object>, ReadFault>
-    requires land { HasRegisterTables S.Store conn.old }
-    ensures look { ReadsTables S.Store result (IsPart (λ r. object_at r kind number) at) conn.old conn.new }
+    requires has_tables { HasRegisterTables S.Store conn.old }
+    ensures reads_only { ReadsTables S.Store result (ReadsPart (λ r. object_at r kind number) at) conn.old conn.new }
     ensures unreadable { FailsOnlyWithoutHistory S.Store result conn.old conn.new }
-    ensures mode { LeavesAutocommit conn.old conn.new }
+    ensures autocommit { LeavesAutocommit conn.old conn.new }
 {
     match kind {
         Kind::Party => party(alloc, conn, number, at),

@@ -1,11 +1,11 @@
 //! The mandates that a party holds, their principals, and the circle of the party.
 ghost use Rattle.std.specs.Prelude.{◌≡◌, map, nat_eq, IfOk};
-ghost use Rattle.land_core.specs.Entries.{only};
-ghost use Rattle.land_select_joins.specs.Lookups.Parts.{ArePrincipalsOf, IsCircleOf, IsPart};
+ghost use Rattle.land_core.specs.Entries.{entries_where};
+ghost use Rattle.land_select_joins.specs.Lookups.Parts.{ArePrincipalsOf, IsCircleOf, ReadsPart};
 ghost use Rattle.land_select_joins.specs.TableReads.{FailsOnlyWithoutHistory, ReadsTables};
 ghost use Rattle.land_tables_schema.specs.Connections.{HasRegisterTables, LeavesAutocommit};
 
-use crate::lookups::record_lookup::LookUp;
+use crate::lookups::record_lookup::RecordLookup;
 use crate::lookups::record_rows::find;
 use land_core::mandates::{Mandate, Mandates};
 use land_core::sequence::{NumberList, Sequence};
@@ -23,13 +23,13 @@ pub fn mandates<S: Alter>(
     agent: u64,
     at: i64,
 ) -> Result<Mandates, ReadFault>
-    requires land { HasRegisterTables S.Store conn.old }
-    ensures look { ReadsTables S.Store result
-        (IsPart (λ r. only (λ mandate u. nat_eq mandate.agent agent) r.mandates) at) conn.old conn.new }
+    requires has_tables { HasRegisterTables S.Store conn.old }
+    ensures reads_only { ReadsTables S.Store result
+        (ReadsPart (λ r. entries_where (λ mandate u. nat_eq mandate.agent agent) r.mandates) at) conn.old conn.new }
     ensures unreadable { FailsOnlyWithoutHistory S.Store result conn.old conn.new }
-    ensures mode { LeavesAutocommit conn.old conn.new }
+    ensures autocommit { LeavesAutocommit conn.old conn.new }
 {
-    let held = find(alloc, conn, LookUp::MandatesOfAgent, agent, at)?;
+    let held = find(alloc, conn, RecordLookup::MandatesOfAgent, agent, at)?;
     Ok(mandates_at(alloc, held.as_slice(), at)?)
 }
 
@@ -42,12 +42,12 @@ pub fn principals<S: Alter>(
     agent: u64,
     at: i64,
 ) -> Result<NumberList, ReadFault>
-    requires land { HasRegisterTables S.Store conn.old }
-    ensures look { ReadsTables S.Store result (ArePrincipalsOf agent at) conn.old conn.new }
+    requires has_tables { HasRegisterTables S.Store conn.old }
+    ensures reads_only { ReadsTables S.Store result (ArePrincipalsOf agent at) conn.old conn.new }
     ensures unreadable { FailsOnlyWithoutHistory S.Store result conn.old conn.new }
-    ensures mode { LeavesAutocommit conn.old conn.new }
+    ensures autocommit { LeavesAutocommit conn.old conn.new }
 {
-    let found = find(alloc, conn, LookUp::MandatesOfAgent, agent, at)?;
+    let found = find(alloc, conn, RecordLookup::MandatesOfAgent, agent, at)?;
     Ok(principals_of(alloc, found.as_slice())?)
 }
 
@@ -70,10 +70,10 @@ pub fn circle<S: Alter>(
     party: u64,
     at: i64,
 ) -> Result<NumberList, ReadFault>
-    requires land { HasRegisterTables S.Store conn.old }
-    ensures look { ReadsTables S.Store result (IsCircleOf party at) conn.old conn.new }
+    requires has_tables { HasRegisterTables S.Store conn.old }
+    ensures reads_only { ReadsTables S.Store result (IsCircleOf party at) conn.old conn.new }
     ensures unreadable { FailsOnlyWithoutHistory S.Store result conn.old conn.new }
-    ensures mode { LeavesAutocommit conn.old conn.new }
+    ensures autocommit { LeavesAutocommit conn.old conn.new }
 {
     let mut numbers = principals(alloc, conn, party, at)?;
     numbers.push(party)?;

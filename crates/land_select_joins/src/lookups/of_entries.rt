@@ -4,7 +4,7 @@ ghost use Rattle.land_select_joins.specs.Lookups.Parties.{of_range, of_unit};
 ghost use Rattle.land_select_joins.specs.TableReads.{FailsOnlyWithoutHistory, ReadsTables};
 ghost use Rattle.land_tables_schema.specs.Connections.{HasRegisterTables, LeavesAutocommit};
 
-use crate::joins::running::asked_for;
+use crate::joins::running::known_or_zero;
 use crate::lookups::record_rows::read;
 use crate::lookups::texts;
 use crate::lookups::within::BEYOND;
@@ -18,14 +18,14 @@ use std::alloc::Global;
 
 /// Returns the rows of the parties of a unit's entries at a time, in any order.
 fn rows_of<S: Alter>(conn: &mut Connection<S>, unit: u64, at: i64) -> Result<Vec<Row>, Error>
-    requires land { HasRegisterTables S.Store conn.old }
-    ensures look { ReadsTables S.Store result (λ db rows. ArePartyRows (of_unit unit) at db rows.items)
+    requires has_tables { HasRegisterTables S.Store conn.old }
+    ensures reads_only { ReadsTables S.Store result (λ db rows. ArePartyRows (of_unit unit) at db rows.items)
         conn.old conn.new }
-    ensures mode { LeavesAutocommit conn.old conn.new }
+    ensures autocommit { LeavesAutocommit conn.old conn.new }
 {
     conn.query_all(
         texts::PARTIES_OF_UNIT,
-        &[of_number(asked_for(unit)), of_moment(at)],
+        &[of_number(known_or_zero(unit)), of_moment(at)],
     )
 }
 
@@ -37,10 +37,10 @@ pub fn parties<S: Alter>(
     unit: u64,
     at: i64,
 ) -> Result<Sequence<Version<(u64, PartyRecord)>>, ReadFault>
-    requires land { HasRegisterTables S.Store conn.old }
-    ensures look { ReadsTables S.Store result (ArePartiesIn unit at) conn.old conn.new }
+    requires has_tables { HasRegisterTables S.Store conn.old }
+    ensures reads_only { ReadsTables S.Store result (ArePartiesIn unit at) conn.old conn.new }
     ensures unreadable { FailsOnlyWithoutHistory S.Store result conn.old conn.new }
-    ensures mode { LeavesAutocommit conn.old conn.new }
+    ensures autocommit { LeavesAutocommit conn.old conn.new }
 {
     let rows = rows_of(conn, unit, at)?;
     read(alloc, rows.as_slice())
@@ -53,10 +53,10 @@ fn rows_within<S: Alter>(
     last: u64,
     at: i64,
 ) -> Result<Vec<Row>, Error>
-    requires land { HasRegisterTables S.Store conn.old }
-    ensures look { ReadsTables S.Store result (λ db rows. ArePartyRows (of_range first last) at db rows.items)
+    requires has_tables { HasRegisterTables S.Store conn.old }
+    ensures reads_only { ReadsTables S.Store result (λ db rows. ArePartyRows (of_range first last) at db rows.items)
         conn.old conn.new }
-    ensures mode { LeavesAutocommit conn.old conn.new }
+    ensures autocommit { LeavesAutocommit conn.old conn.new }
 {
     conn.query_all(
         texts::PARTIES_OF_ENTRIES,
@@ -78,10 +78,10 @@ pub fn parties_within<S: Alter>(
     last: u64,
     at: i64,
 ) -> Result<Sequence<Version<(u64, PartyRecord)>>, ReadFault>
-    requires land { HasRegisterTables S.Store conn.old }
-    ensures look { ReadsTables S.Store result (ArePartiesWithin first last at) conn.old conn.new }
+    requires has_tables { HasRegisterTables S.Store conn.old }
+    ensures reads_only { ReadsTables S.Store result (ArePartiesWithin first last at) conn.old conn.new }
     ensures unreadable { FailsOnlyWithoutHistory S.Store result conn.old conn.new }
-    ensures mode { LeavesAutocommit conn.old conn.new }
+    ensures autocommit { LeavesAutocommit conn.old conn.new }
 {
     let rows = rows_within(conn, first, last, at)?;
     read(alloc, rows.as_slice())

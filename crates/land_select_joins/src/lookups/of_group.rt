@@ -1,11 +1,11 @@
 //! The members of a group.
 ghost use Rattle.std.specs.Prelude.{nat_eq};
-ghost use Rattle.land_core.specs.Entries.{only};
-ghost use Rattle.land_select_joins.specs.Lookups.Parts.{IsPart};
+ghost use Rattle.land_core.specs.Entries.{entries_where};
+ghost use Rattle.land_select_joins.specs.Lookups.Parts.{ReadsPart};
 ghost use Rattle.land_select_joins.specs.TableReads.{FailsOnlyWithoutHistory, ReadsTables};
 ghost use Rattle.land_tables_schema.specs.Connections.{HasRegisterTables, LeavesAutocommit};
 
-use crate::lookups::record_lookup::LookUp;
+use crate::lookups::record_lookup::RecordLookup;
 use crate::lookups::record_rows::find;
 use land_core::member::Members;
 use land_core::records::Records;
@@ -23,12 +23,12 @@ pub fn members<S: Alter>(
     group: u64,
     at: i64,
 ) -> Result<Records<Members>, ReadFault>
-    requires land { HasRegisterTables S.Store conn.old }
-    ensures look { ReadsTables S.Store result (IsPart (λ r. only (λ n members. nat_eq n group) r.members) at)
+    requires has_tables { HasRegisterTables S.Store conn.old }
+    ensures reads_only { ReadsTables S.Store result (ReadsPart (λ r. entries_where (λ n members. nat_eq n group) r.members) at)
         conn.old conn.new }
     ensures unreadable { FailsOnlyWithoutHistory S.Store result conn.old conn.new }
-    ensures mode { LeavesAutocommit conn.old conn.new }
+    ensures autocommit { LeavesAutocommit conn.old conn.new }
 {
-    let found = find(alloc, conn, LookUp::MembersOfGroup, group, at)?;
+    let found = find(alloc, conn, RecordLookup::MembersOfGroup, group, at)?;
     Ok(groups_at(alloc, found.as_slice(), at)?)
 }

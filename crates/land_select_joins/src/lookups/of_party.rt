@@ -1,11 +1,11 @@
 //! The roles of a party.
 ghost use Rattle.std.specs.Prelude.{nat_eq};
-ghost use Rattle.land_core.specs.Entries.{only};
-ghost use Rattle.land_select_joins.specs.Lookups.Parts.{IsPart};
+ghost use Rattle.land_core.specs.Entries.{entries_where};
+ghost use Rattle.land_select_joins.specs.Lookups.Parts.{ReadsPart};
 ghost use Rattle.land_select_joins.specs.TableReads.{FailsOnlyWithoutHistory, ReadsTables};
 ghost use Rattle.land_tables_schema.specs.Connections.{HasRegisterTables, LeavesAutocommit};
 
-use crate::lookups::record_lookup::LookUp;
+use crate::lookups::record_lookup::RecordLookup;
 use crate::lookups::record_rows::find;
 use land_core::roles::Roles;
 use land_tables_history::roles::roles_at;
@@ -21,12 +21,12 @@ pub fn roles<S: Alter>(
     party: u64,
     at: i64,
 ) -> Result<Roles, ReadFault>
-    requires land { HasRegisterTables S.Store conn.old }
-    ensures look { ReadsTables S.Store result
-        (IsPart (λ r. only (λ grant u. nat_eq grant.party party) r.roles) at) conn.old conn.new }
+    requires has_tables { HasRegisterTables S.Store conn.old }
+    ensures reads_only { ReadsTables S.Store result
+        (ReadsPart (λ r. entries_where (λ grant u. nat_eq grant.party party) r.roles) at) conn.old conn.new }
     ensures unreadable { FailsOnlyWithoutHistory S.Store result conn.old conn.new }
-    ensures mode { LeavesAutocommit conn.old conn.new }
+    ensures autocommit { LeavesAutocommit conn.old conn.new }
 {
-    let found = find(alloc, conn, LookUp::RolesOfParty, party, at)?;
+    let found = find(alloc, conn, RecordLookup::RolesOfParty, party, at)?;
     Ok(roles_at(alloc, found.as_slice(), at)?)
 }

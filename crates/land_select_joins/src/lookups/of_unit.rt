@@ -1,11 +1,11 @@
 //! The parcels and the entries of a unit.
 ghost use Rattle.std.specs.Prelude.{nat_eq};
-ghost use Rattle.land_core.specs.Entries.{only};
-ghost use Rattle.land_select_joins.specs.Lookups.Parts.{IsPart};
+ghost use Rattle.land_core.specs.Entries.{entries_where};
+ghost use Rattle.land_select_joins.specs.Lookups.Parts.{ReadsPart};
 ghost use Rattle.land_select_joins.specs.TableReads.{FailsOnlyWithoutHistory, ReadsTables};
 ghost use Rattle.land_tables_schema.specs.Connections.{HasRegisterTables, LeavesAutocommit};
 
-use crate::lookups::record_lookup::LookUp;
+use crate::lookups::record_lookup::RecordLookup;
 use crate::lookups::record_rows::find;
 use land_core::parcel::ParcelRecord;
 use land_core::records::Records;
@@ -23,13 +23,13 @@ pub fn parcels<S: Alter>(
     unit: u64,
     at: i64,
 ) -> Result<Records<ParcelRecord>, ReadFault>
-    requires land { HasRegisterTables S.Store conn.old }
-    ensures look { ReadsTables S.Store result (IsPart (λ r. only (λ n p. nat_eq p.unit unit) r.parcels) at)
+    requires has_tables { HasRegisterTables S.Store conn.old }
+    ensures reads_only { ReadsTables S.Store result (ReadsPart (λ r. entries_where (λ n p. nat_eq p.unit unit) r.parcels) at)
         conn.old conn.new }
     ensures unreadable { FailsOnlyWithoutHistory S.Store result conn.old conn.new }
-    ensures mode { LeavesAutocommit conn.old conn.new }
+    ensures autocommit { LeavesAutocommit conn.old conn.new }
 {
-    let found = find(alloc, conn, LookUp::ParcelsOfUnit, unit, at)?;
+    let found = find(alloc, conn, RecordLookup::ParcelsOfUnit, unit, at)?;
     Ok(part_at(alloc, found.as_slice(), at)?)
 }
 
@@ -41,12 +41,12 @@ pub fn entries<S: Alter>(
     unit: u64,
     at: i64,
 ) -> Result<Records<RrrRecord>, ReadFault>
-    requires land { HasRegisterTables S.Store conn.old }
-    ensures look { ReadsTables S.Store result (IsPart (λ r. only (λ n e. nat_eq e.unit unit) r.rrrs) at)
+    requires has_tables { HasRegisterTables S.Store conn.old }
+    ensures reads_only { ReadsTables S.Store result (ReadsPart (λ r. entries_where (λ n e. nat_eq e.unit unit) r.rrrs) at)
         conn.old conn.new }
     ensures unreadable { FailsOnlyWithoutHistory S.Store result conn.old conn.new }
-    ensures mode { LeavesAutocommit conn.old conn.new }
+    ensures autocommit { LeavesAutocommit conn.old conn.new }
 {
-    let found = find(alloc, conn, LookUp::EntriesOfUnit, unit, at)?;
+    let found = find(alloc, conn, RecordLookup::EntriesOfUnit, unit, at)?;
     Ok(part_at(alloc, found.as_slice(), at)?)
 }

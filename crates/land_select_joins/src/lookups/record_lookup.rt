@@ -6,7 +6,7 @@ use crate::lookups::texts;
 
 /// A lookup of records by a number, at a time.
 #[derive(Clone, Copy, Debug, PartialEq, Eq)]
-pub enum LookUp {
+pub enum RecordLookup {
     /// The party of a number.
     Party,
     /// The unit of a number.
@@ -35,21 +35,21 @@ pub enum LookUp {
 
 /// Returns the SQL statement of a lookup. Parameter 1 is the number, parameter 2 the time in Unix
 /// milliseconds.
-pub fn text_of(record_lookup: LookUp) -> &'static str
+pub fn text_of(record_lookup: RecordLookup) -> &'static str
     ensures { result.now ≡ text_of record_lookup }
 {
     match record_lookup {
-        LookUp::Party => texts::PARTY,
-        LookUp::Unit => texts::UNIT,
-        LookUp::Parcel => texts::PARCEL,
-        LookUp::Entry => texts::ENTRY,
-        LookUp::Source => texts::SOURCE,
-        LookUp::Mutation => texts::MUTATION,
-        LookUp::ParcelsOfUnit => texts::PARCELS_OF_UNIT,
-        LookUp::EntriesOfUnit => texts::ENTRIES_OF_UNIT,
-        LookUp::RolesOfParty => texts::ROLES_OF_PARTY,
-        LookUp::MembersOfGroup => texts::MEMBERS_OF_GROUP,
-        LookUp::MandatesOfAgent => texts::MANDATES_OF_AGENT,
-        LookUp::Administrators => texts::ADMINISTRATORS,
+        RecordLookup::Party => texts::PARTY,
+        RecordLookup::Unit => texts::UNIT,
+        RecordLookup::Parcel => texts::PARCEL,
+        RecordLookup::Entry => texts::ENTRY,
+        RecordLookup::Source => texts::SOURCE,
+        RecordLookup::Mutation => texts::MUTATION,
+        RecordLookup::ParcelsOfUnit => texts::PARCELS_OF_UNIT,
+        RecordLookup::EntriesOfUnit => texts::ENTRIES_OF_UNIT,
+        RecordLookup::RolesOfParty => texts::ROLES_OF_PARTY,
+        RecordLookup::MembersOfGroup => texts::MEMBERS_OF_GROUP,
+        RecordLookup::MandatesOfAgent => texts::MANDATES_OF_AGENT,
+        RecordLookup::Administrators => texts::ADMINISTRATORS,
     }
 }

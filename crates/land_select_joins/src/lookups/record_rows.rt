@@ -1,15 +1,15 @@
 //! Runs lookups and decodes their rows.
 ghost use Rattle.std.specs.Prelude.{IfErr};
-ghost use Rattle.land_select_joins.specs.Lookups.RecordRows.{AreRowsLodgedAs, AreRowsOf, AreSaidOf};
-ghost use Rattle.land_select_joins.specs.Lookups.RecordRows.{CannotBeSaid};
+ghost use Rattle.land_select_joins.specs.Lookups.RecordRows.{AreLodgedRows, AreRowsOf, AreReadByLookup};
+ghost use Rattle.land_select_joins.specs.Lookups.RecordRows.{LookupCannotBeRead};
 ghost use Rattle.land_select_joins.specs.TableReads.{ReadsTables};
 ghost use Rattle.land_tables_rows.specs.Listing.Reading.{IsRead};
 ghost use Rattle.land_tables_schema.specs.Connections.{HasRegisterTables, LeavesAutocommit};
 ghost use Rattle.sqlite.specs.Held.{state};
 ghost use Rattle.sqlite.specs.State.{HasCleanDisk};
 
-use crate::joins::running::asked_for;
-use crate::lookups::record_lookup::{LookUp, text_of};
+use crate::joins::running::known_or_zero;
+use crate::lookups::record_lookup::{RecordLookup, text_of};
 use crate::lookups::texts;
 use land_core::sequence::Sequence;
 use land_tables_rows::listing::fault::ReadFault;
@@ -21,38 +21,38 @@ use std::alloc::Global;
 /// Runs a lookup at a time and returns its rows, in any order.
 fn rows_of<S: Alter>(
     conn: &mut Connection<S>,
-    record_lookup: LookUp,
+    record_lookup: RecordLookup,
     number: u64,
     at: i64,
 ) -> Result<Vec<Row>, Error>
-    requires land { HasRegisterTables S.Store conn.old }
-    ensures look { ReadsTables S.Store result (λ db rows. AreRowsOf record_lookup number at db rows.items)
+    requires has_tables { HasRegisterTables S.Store conn.old }
+    ensures reads_only { ReadsTables S.Store result (λ db rows. AreRowsOf record_lookup number at db rows.items)
         conn.old
         conn.new }
-    ensures mode { LeavesAutocommit conn.old conn.new }
+    ensures autocommit { LeavesAutocommit conn.old conn.new }
 {
     conn.query_all(
         text_of(record_lookup),
-        &[of_number(asked_for(number)), of_moment(at)],
+        &[of_number(known_or_zero(number)), of_moment(at)],
     )
 }
 
 /// Returns the rows of the mutation that a party lodged with a reference, at a time.
-pub(crate) fn rows_lodged_as<S: Alter>(
+pub(crate) fn query_lodged<S: Alter>(
     conn: &mut Connection<S>,
     lodger: u64,
     reference: &str,
     at: i64,
 ) -> Result<Vec<Row>, Error>
-    requires land { HasRegisterTables S.Store conn.old }
-    ensures look { ReadsTables S.Store result
-        (λ db rows. AreRowsLodgedAs lodger reference.now at db rows.items) conn.old conn.new }
-    ensures mode { LeavesAutocommit conn.old conn.new }
+    requires has_tables { HasRegisterTables S.Store conn.old }
+    ensures reads_only { ReadsTables S.Store result
+        (λ db rows. AreLodgedRows lodger reference.now at db rows.items) conn.old conn.new }
+    ensures autocommit { LeavesAutocommit conn.old conn.new }
 {
     conn.query_all(
         texts::MUTATION_LODGED_AS,
         &[
-            of_number(asked_for(lodger)),
+            of_number(known_or_zero(lodger)),
             of_moment(at),
             of_text(reference),
         ],
@@ -71,17 +71,17 @@ pub(crate) fn read<X: FromRow>(alloc: Global, rows: &[Row]) -> Result<Sequence<X
 pub fn find<X: FromRow, S: Alter>(
     alloc: Global,
     conn: &mut Connection<S>,
-    record_lookup: LookUp,
+    record_lookup: RecordLookup,
     number: u64,
     at: i64,
 ) -> Result<Sequence<X>, ReadFault>
-    requires land { HasRegisterTables S.Store conn.old }
-    ensures look { ReadsTables S.Store result (AreSaidOf X.FromRow.said record_lookup number at) conn.old
+    requires has_tables { HasRegisterTables S.Store conn.old }
+    ensures reads_only { ReadsTables S.Store result (AreReadByLookup X.FromRow.said record_lookup number at) conn.old
         conn.new }
     ensures unreadable { HasCleanDisk (state S.Store conn.new)
-        → IfErr result (CannotBeSaid X.FromRow.said record_lookup number at
+        → IfErr result (LookupCannotBeRead X.FromRow.said record_lookup number at
         (state S.Store conn.old).now.trees) }
-    ensures mode { LeavesAutocommit conn.old conn.new }
+    ensures autocommit { LeavesAutocommit conn.old conn.new }
 {
     let rows = rows_of(conn, record_lookup, number, at)?;
     read(alloc, rows.as_slice())

@@ -1,6 +1,6 @@
 //! The relations by which a caller sees the parties of a unit's entries.
 ghost use Rattle.std.specs.Prelude.{◌≡◌};
-ghost use Rattle.land_select_joins.specs.Lookups.Texts.{seer_text_of};
+ghost use Rattle.land_select_joins.specs.Lookups.Texts.{viewer_text_of};
 
 use crate::lookups::texts;
 
@@ -18,11 +18,11 @@ pub enum Relation {
 /// Returns the SQL statement that selects the viewers of a party by a relation. Parameter 1 is the number of
 /// the party, parameter 2 the time in Unix milliseconds.
 pub fn text_of(relation: Relation) -> &'static str
-    ensures { result.now ≡ seer_text_of relation }
+    ensures { result.now ≡ viewer_text_of relation }
 {
     match relation {
-        Relation::Holding => texts::SEERS_BY_HOLDING,
-        Relation::Crediting => texts::SEERS_BY_CREDITING,
-        Relation::Awaiting => texts::SEERS_BY_AWAITING,
+        Relation::Holding => texts::VIEWERS_BY_HOLDING,
+        Relation::Crediting => texts::VIEWERS_BY_CREDITING,
+        Relation::Awaiting => texts::VIEWERS_BY_LODGING,
     }
 }

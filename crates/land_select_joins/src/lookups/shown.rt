@@ -37,7 +37,7 @@ where
 }
 
 /// Builds the object of a party from its record, roles and members.
-pub(crate) fn party_shown(
+pub(crate) fn party_object(
     alloc: Global,
     number: u64,
     shown: PartyRecord,

@@ -2,7 +2,7 @@
 //!
 //! Parameter 1 is the number and parameter 2 the time in Unix milliseconds. Parameter 3 is the reference, if
 //! there is one; for a range, parameter 1 is the first number and parameter 3 the last. A row is valid if the
-//! time is not before its `since` and is before its `until`. A statement with a `LIMIT` returns only some of
+//! time is not before its `since` and is before its `until`. A statement with a `MAX_COORDINATE` returns only some of
 //! the rows that it would return without.
 
 /// The party of a number.
@@ -103,13 +103,13 @@ pub const PARTIES_OF_ENTRIES: &str =
 
 /// The holders of a right in the unit of an entry of the party, if they see this entry. A holder is repeated
 /// for each such entry. At most 17 rows are returned.
-pub const SEERS_BY_HOLDING: &str =
+pub const VIEWERS_BY_HOLDING: &str =
     "SELECT held.party FROM rrr AS seen JOIN rrr AS held ON held.unit = seen.unit WHERE seen.party = ?1 AND held.class IN ('ownership', 'lease', 'usufruct') AND (seen.class <> 'mortgage' OR held.class = 'ownership') AND seen.since <= ?2 AND ?2 < seen.until AND held.since <= ?2 AND ?2 < held.until LIMIT 17";
 
 /// The creditors of a mortgage on the unit of an entry of the party, if they see this entry; likewise.
-pub const SEERS_BY_CREDITING: &str =
+pub const VIEWERS_BY_CREDITING: &str =
     "SELECT held.party FROM rrr AS seen JOIN rrr AS held ON held.unit = seen.unit WHERE seen.party = ?1 AND held.class = 'mortgage' AND (seen.class <> 'mortgage' OR seen.party = held.party) AND seen.since <= ?2 AND ?2 < seen.until AND held.since <= ?2 AND ?2 < held.until LIMIT 17";
 
 /// The lodgers of a pending mutation that refers to the unit of an entry of the party; likewise.
-pub const SEERS_BY_AWAITING: &str =
+pub const VIEWERS_BY_LODGING: &str =
     "SELECT mutation.lodger FROM rrr JOIN names ON names.unit = rrr.unit JOIN mutation ON mutation.number = names.mutation WHERE rrr.party = ?1 AND mutation.state = 'lodged' AND rrr.since <= ?2 AND ?2 < rrr.until AND names.since <= ?2 AND ?2 < names.until AND mutation.since <= ?2 AND ?2 < mutation.until LIMIT 17";

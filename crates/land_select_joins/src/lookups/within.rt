@@ -1,8 +1,8 @@
 //! Records in a range of numbers.
 ghost use Rattle.std.specs.Prelude.{◌≡◌, IfErr};
-ghost use Rattle.land_core.specs.Entries.{only};
-ghost use Rattle.land_select_joins.specs.Lookups.RecordRows.{AreSaid, CannotBeRead};
-ghost use Rattle.land_select_joins.specs.Lookups.Parts.{IsPart};
+ghost use Rattle.land_core.specs.Entries.{entries_where};
+ghost use Rattle.land_select_joins.specs.Lookups.RecordRows.{AreReadFrom, CannotBeRead};
+ghost use Rattle.land_select_joins.specs.Lookups.Parts.{ReadsPart};
 ghost use Rattle.land_select_joins.specs.Lookups.Ranges.{AreRowsWithin, is_within, text_within};
 ghost use Rattle.land_select_joins.specs.TableReads.{FailsOnlyWithoutHistory, ReadsTables};
 ghost use Rattle.land_tables_schema.specs.Connections.{HasRegisterTables, LeavesAutocommit};
@@ -50,10 +50,10 @@ fn rows_of<S: Alter>(
     last: u64,
     at: i64,
 ) -> Result<Vec<Row>, Error>
-    requires land { HasRegisterTables S.Store conn.old }
-    ensures look { ReadsTables S.Store result (λ db rows. AreRowsWithin kind first last at db rows.items)
+    requires has_tables { HasRegisterTables S.Store conn.old }
+    ensures reads_only { ReadsTables S.Store result (λ db rows. AreRowsWithin kind first last at db rows.items)
         conn.old conn.new }
-    ensures mode { LeavesAutocommit conn.old conn.new }
+    ensures autocommit { LeavesAutocommit conn.old conn.new }
 {
     conn.query_all(
         text_within(kind),
@@ -76,14 +76,14 @@ fn find<V: Numbered, S: Alter>(
 ) -> Result<Sequence<Version<(u64, V)>>, ReadFault>
 where
     Version<(u64, V)>: FromRow,
-    requires land { HasRegisterTables S.Store conn.old }
-    ensures look { ReadsTables S.Store result
-        (λ db it. AreSaid ⟦<Version<(u64, V)> as FromRow>⟧.said (AreRowsWithin V.KIND first last at db) it)
+    requires has_tables { HasRegisterTables S.Store conn.old }
+    ensures reads_only { ReadsTables S.Store result
+        (λ db it. AreReadFrom ⟦<Version<(u64, V)> as FromRow>⟧.said (AreRowsWithin V.KIND first last at db) it)
         conn.old conn.new }
     ensures unreadable { HasCleanDisk (state S.Store conn.new)
         → IfErr result (CannotBeRead ⟦<Version<(u64, V)> as FromRow>⟧.said
         (AreRowsWithin V.KIND first last at (state S.Store conn.old).now.trees)) }
-    ensures mode { LeavesAutocommit conn.old conn.new }
+    ensures autocommit { LeavesAutocommit conn.old conn.new }
 {
     let rows = rows_of(conn, V::KIND, first, last, at)?;
     read(alloc, rows.as_slice())
@@ -100,11 +100,11 @@ pub fn records<V: Numbered + Duplicate, S: Alter>(
 ) -> Result<Records<V>, ReadFault>
 where
     Version<(u64, V)>: FromRow,
-    requires land { HasRegisterTables S.Store conn.old }
-    ensures look { ReadsTables S.Store result
-        (IsPart (λ r. only (λ n v. is_within first last n) (V.part r)) at) conn.old conn.new }
+    requires has_tables { HasRegisterTables S.Store conn.old }
+    ensures reads_only { ReadsTables S.Store result
+        (ReadsPart (λ r. entries_where (λ n v. is_within first last n) (V.part r)) at) conn.old conn.new }
     ensures unreadable { FailsOnlyWithoutHistory S.Store result conn.old conn.new }
-    ensures mode { LeavesAutocommit conn.old conn.new }
+    ensures autocommit { LeavesAutocommit conn.old conn.new }
 {
     let found = find::<V, S>(alloc, conn, first, last, at)?;
     Ok(part_at(alloc, found.as_slice(), at)?)

@@ -1,17 +1,17 @@
 //! Laws, each stated on definitions only.
-ghost use Rattle.land_select_joins.specs.Sights.Laws.{AscendingListsAreOne, NobodiesSeeAlike, SelectedIsSeen};
-ghost use Rattle.land_select_joins.specs.Sights.Laws.{SelectionsAreTheRules, TheUnnamedSeeTheLeast};
+ghost use Rattle.land_select_joins.specs.Sights.Laws.{AscendingListsAreOne, OutOfRangeSeeAlike, SelectedIsSeen};
+ghost use Rattle.land_select_joins.specs.Sights.Laws.{SelectionsAreTheRules, UnreferencedSeeLeast};
 
-use land_core::laws::soundness_by_look_ups;
-use land_rules::laws::seen_is_exact;
+use land_core::laws::soundness_by_number;
+use land_rules::laws::seen_lists_are_exact;
 
 /// States that the selections of a role and a kind return exactly the numbers that the policy, without
 /// mandates, lets the caller see.
 pub fn selections_are_the_rules()
     ensures { SelectionsAreTheRules }
 {
-    seen_is_exact();
-    soundness_by_look_ups();
+    seen_lists_are_exact();
+    soundness_by_number();
 }
 
 /// States that increasing lists with the same numbers are equal.
@@ -25,20 +25,20 @@ pub fn selected_is_seen()
     ensures { SelectedIsSeen }
 {
     selections_are_the_rules();
-    seen_is_exact();
+    seen_lists_are_exact();
 }
 
 /// States that a number that is not in use at a time, as a party, a member, the party of an entry or a
 /// lodger, sees only what each other number sees.
-pub fn the_unnamed_see_the_least()
-    ensures { TheUnnamedSeeTheLeast }
+pub fn unreferenced_see_least()
+    ensures { UnreferencedSeeLeast }
 {}
 
 /// States that numbers that no party can have see the same. So 0 can replace a number that is too large for a
 /// parameter.
-pub fn nobodies_see_alike()
-    ensures { NobodiesSeeAlike }
+pub fn out_of_range_see_alike()
+    ensures { OutOfRangeSeeAlike }
 {
-    soundness_by_look_ups();
-    the_unnamed_see_the_least();
+    soundness_by_number();
+    unreferenced_see_least();
 }

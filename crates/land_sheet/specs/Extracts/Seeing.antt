@@ -11,28 +11,28 @@ use Rattle.land_keep.specs.declared.named.NamedObject.{NamedObject}
 use Rattle.land_keep.specs.declared.store_fault.StoreFault.{StoreFault}
 
 -- the listed object with a number, if it exists
-abbrev pub told_at : Register → Kind → (number : ℕ) → Option NamedObject
-told_at r k number = option_map (named r) (object_at r k number)
+abbrev pub named_object_at : Register → Kind → (number : ℕ) → Option NamedObject
+named_object_at r k number = option_map (named r) (object_at r k number)
 
 -- each of these numbers has an object
-abbrev pub AllStand : Register → Kind → List ℕ → Type 0
-AllStand r k numbers = AllByRecursion (λ number. IsSome (object_at r k number)) numbers
+abbrev pub AllExist : Register → Kind → List ℕ → Type 0
+AllExist r k numbers = AllByRecursion (λ number. IsSome (object_at r k number)) numbers
 
 -- if numbers remain, the row of the first one is returned, and otherwise none
-abbrev pub Gives : Register → Kind → (left : List ℕ) → Option NamedObject → Type 0
-Gives r k [] None = Unit {0}
-Gives r k [] (Some row) = ⊥
-Gives r k (number ∷ numbers) None = ⊥
-Gives r k (number ∷ numbers) (Some row) = told_at r k number ≡ Some row
+abbrev pub IsNextRow : Register → Kind → (left : List ℕ) → Option NamedObject → Type 0
+IsNextRow r k [] None = Unit {0}
+IsNextRow r k [] (Some row) = ⊥
+IsNextRow r k (number ∷ numbers) None = ⊥
+IsNextRow r k (number ∷ numbers) (Some row) = named_object_at r k number ≡ Some row
 
 -- a row removes the first remaining number; the end or a fault removes all of them
-abbrev pub Leaves : (before : List ℕ) → Result (Option NamedObject) StoreFault → (after : List ℕ) → Type 0
-Leaves [] (Ok None) after = after ≡ []
-Leaves [] (Ok (Some row)) after = ⊥
-Leaves [] (Err fault) after = ⊥
-Leaves (number ∷ numbers) (Ok None) after = after ≡ []
-Leaves (number ∷ numbers) (Ok (Some row)) after = after ≡ numbers
-Leaves (number ∷ numbers) (Err fault) after = after ≡ []
+abbrev pub LeavesNumbers : (before : List ℕ) → Result (Option NamedObject) StoreFault → (after : List ℕ) → Type 0
+LeavesNumbers [] (Ok None) after = after ≡ []
+LeavesNumbers [] (Ok (Some row)) after = ⊥
+LeavesNumbers [] (Err fault) after = ⊥
+LeavesNumbers (number ∷ numbers) (Ok None) after = after ≡ []
+LeavesNumbers (number ∷ numbers) (Ok (Some row)) after = after ≡ numbers
+LeavesNumbers (number ∷ numbers) (Err fault) after = after ≡ []
 
 -- the keeper is called only if numbers remain, and its faults close it as usual
 abbrev pub ClosesAt : (left : List ℕ) → (before after : Bool) → Result (Option NamedObject) StoreFault

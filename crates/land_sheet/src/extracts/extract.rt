@@ -4,7 +4,7 @@ ghost use Rattle.land_keep.specs.Keepers.{WasHonest};
 ghost use Rattle.land_keep.specs.Keeping.{Closes};
 ghost use Rattle.land_sheet.specs.Extracts.{extract_of, list_reply, rows_at};
 ghost use Rattle.land_sheet.specs.Extracts.Timelines.{LeavesTimeline, keeper_register, time_of};
-ghost use Rattle.land_sheet.specs.Extracts.Writing.{IsExtracted, IsPut, of_store, rows_of};
+ghost use Rattle.land_sheet.specs.Extracts.Writing.{IsExtracted, WritesText, store_result, rows_of};
 
 use crate::extracts::fault::ExtractFault;
 use crate::extracts::list::list;
@@ -39,7 +39,7 @@ pub fn extract_to<K: Keeper, W: Write>(
         (W.contents writer.old) (W.contents writer.new) result }
     ensures was { WasHonest K.Keeper keeper.old keeper.new }
     ensures same { LeavesTimeline K.Keeper keeper.old keeper.new }
-    ensures closes { Closes (K.closed keeper.old) (K.closed keeper.new) (of_store result) }
+    ensures closes { Closes (K.closed keeper.old) (K.closed keeper.new) (store_result result) }
 {
     let listed = list(alloc, keeper, clock, caller, kind, at)?;
     let header = csv_header(alloc, kind)?;
@@ -65,11 +65,11 @@ fn write_parts<K: Keeper, W: Write>(
 ) -> Result<u64, ExtractFault>
     requires { K.closed keeper.old ≡ false }
     ensures put { K.honest keeper.new
-        → IsPut (rows_at (keeper_register K.Keeper keeper.old at) kind numbers.now) before
+        → WritesText (rows_at (keeper_register K.Keeper keeper.old at) kind numbers.now) before
         (W.contents writer.old) (W.contents writer.new) result }
     ensures was { WasHonest K.Keeper keeper.old keeper.new }
     ensures same { LeavesTimeline K.Keeper keeper.old keeper.new }
-    ensures closes { Closes (K.closed keeper.old) (K.closed keeper.new) (of_store result) }
+    ensures closes { Closes (K.closed keeper.old) (K.closed keeper.new) (store_result result) }
 {
     let mut written = before;
     let mut given = 0;
@@ -92,8 +92,8 @@ fn write_rows<W: Write>(
     writer: &mut W,
     before: u64,
 ) -> Result<u64, ExtractFault>
-    ensures put { IsPut (rows_of rows.now) before (W.contents writer.old) (W.contents writer.new) result }
-    ensures closes { Closes false false (of_store result) }
+    ensures put { WritesText (rows_of rows.now) before (W.contents writer.old) (W.contents writer.new) result }
+    ensures closes { Closes false false (store_result result) }
 {
     match csv_rows(alloc, rows) {
         Ok(lines) => match put(writer, before, lines.as_slice()) {

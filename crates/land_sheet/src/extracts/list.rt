@@ -6,7 +6,7 @@ ghost use Rattle.land_keep.specs.Moments.{now_after};
 ghost use Rattle.land_rules.specs.Rules.{seen_of};
 ghost use Rattle.land_sheet.specs.Extracts.{list_reply};
 ghost use Rattle.land_sheet.specs.Extracts.Timelines.{LeavesTimeline, keeper_register, time_of};
-ghost use Rattle.land_sheet.specs.Extracts.Writing.{IsListed, of_store};
+ghost use Rattle.land_sheet.specs.Extracts.Writing.{IsListed, store_result};
 
 use crate::extracts::fault::ExtractFault;
 use land_core::ask::Ask;
@@ -21,7 +21,7 @@ use std::alloc::Global;
 
 /// A list with its requested time.
 #[derive(Debug, Drop)]
-pub(crate) struct Listed {
+pub(crate) struct VisibleList {
     /// The numbers of the objects that the caller sees, increasing.
     pub(crate) numbers: NumberList,
     /// The moment, in Unix milliseconds.
@@ -29,7 +29,7 @@ pub(crate) struct Listed {
 }
 
 /// Returns the time of a read that requests none: the clock's, but not before the last stamp.
-fn now_at(clock: i64, last: i64) -> i64
+fn read_moment(clock: i64, last: i64) -> i64
     ensures { result ≡ now_after clock last }
 {
     clock.max(0).min(LAST_MOMENT).max(last)
@@ -44,7 +44,7 @@ pub(crate) fn list<K: Keeper>(
     caller: Caller,
     kind: Kind,
     at: Option<i64>,
-) -> Result<Listed, ExtractFault>
+) -> Result<VisibleList, ExtractFault>
     ensures listed { K.honest keeper.new
         → IsListed (list_reply clock caller kind at (K.timeline keeper.old)) result }
     ensures moment { K.honest keeper.new → IfOk result (λ it. it.at ≡ time_of K.Keeper keeper.old clock at) }
@@ -52,12 +52,12 @@ pub(crate) fn list<K: Keeper>(
         → IfOk result (λ it. it.numbers ≡ seen_of (keeper_register K.Keeper keeper.old it.at) caller kind) }
     ensures was { WasHonest K.Keeper keeper.old keeper.new }
     ensures same { LeavesTimeline K.Keeper keeper.old keeper.new }
-    ensures closes { Closes (K.closed keeper.old) (K.closed keeper.new) (of_store result) }
+    ensures closes { Closes (K.closed keeper.old) (K.closed keeper.new) (store_result result) }
 {
     if keeper.is_closed() {
         return Err(ExtractFault::from(StoreFault::Closed));
     }
-    let now = now_at(clock, keeper.last());
+    let now = read_moment(clock, keeper.last());
     let moment = at.unwrap_or(now);
     if now < moment {
         return Err(ExtractFault::Fault(135));
@@ -65,7 +65,7 @@ pub(crate) fn list<K: Keeper>(
     let ask = Ask::List { kind, at };
     match keeper.first_denial(alloc, caller, &ask, now)? {
         Verdict::Denied(rule) => Err(ExtractFault::Denied(rule)),
-        Verdict::Allowed => Ok(Listed {
+        Verdict::Allowed => Ok(VisibleList {
             numbers: keeper.sight(alloc, caller, kind, moment)?,
             at: moment,
         }),

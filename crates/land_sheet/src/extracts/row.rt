@@ -2,7 +2,7 @@
 ghost use Rattle.std.specs.Prelude.{◌≡◌, IfOk};
 ghost use Rattle.land_keep.specs.Keepers.{WasHonest};
 ghost use Rattle.land_keep.specs.Keeping.{Closes};
-ghost use Rattle.land_sheet.specs.Extracts.Seeing.{told_at};
+ghost use Rattle.land_sheet.specs.Extracts.Seeing.{named_object_at};
 ghost use Rattle.land_sheet.specs.Extracts.Timelines.{LeavesTimeline, keeper_register};
 
 use land_core::kind::Kind;
@@ -12,7 +12,7 @@ use land_keep::store_fault::StoreFault;
 use std::alloc::Global;
 
 /// Reads the object with a number at a moment, or returns `None` if it does not exist.
-pub(crate) fn row_of<K: Keeper>(
+pub(crate) fn read_row<K: Keeper>(
     alloc: Global,
     keeper: &mut K,
     kind: Kind,
@@ -20,7 +20,7 @@ pub(crate) fn row_of<K: Keeper>(
     at: i64,
 ) -> Result<Option<NamedObject>, StoreFault>
     ensures value { K.honest keeper.new
-        → IfOk result (λ row. row ≡ told_at (keeper_register K.Keeper keeper.old at) kind number) }
+        → IfOk result (λ row. row ≡ named_object_at (keeper_register K.Keeper keeper.old at) kind number) }
     ensures was { WasHonest K.Keeper keeper.old keeper.new }
     ensures same { LeavesTimeline K.Keeper keeper.old keeper.new }
     ensures closes { Closes (K.closed keeper.old) (K.closed keeper.new) result }

@@ -3,11 +3,11 @@ ghost use Rattle.std.specs.Prelude.{◌≡◌, IfOk};
 ghost use Rattle.land_keep.specs.Keepers.{WasHonest};
 ghost use Rattle.land_keep.specs.Keeping.{Closes};
 ghost use Rattle.land_rules.specs.Rules.{seen_of};
-ghost use Rattle.land_sheet.specs.Extracts.Left.{left_of};
-ghost use Rattle.land_sheet.specs.Extracts.Seeing.{AllStand, ClosesAt, Gives, Leaves};
+ghost use Rattle.land_sheet.specs.Extracts.Left.{remaining_numbers};
+ghost use Rattle.land_sheet.specs.Extracts.Seeing.{AllExist, ClosesAt, IsNextRow, LeavesNumbers};
 ghost use Rattle.land_sheet.specs.Extracts.Timelines.{LeavesTimeline, keeper_register};
 
-use crate::extracts::row::row_of;
+use crate::extracts::row::read_row;
 use land_core::caller::Caller;
 use land_core::kind::Kind;
 use land_core::sequence::NumberList;
@@ -30,7 +30,7 @@ pub struct Seen<'a, K: Keeper> {
 
 /// Returns the numbers of the objects that a caller sees of a kind at a moment, increasing. `each_seen`
 /// returns their rows. The register does not change. If the store fails, the keeper stays closed.
-pub fn numbers_seen<K: Keeper>(
+pub fn visible_numbers<K: Keeper>(
     alloc: Global,
     keeper: &mut K,
     caller: Caller,
@@ -40,7 +40,7 @@ pub fn numbers_seen<K: Keeper>(
     ensures seen { K.honest keeper.new
         → IfOk result (λ it. it ≡ seen_of (keeper_register K.Keeper keeper.old at) caller kind) }
     ensures stand { K.honest keeper.new
-        → IfOk result (λ it. AllStand (keeper_register K.Keeper keeper.old at) kind it) }
+        → IfOk result (λ it. AllExist (keeper_register K.Keeper keeper.old at) kind it) }
     ensures was { WasHonest K.Keeper keeper.old keeper.new }
     ensures same { LeavesTimeline K.Keeper keeper.old keeper.new }
     ensures closes { Closes (K.closed keeper.old) (K.closed keeper.new) result }
@@ -57,7 +57,7 @@ pub fn each_seen<'a, K: Keeper>(
     kind: Kind,
     at: i64,
 ) -> Seen<'a, K>
-    ensures left { left_of result ≡ numbers.now }
+    ensures left { remaining_numbers result ≡ numbers.now }
     ensures asked { (result.kind ≡ kind) × (result.at ≡ at) }
     ensures same { result.keeper.now ≡ keeper.old }
     ensures same_reference { result.keeper.ghost_name ≡ keeper.entry.ghost_name }
@@ -77,15 +77,15 @@ impl<'a, K: Keeper> Seen<'a, K> {
     /// Returns the row of the next object, or `None` after the last one. After an error it returns `None`.
     pub fn next(&mut self) -> Result<Option<NamedObject>, StoreFault>
         ensures gives { K.honest self.new.keeper.now
-            → AllStand (keeper_register K.Keeper self.old.keeper.now self.old.at) self.old.kind
-            (left_of self.old)
+            → AllExist (keeper_register K.Keeper self.old.keeper.now self.old.at) self.old.kind
+            (remaining_numbers self.old)
             → IfOk result
-            (Gives (keeper_register K.Keeper self.old.keeper.now self.old.at) self.old.kind (left_of self.old)) }
-        ensures leaves { Leaves (left_of self.old) result (left_of self.new) }
+            (IsNextRow (keeper_register K.Keeper self.old.keeper.now self.old.at) self.old.kind (remaining_numbers self.old)) }
+        ensures leaves { LeavesNumbers (remaining_numbers self.old) result (remaining_numbers self.new) }
         ensures asked { (self.new.kind ≡ self.old.kind) × (self.new.at ≡ self.old.at) }
         ensures was { WasHonest K.Keeper self.old.keeper.now self.new.keeper.now }
         ensures same { LeavesTimeline K.Keeper self.old.keeper.now self.new.keeper.now }
-        ensures closes { ClosesAt (left_of self.old) (K.closed self.old.keeper.now)
+        ensures closes { ClosesAt (remaining_numbers self.old) (K.closed self.old.keeper.now)
             (K.closed self.new.keeper.now) result }
         ensures same_reference { self.new.keeper.ghost_name ≡ self.old.keeper.ghost_name }
     {
@@ -94,7 +94,7 @@ impl<'a, K: Keeper> Seen<'a, K> {
             return Ok(None);
         }
         let number = self.numbers[self.given];
-        let made = row_of(self.alloc, self.keeper, self.kind, number, self.at);
+        let made = read_row(self.alloc, self.keeper, self.kind, number, self.at);
         self.given = match &made {
             Ok(Some(_)) => self.given + 1,
             _ => count,

@@ -4,7 +4,7 @@ use Rattle.land_core.specs.declared.change.Change.{Change}
 use Rattle.land_keep.specs.Keeping.{CanWrite}
 use Rattle.land_keep.specs.Machine.{written}
 use Rattle.land_keep.specs.Timeline.{IsSoundTimeline, Timeline, last_register}
-use Rattle.land_tables.specs.Timelines.{StandsFor}
+use Rattle.land_tables.specs.Timelines.{RepresentsTimeline}
 use Rattle.land_tables_history.specs.Changed.{changed}
 use Rattle.land_tables_history.specs.Intervals.{has_intervals}
 use Rattle.land_tables_history.specs.declared.history.History.{History}
@@ -12,18 +12,18 @@ use Rattle.land_tables_history.specs.declared.moment.Moment.{Moment}
 
 -- if versions represent a timeline, the versions with a permitted change and its moment represent the
 -- timeline with the change
-abbrev pub WritesStand : Type 0
-WritesStand =
+abbrev pub WritesRepresentTimelines : Type 0
+WritesRepresentTimelines =
     (moments : List Moment) (versions : History) (tl : Timeline) (change : Change) (stamp : ℤ)
-    → IsSoundTimeline tl → StandsFor moments versions tl → CanWrite tl change stamp
-    → StandsFor (record { stamp = stamp; next = change.next } ∷ moments)
+    → IsSoundTimeline tl → RepresentsTimeline moments versions tl → CanWrite tl change stamp
+    → RepresentsTimeline (record { stamp = stamp; next = change.next } ∷ moments)
     (changed (last_register tl).next change stamp versions) (written tl change stamp)
 
 -- if the intervals were valid, they are valid with the change and its moment
 abbrev pub WritesKeepIntervals : Type 0
 WritesKeepIntervals =
     (moments : List Moment) (versions : History) (tl : Timeline) (change : Change) (stamp : ℤ)
-    → IsSoundTimeline tl → StandsFor moments versions tl → CanWrite tl change stamp
+    → IsSoundTimeline tl → RepresentsTimeline moments versions tl → CanWrite tl change stamp
     → IsSoundTimeline (written tl change stamp) → has_intervals moments versions ≡ true
     → has_intervals (record { stamp = stamp; next = change.next } ∷ moments)
     (changed (last_register tl).next change stamp versions) ≡ true

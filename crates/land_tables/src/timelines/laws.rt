@@ -1,15 +1,15 @@
 //! Laws, each over the definitions only.
-ghost use Rattle.land_tables.specs.Timelines.Laws.{LastMomentIsTheLastStamp, LawfulVersionsStand};
+ghost use Rattle.land_tables.specs.Timelines.Laws.{LastMomentIsTheLastStamp, ValidHistoriesRepresentTimelines};
 ghost use Rattle.land_tables.specs.Timelines.Laws.{OrderDoesNotMatter, ReadingIsTheRegister};
-ghost use Rattle.land_tables.specs.Timelines.Laws.{VersionsStandForOne};
+ghost use Rattle.land_tables.specs.Timelines.Laws.{HistoriesRepresentOneTimeline};
 
-use land_core::laws::soundness_by_look_ups;
+use land_core::laws::soundness_by_number;
 
 /// States that versions represent at most one sound timeline, the one that they yield.
-pub fn versions_stand_for_one()
-    ensures { VersionsStandForOne }
+pub fn histories_represent_one_timeline()
+    ensures { HistoriesRepresentOneTimeline }
 {
-    soundness_by_look_ups();
+    soundness_by_number();
 }
 
 /// States that versions represent the same timeline in any order.
@@ -21,7 +21,7 @@ pub fn order_does_not_matter()
 pub fn reading_is_the_register()
     ensures { ReadingIsTheRegister }
 {
-    soundness_by_look_ups();
+    soundness_by_number();
 }
 
 /// States that the latest moment is the timeline's last stamp.
@@ -30,6 +30,6 @@ pub fn the_last_moment_is_the_last_stamp()
 {}
 
 /// States that the versions of a valid history represent a sound timeline, the one that they yield.
-pub fn lawful_versions_stand()
-    ensures { LawfulVersionsStand }
+pub fn valid_histories_represent_timelines()
+    ensures { ValidHistoriesRepresentTimelines }
 {}

@@ -4,13 +4,13 @@ use Rattle.std.specs.Prelude.{None, if◌then◌else◌}
 use Rattle.std.specs.Option.{option_map_or}
 use Rattle.std.specs.Ordering.{bool_cmp, int_cmp, nat_cmp, ordering_then}
 use Rattle.std.specs.declared.cmp.Ordering.{Ordering}
-use Rattle.land_tables_history.specs.declared.sweeps.cover.Piece.{Piece}
+use Rattle.land_tables_history.specs.declared.sweeps.cover.CoverageSpan.{CoverageSpan}
 use Rattle.land_tables_history.specs.declared.sweeps.cover.Reach.{Reach}
 
 -- by key, then by start; provided spans come before required ones
-abbrev pub piece_cmp : Piece → Piece → Ordering
-piece_cmp a b = ordering_then (nat_cmp a.first b.first) (ordering_then (nat_cmp a.second b.second)
-    (ordering_then (int_cmp a.since b.since) (ordering_then (bool_cmp a.asked b.asked)
+abbrev pub coverage_span_cmp : CoverageSpan → CoverageSpan → Ordering
+coverage_span_cmp a b = ordering_then (nat_cmp a.first b.first) (ordering_then (nat_cmp a.second b.second)
+    (ordering_then (int_cmp a.since b.since) (ordering_then (bool_cmp a.required b.required)
     (int_cmp a.until b.until))))
 
 -- the later of two moments
@@ -18,32 +18,32 @@ abbrev pub later : ℤ → ℤ → ℤ
 later a b = if int_lt a b then b else a
 
 -- a span has the key of the reach
-abbrev pub is_same_key : Reach → Piece → Bool
+abbrev pub is_same_key : Reach → CoverageSpan → Bool
 is_same_key s x = (s.first == x.first) && (s.second == x.second)
 
 -- a provided span after a gap starts a new reach
-abbrev pub first_reach : Piece → Reach
+abbrev pub first_reach : CoverageSpan → Reach
 first_reach x =
     record { first = x.first; second = x.second; since = x.since; reach = x.until; need = x.since }
 
 -- a required span must start within the reach
-abbrev pub asked : Reach → Piece → Option Reach
-asked s x =
+abbrev pub required : Reach → CoverageSpan → Option Reach
+required s x =
     if is_same_key s x && int_lt x.since s.reach then
     Some (record s { need = later s.need x.until })
     else None
 
 -- a provided span extends the reach, or starts a new one after a gap, if all required moments before the gap
 -- are provided
-abbrev pub offered : Reach → Piece → Option Reach
-offered s x =
+abbrev pub provided : Reach → CoverageSpan → Option Reach
+provided s x =
     if is_same_key s x && int_le x.since s.reach then Some (record s { reach = later s.reach x.until })
     else if int_le s.need s.reach then Some (first_reach x) else None
 
 -- the reach after one more span, if all required moments can still be provided
-abbrev pub step : Option Reach → Piece → Option Reach
-step None x = if x.asked then None else Some (first_reach x)
-step (Some s) x = if x.asked then asked s x else offered s x
+abbrev pub step : Option Reach → CoverageSpan → Option Reach
+step None x = if x.required then None else Some (first_reach x)
+step (Some s) x = if x.required then required s x else provided s x
 
 -- all required moments are within the reach
 abbrev pub ends_well : Option Reach → Bool
@@ -51,6 +51,6 @@ ends_well None = true
 ends_well (Some s) = int_le s.need s.reach
 
 -- all required moments of the remaining spans are provided, from this reach on
-abbrev pub covered_from : Option Reach → List Piece → Bool
+abbrev pub covered_from : Option Reach → List CoverageSpan → Bool
 covered_from reached [] = ends_well reached
 covered_from reached (x ∷ xs) = option_map_or (λ s. covered_from (Some s) xs) (step reached x) false

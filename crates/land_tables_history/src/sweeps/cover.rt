@@ -2,12 +2,12 @@
 ghost use Rattle.std.specs.List.{list_all};
 ghost use Rattle.std.specs.Prelude.{◌≡◌, ◌↔◌, true, None, int_lt};
 ghost use Rattle.land_tables_history.specs.Sweeps.Cover.{IsCovered};
-ghost use Rattle.land_tables_history.specs.Sweeps.CoverSteps.{asked, first_reach, covered_from, is_same_key};
-ghost use Rattle.land_tables_history.specs.Sweeps.CoverSteps.{later, offered, step};
+ghost use Rattle.land_tables_history.specs.Sweeps.CoverSteps.{required, first_reach, covered_from, is_same_key};
+ghost use Rattle.land_tables_history.specs.Sweeps.CoverSteps.{later, provided, step};
 
 /// A span of time in which a key is provided or required. The order of the fields is the order of the sweep.
 #[derive(Clone, Copy, Debug, PartialEq, Eq, PartialOrd, Ord)]
-pub struct Piece {
+pub struct CoverageSpan {
     /// The first number of the key.
     pub first: u64,
     /// The second number of the key.
@@ -16,7 +16,7 @@ pub struct Piece {
     pub since: i64,
     /// Whether the key is required; if not, it is provided. Of spans with the same start, provided ones come
     /// first.
-    pub asked: bool,
+    pub required: bool,
     /// The end, exclusive, in Unix milliseconds.
     pub until: i64,
 }
@@ -37,20 +37,20 @@ pub(crate) struct Reach {
 }
 
 /// Returns whether each key is provided at each moment at which it is required, in one sort and one pass.
-pub fn is_covered(pieces: &mut Vec<Piece>) -> bool
-    requires { list_all (λ x. int_lt x.since x.until) pieces.old.items ≡ true }
-    ensures { (result ≡ true) ↔ IsCovered pieces.old.items }
+pub fn is_covered(coverage_spans: &mut Vec<CoverageSpan>) -> bool
+    requires { list_all (λ x. int_lt x.since x.until) coverage_spans.old.items ≡ true }
+    ensures { (result ≡ true) ↔ IsCovered coverage_spans.old.items }
 {
-    pieces.sort_unstable();
-    is_covered_in_order(pieces.as_slice())
+    coverage_spans.sort_unstable();
+    is_covered_in_order(coverage_spans.as_slice())
 }
 
 /// Checks the same for sorted spans.
-fn is_covered_in_order(pieces: &[Piece]) -> bool
-    ensures { result ≡ covered_from None pieces.now }
+fn is_covered_in_order(coverage_spans: &[CoverageSpan]) -> bool
+    ensures { result ≡ covered_from None coverage_spans.now }
 {
     let mut reached = None;
-    let mut rest = pieces;
+    let mut rest = coverage_spans;
     while let [piece, later @ ..] = rest {
         match step(reached, piece) {
             Some(reach) => reached = Some(reach),
@@ -65,19 +65,19 @@ fn is_covered_in_order(pieces: &[Piece]) -> bool
 }
 
 /// Returns the reach after one more span, or `None` if a required moment is not provided.
-fn step(reached: Option<Reach>, piece: &Piece) -> Option<Reach>
+fn step(reached: Option<Reach>, piece: &CoverageSpan) -> Option<Reach>
     ensures { result ≡ step reached piece.now }
 {
     match reached {
-        None if piece.asked => None,
+        None if piece.required => None,
         None => Some(first_reach(piece)),
-        Some(reach) if piece.asked => asked(reach, piece),
-        Some(reach) => offered(reach, piece),
+        Some(reach) if piece.required => required(reach, piece),
+        Some(reach) => provided(reach, piece),
     }
 }
 
 /// Returns the reach of a provided span, the first one or one after a gap.
-fn first_reach(piece: &Piece) -> Reach
+fn first_reach(piece: &CoverageSpan) -> Reach
     ensures { result ≡ first_reach piece.now }
 {
     Reach {
@@ -90,8 +90,8 @@ fn first_reach(piece: &Piece) -> Reach
 }
 
 /// Extends the required time. The span must start within the provided time.
-fn asked(reach: Reach, piece: &Piece) -> Option<Reach>
-    ensures { result ≡ asked reach piece.now }
+fn required(reach: Reach, piece: &CoverageSpan) -> Option<Reach>
+    ensures { result ≡ required reach piece.now }
 {
     if is_same_key(reach, piece) && piece.since < reach.reach {
         Some(Reach {
@@ -105,8 +105,8 @@ fn asked(reach: Reach, piece: &Piece) -> Option<Reach>
 
 /// Extends the provided time, or starts a new one after a gap. All required time before the gap must have
 /// ended.
-fn offered(reach: Reach, piece: &Piece) -> Option<Reach>
-    ensures { result ≡ offered reach piece.now }
+fn provided(reach: Reach, piece: &CoverageSpan) -> Option<Reach>
+    ensures { result ≡ provided reach piece.now }
 {
     if is_same_key(reach, piece) && piece.since <= reach.reach {
         Some(Reach {
@@ -128,7 +128,7 @@ fn later(a: i64, b: i64) -> i64
 }
 
 /// Returns whether a span has the key of the reach.
-fn is_same_key(reach: Reach, piece: &Piece) -> bool
+fn is_same_key(reach: Reach, piece: &CoverageSpan) -> bool
     ensures { result ≡ is_same_key reach piece.now }
 {
     reach.first == piece.first && reach.second == piece.second

@@ -3,13 +3,13 @@ ghost use Rattle.std.specs.List.Sorted.{IsPermutation};
 ghost use Rattle.std.specs.Prelude.{◌≡◌, ◌↔◌, ◌++◌, Bool, List, [], true, IfOk, filter, map as map_list};
 ghost use Rattle.land_tables_history.specs.Sweeps.Sweep.{AreSound, is_at};
 ghost use Rattle.land_tables_history.specs.Sweeps.SweepSteps.{beginning, begun_by, end, is_begun_by, left_by};
-ghost use Rattle.land_tables_history.specs.Sweeps.SweepSteps.{sound_from, ticks_of};
+ghost use Rattle.land_tables_history.specs.Sweeps.SweepSteps.{sound_from, all_ticks};
 
 use std::alloc::{AllocError, Global};
 
 /// A value under a key, with a lifespan.
 #[derive(Clone, Copy, Debug, PartialEq, Eq, PartialOrd, Ord)]
-pub struct Lived<T> {
+pub struct LiveSpan<T> {
     /// The key.
     pub key: u64,
     /// The start of the lifespan, inclusive, in Unix milliseconds.
@@ -30,12 +30,12 @@ pub(crate) struct Tick {
 }
 
 /// Values that are sound or unsound together.
-pub trait Judged: Copy + Ord {
+pub trait SweepItem: Copy + Ord {
     /// Whether these values are sound together.
     ghost is_sound: { List Self → Bool };
 
     /// Returns whether these values are sound together. Returns an error only if it is out of memory.
-    fn judge(alloc: Global, there: &[Lived<Self>]) -> Result<bool, AllocError>
+    fn check_soundness(alloc: Global, there: &[LiveSpan<Self>]) -> Result<bool, AllocError>
         ensures { IfOk result (λ it. it ≡ is_sound (map_list (λ x. x.what) there.now)) };
 
     /// No values are sound together.
@@ -48,31 +48,31 @@ pub trait Judged: Copy + Ord {
 /// Returns whether the values that are current together under each key are sound, at each moment. Sorts them,
 /// and checks them only at starts and ends, each time only the values that are current then. Returns an error
 /// only if it is out of memory.
-pub fn are_sound<T: Judged>(alloc: Global, lived: &mut Vec<Lived<T>>) -> Result<bool, AllocError>
-    ensures { IfOk result (λ it. (it ≡ true) ↔ AreSound T.Judged.is_sound lived.old.items) }
+pub fn are_sound<T: SweepItem>(alloc: Global, live_spans: &mut Vec<LiveSpan<T>>) -> Result<bool, AllocError>
+    ensures { IfOk result (λ it. (it ≡ true) ↔ AreSound T.SweepItem.is_sound live_spans.old.items) }
 {
-    let mut ticks = ticks_of(alloc, lived.as_slice())?;
+    let mut ticks = all_ticks(alloc, live_spans.as_slice())?;
     ticks.sort_unstable();
-    lived.sort_unstable();
-    are_sound_in_order(alloc, lived.as_slice(), ticks.as_slice())
+    live_spans.sort_unstable();
+    are_sound_in_order(alloc, live_spans.as_slice(), ticks.as_slice())
 }
 
 /// Returns all starts and ends.
-fn ticks_of<T>(alloc: Global, lived: &[Lived<T>]) -> Result<Vec<Tick>, AllocError>
-    ensures { IfOk result (λ it. it.items ≡ ticks_of lived.now) }
+fn all_ticks<T>(alloc: Global, live_spans: &[LiveSpan<T>]) -> Result<Vec<Tick>, AllocError>
+    ensures { IfOk result (λ it. it.items ≡ all_ticks live_spans.now) }
 {
     let mut ticks = Vec::new(alloc);
-    for one in lived {
+    for one in live_spans {
         ticks.push(beginning(one))?;
     }
-    for one in lived {
+    for one in live_spans {
         ticks.push(end(one))?;
     }
     Ok(ticks)
 }
 
 /// Returns the start of a lifespan.
-fn beginning<T>(one: &Lived<T>) -> Tick
+fn beginning<T>(one: &LiveSpan<T>) -> Tick
     ensures { result ≡ beginning one.now }
 {
     Tick {
@@ -82,7 +82,7 @@ fn beginning<T>(one: &Lived<T>) -> Tick
 }
 
 /// Returns the end of a lifespan.
-fn end<T>(one: &Lived<T>) -> Tick
+fn end<T>(one: &LiveSpan<T>) -> Tick
     ensures { result ≡ end one.now }
 {
     Tick {
@@ -92,19 +92,19 @@ fn end<T>(one: &Lived<T>) -> Tick
 }
 
 /// Checks the same for sorted values, at sorted starts and ends.
-fn are_sound_in_order<T: Judged>(
+fn are_sound_in_order<T: SweepItem>(
     alloc: Global,
-    lived: &[Lived<T>],
+    live_spans: &[LiveSpan<T>],
     ticks: &[Tick],
 ) -> Result<bool, AllocError>
-    ensures { IfOk result (λ it. it ≡ sound_from T.Judged.is_sound [] lived.now ticks.now) }
+    ensures { IfOk result (λ it. it ≡ sound_from T.SweepItem.is_sound [] live_spans.now ticks.now) }
 {
     let mut there = Vec::new(alloc);
-    let mut later = lived;
+    let mut later = live_spans;
     for tick in ticks {
-        later = come(&mut there, later, *tick)?;
-        leave(&mut there, tick);
-        if !T::judge(alloc, there.as_slice())? {
+        later = add_started(&mut there, later, *tick)?;
+        remove_ended(&mut there, tick);
+        if !T::check_soundness(alloc, there.as_slice())? {
             return Ok(false);
         }
     }
@@ -112,11 +112,11 @@ fn are_sound_in_order<T: Judged>(
 }
 
 /// Adds the values that start by a tick, and returns those that start later.
-fn come<'a, T: Copy>(
-    there: &mut Vec<Lived<T>>,
-    later: &'a [Lived<T>],
+fn add_started<'a, T: Copy>(
+    there: &mut Vec<LiveSpan<T>>,
+    later: &'a [LiveSpan<T>],
     tick: Tick,
-) -> Result<&'a [Lived<T>], AllocError>
+) -> Result<&'a [LiveSpan<T>], AllocError>
     ensures { IfOk result (λ it. (there.new.items ≡ there.old.items ++ begun_by tick later.now)
         × (it.now ≡ left_by tick later.now)) }
 {
@@ -132,21 +132,21 @@ fn come<'a, T: Copy>(
 }
 
 /// Removes the values that are not current at a tick.
-fn leave<T: Copy>(there: &mut Vec<Lived<T>>, tick: &Tick)
+fn remove_ended<T: Copy>(there: &mut Vec<LiveSpan<T>>, tick: &Tick)
     ensures { there.new.items ≡ filter (is_at tick.now.key tick.now.at) there.old.items }
 {
     there.retain(|one| is_at(tick, one));
 }
 
 /// Returns whether a value has an earlier key than a tick, or has started.
-fn is_begun_by<T>(tick: Tick, one: &Lived<T>) -> bool
+fn is_begun_by<T>(tick: Tick, one: &LiveSpan<T>) -> bool
     ensures { result ≡ is_begun_by tick one.now }
 {
     one.key < tick.key || one.key == tick.key && one.since <= tick.at
 }
 
 /// Returns whether a value is current at a tick.
-fn is_at<T>(tick: &Tick, one: &Lived<T>) -> bool
+fn is_at<T>(tick: &Tick, one: &LiveSpan<T>) -> bool
     ensures { result ≡ is_at tick.now.key tick.now.at one.now }
 {
     one.key == tick.key && one.since <= tick.at && tick.at < one.until

@@ -9,7 +9,7 @@ use Rattle.land_core.specs.declared.parcel.ParcelRecord.{ParcelRecord}
 use Rattle.land_core.specs.declared.role.Role.{Role}
 use Rattle.land_core.specs.declared.rrr.RrrRecord.{RrrRecord}
 use Rattle.land_core.specs.declared.source.SourceKind.{SourceKind}
-use Rattle.land_tables_rows.specs.Cells.Closing.{AreTold, IsMoment, is_numbered}
+use Rattle.land_tables_rows.specs.Cells.Closable.{DecodesCells, IsMoment, is_numbered}
 use Rattle.land_tables_rows.specs.Mutation.Cells.{IsExactMutation, fits_mutation, mutation_row_of}
 use Rattle.land_tables_rows.specs.Mutation.Reading.{mutation_in}
 use Rattle.land_tables_rows.specs.Parcel.Cells.{IsExactParcel, fits_parcel, parcel_row_of}
@@ -23,7 +23,7 @@ use Rattle.land_tables_rows.specs.declared.reading.words.ClassWord.{ClassWord}
 use Rattle.land_tables_schema.specs.Rows.Mutation.{is_mutation, mutations}
 use Rattle.land_tables_schema.specs.Rows.Parcel.{is_parcel, parcels}
 use Rattle.land_tables_schema.specs.Rows.Rrr.{is_rrr, rrrs}
-use Rattle.land_tables_schema.specs.Rows.Versions.{begun, never}
+use Rattle.land_tables_schema.specs.Rows.Versions.{opened_version, never}
 use Rattle.sqlite_value.specs.declared.value.Value.TheVariants.{Text}
 
 -- the words of kinds, roles, classes and states decode to their values, and those of acts to themselves
@@ -39,28 +39,28 @@ pub record WordsAreRead : Type 0 where
 abbrev pub ParcelsReadBack : Type 0
 ParcelsReadBack =
     (e : ℕ × ParcelRecord) (since : ℤ) → fits_parcel e ≡ true → IsExactParcel e.1 → IsMoment since
-    → parcel_in (parcels.cells (begun (parcel_row_of e) since))
+    → parcel_in (parcels.cells (opened_version (parcel_row_of e) since))
     ≡ Ok (record { what = e; since = since; until = never })
 
 -- an entry within its limits likewise
 abbrev pub RrrsReadBack : Type 0
 RrrsReadBack = (e : ℕ × RrrRecord) (since : ℤ) → fits_rrr e ≡ true → IsExactRrr e.1 → IsMoment since
-    → rrr_in (rrrs.cells (begun (rrr_row_of e) since))
+    → rrr_in (rrrs.cells (opened_version (rrr_row_of e) since))
     ≡ Ok (record { what = e; since = since; until = never })
 
 -- a mutation within its limits likewise
 abbrev pub MutationsReadBack : Type 0
 MutationsReadBack =
     (e : ℕ × MutationRecord) (since : ℤ) → fits_mutation e ≡ true → IsExactMutation e.1 → IsMoment since
-    → mutation_in (mutations.cells (begun (mutation_row_of e) since))
+    → mutation_in (mutations.cells (opened_version (mutation_row_of e) since))
     ≡ Ok (record { what = e; since = since; until = never })
 
 -- the cells of parcels, of entries and of mutations determine them
-abbrev pub ParcelsAreTold : Type 0
-ParcelsAreTold = AreTold parcel_in 7 parcels is_parcel is_numbered
+abbrev pub ParcelCellsDecode : Type 0
+ParcelCellsDecode = DecodesCells parcel_in 7 parcels is_parcel is_numbered
 
-abbrev pub RrrsAreTold : Type 0
-RrrsAreTold = AreTold rrr_in 13 rrrs is_rrr is_numbered
+abbrev pub RrrCellsDecode : Type 0
+RrrCellsDecode = DecodesCells rrr_in 13 rrrs is_rrr is_numbered
 
-abbrev pub MutationsAreTold : Type 0
-MutationsAreTold = AreTold mutation_in 10 mutations is_mutation is_numbered
+abbrev pub MutationCellsDecode : Type 0
+MutationCellsDecode = DecodesCells mutation_in 10 mutations is_mutation is_numbered

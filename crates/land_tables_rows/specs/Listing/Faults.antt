@@ -9,12 +9,12 @@ use Rattle.sqlite.specs.declared.error.Error.TheVariants.{SqliteFailure}
 use Rattle.sqlite.specs.declared.error.ErrorCode.TheVariants as code
 
 -- the error is out of memory
-abbrev pub lacked_memory : Error → Bool
-lacked_memory (SqliteFailure code.OutOfMemory) = true
-lacked_memory _ = false
+abbrev pub is_out_of_memory : Error → Bool
+is_out_of_memory (SqliteFailure code.OutOfMemory) = true
+is_out_of_memory _ = false
 
 abbrev pub of_error : Error → ReadFault
-of_error error = if lacked_memory error then NoMemory else Store
+of_error error = if is_out_of_memory error then NoMemory else Store
 
 -- the fault of a value that cannot be decoded: out of memory, or not a valid value of its field
 abbrev pub of_wire : WireFault → ReadFault

@@ -16,20 +16,20 @@ use Rattle.land_tables_history.specs.declared.version.Version.{Version}
 use Rattle.land_tables_rows.specs.Edition.Reading.{edition_in}
 use Rattle.land_tables_rows.specs.Mandate.Reading.{mandate_in}
 use Rattle.land_tables_rows.specs.Member.Reading.{member_in}
-use Rattle.land_tables_rows.specs.Moment.Reading.{change_in}
+use Rattle.land_tables_rows.specs.Moment.Reading.{moment_row_in}
 use Rattle.land_tables_rows.specs.Mutation.Reading.{mutation_in}
 use Rattle.land_tables_rows.specs.Naming.Reading.{naming_in}
 use Rattle.land_tables_rows.specs.Parcel.Reading.{parcel_in}
 use Rattle.land_tables_rows.specs.Party.Reading.{party_in}
 use Rattle.land_tables_rows.specs.Reading.Readings.{each_of}
-use Rattle.land_tables_rows.specs.Role.Reading.{grant_in}
+use Rattle.land_tables_rows.specs.Role.Reading.{role_grant_in}
 use Rattle.land_tables_rows.specs.Rrr.Reading.{rrr_in}
 use Rattle.land_tables_rows.specs.Source.Reading.{source_in}
 use Rattle.land_tables_rows.specs.Unit.Reading.{unit_in}
 use Rattle.land_tables_rows.specs.declared.edition.reading.Edition.{Edition}
 use Rattle.land_tables_rows.specs.declared.listing.fault.ReadFault.{ReadFault}
 use Rattle.land_tables_rows.specs.declared.listing.fault.ReadFault.TheVariants.{Unreadable, NoMemory}
-use Rattle.land_tables_schema.specs.Rows.Looks.{columns_from}
+use Rattle.land_tables_schema.specs.Rows.ReadQueries.{columns_from}
 use Rattle.land_tables_schema.specs.Tables as table
 use Rattle.land_wire_json.specs.declared.bodies.wire_fault.WireFault.{WireFault}
 use Rattle.sqlite_schema.specs.declared.schema.Table.{Table}
@@ -58,7 +58,7 @@ abbrev pub parties : Listing (Version (ℕ × PartyRecord))
 parties = record { table = table.party; shown = columns_from 1 5; said = party_in }
 
 abbrev pub roles : Listing (Version Grant)
-roles = record { table = table.role; shown = columns_from 1 4; said = grant_in }
+roles = record { table = table.role; shown = columns_from 1 4; said = role_grant_in }
 
 abbrev pub members : Listing (Version GroupMember)
 members = record { table = table.member; shown = columns_from 1 6; said = member_in }
@@ -85,13 +85,13 @@ abbrev pub mandates : Listing (Version Mandate)
 mandates = record { table = table.mandate; shown = columns_from 1 4; said = mandate_in }
 
 abbrev pub moments : Listing Moment
-moments = record { table = table.moments; shown = λ r. column r 0 ∷ column r 2 ∷ []; said = change_in }
+moments = record { table = table.moments; shown = λ r. column r 0 ∷ column r 2 ∷ []; said = moment_row_in }
 
 abbrev pub editions : Listing Edition
 editions = record { table = table.edition; shown = λ r. column r 0 ∷ column r 2 ∷ []; said = edition_in }
 
 -- the tables of schema version 1 decode to this history, which has no mandates
-pub record SaysFirst (db : Trees) (history : History) : Type 0 where
+pub record DecodesHistoryV1 (db : Trees) (history : History) : Type 0 where
   pub parties : Says parties db history.parties
   pub roles : Says roles db history.roles
   pub members : Says members db history.members
@@ -104,7 +104,7 @@ pub record SaysFirst (db : Trees) (history : History) : Type 0 where
   pub none : history.mandates ≡ []
 
 -- all tables decode to this history
-pub record SaysHistory (db : Trees) (history : History) : Type 0 where
+pub record DecodesHistory (db : Trees) (history : History) : Type 0 where
   pub parties : Says parties db history.parties
   pub roles : Says roles db history.roles
   pub members : Says members db history.members
@@ -125,14 +125,14 @@ IsRead {X} said rows (Err fault) =
     fault ≢ NoMemory → (fault ≡ Unreadable) × ((xs : List X) → each_of said rows ≢ Ok xs)
 
 -- a fault `Unreadable` is returned only if the rows decode to no value
-abbrev pub CannotSay : {X : Type 0} → (X → Type 0) → ReadFault → Type 0
-CannotSay {X} Said fault = fault ≡ Unreadable → (x : X) → ¬ Said x
+abbrev pub UnreadableOnlyIfNone : {X : Type 0} → (X → Type 0) → ReadFault → Type 0
+UnreadableOnlyIfNone {X} Said fault = fault ≡ Unreadable → (x : X) → ¬ Said x
 
-abbrev pub IsUnreadable : {X : Type 0} → Listing X → Trees → ReadFault → Type 0
-IsUnreadable listing db = CannotSay (Says listing db)
+abbrev pub IsUnreadableTable : {X : Type 0} → Listing X → Trees → ReadFault → Type 0
+IsUnreadableTable listing db = UnreadableOnlyIfNone (Says listing db)
 
 -- a read returns a fault `Unreadable` only if no value has this relation to the tables
 abbrev pub FailsOnlyIfNone : {S X : Type 0} → Ghosts S → Result X ReadFault → (Trees → X → Type 0)
     → (old new : Held S) → Type 0
 FailsOnlyIfNone g r Said old new =
-    HasCleanDisk (state g new) → IfErr r (CannotSay (Said (state g old).now.trees))
+    HasCleanDisk (state g new) → IfErr r (UnreadableOnlyIfNone (Said (state g old).now.trees))

@@ -8,28 +8,28 @@ use Rattle.land_wire_json.specs.declared.bodies.wire_fault.WireFault.{WireFault}
 use Rattle.sqlite_trees.specs.Tree.{Trees}
 
 -- the values of all rows of the table if each decodes, else none
-abbrev pub or_nothing : {X : Type 0} → Result (List X) WireFault → List X
-or_nothing (Ok xs) = xs
-or_nothing (Err fault) = []
+abbrev pub ok_or_empty : {X : Type 0} → Result (List X) WireFault → List X
+ok_or_empty (Ok xs) = xs
+ok_or_empty (Err fault) = []
 
-abbrev pub told_by : {X : Type 0} → Listing X → Trees → List X
-told_by listing db = or_nothing (each_of listing.said (map listing.shown (db listing.table.tree)))
+abbrev pub decode_rows : {X : Type 0} → Listing X → Trees → List X
+decode_rows listing db = ok_or_empty (each_of listing.said (map listing.shown (db listing.table.tree)))
 
 -- the history in tables of schema version 1
-abbrev pub first_history_in : Trees → History
-first_history_in db = record {
-  parties = told_by parties db;
-  roles = told_by roles db;
-  members = told_by members db;
-  units = told_by units db;
-  parcels = told_by parcels db;
-  rrrs = told_by rrrs db;
-  sources = told_by sources db;
-  mutations = told_by mutations db;
-  namings = told_by namings db;
+abbrev pub decoded_history_v1 : Trees → History
+decoded_history_v1 db = record {
+  parties = decode_rows parties db;
+  roles = decode_rows roles db;
+  members = decode_rows members db;
+  units = decode_rows units db;
+  parcels = decode_rows parcels db;
+  rrrs = decode_rows rrrs db;
+  sources = decode_rows sources db;
+  mutations = decode_rows mutations db;
+  namings = decode_rows namings db;
   mandates = [];
 }
 
 -- the history in all tables
-abbrev pub history_in : Trees → History
-history_in db = record (first_history_in db) { mandates = told_by mandates db }
+abbrev pub decoded_history : Trees → History
+decoded_history db = record (decoded_history_v1 db) { mandates = decode_rows mandates db }

@@ -7,8 +7,8 @@ use Rattle.land_wire_json.specs.Bodies.WireFaults.{◌>>=◌}
 use Rattle.land_wire_json.specs.declared.bodies.wire_fault.WireFault.{WireFault}
 use Rattle.sqlite_value.specs.Order.{Row, column}
 
-unfoldable pub change_in : Row → Result Moment WireFault
-change_in row = do
+unfoldable pub moment_row_in : Row → Result Moment WireFault
+moment_row_in row = do
   stamp ← moment_in (column row 0)
   next ← next_in (column row 1)
   Ok (record { stamp = stamp; next = next })

@@ -10,7 +10,7 @@ use Rattle.land_core.specs.declared.content.Content.{Content}
 use Rattle.land_core.specs.declared.content.Content.TheVariants as content
 use Rattle.land_core.specs.declared.mutation.MutationRecord.{MutationRecord}
 use Rattle.land_core.specs.declared.subdivision.Part.{Part}
-use Rattle.land_tables_rows.specs.Cells.Texts.{is_kept}
+use Rattle.land_tables_rows.specs.Cells.Texts.{is_storable}
 use Rattle.land_tables_schema.specs.Rows.Mutation.{MutationRow}
 use Rattle.land_wire_json.specs.Bodies.Stored.{IsExactContent}
 use Rattle.land_wire_json.specs.Texts.Mutations.{content_text}
@@ -55,7 +55,7 @@ abbrev pub fits_mutation : ℕ × MutationRecord → Bool
 fits_mutation e =
     is_number e.0
     && (is_number e.1.lodger
-    && (is_kept is_reference e.1.reference && (is_number e.1.source && (is_moment e.1.lodged
+    && (is_storable is_reference e.1.reference && (is_number e.1.source && (is_moment e.1.lodged
     && (is_content_kept e.1.content && is_well_formed_content e.1.content)))))
 
 -- the share in its content is a fraction, and its outlines are valid rings

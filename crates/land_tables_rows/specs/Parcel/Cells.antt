@@ -5,7 +5,7 @@ use Rattle.land_core.specs.Texts.{is_label}
 use Rattle.land_core.specs.declared.parcel.ParcelRecord.{ParcelRecord}
 use Rattle.land_shape.specs.Outline.{IsOutline}
 use Rattle.land_shape.specs.Printed.{printed}
-use Rattle.land_tables_rows.specs.Cells.Texts.{is_kept}
+use Rattle.land_tables_rows.specs.Cells.Texts.{is_storable}
 use Rattle.land_tables_rows.specs.declared.parcel.cells.ParcelCells.{ParcelCells}
 use Rattle.land_tables_schema.specs.Rows.Parcel.{ParcelRow}
 
@@ -39,7 +39,7 @@ pub record FitsParcel (c : ParcelCells) : Type 0 where
 
 -- its numbers and its label are within their limits
 abbrev pub fits_parcel : ℕ × ParcelRecord → Bool
-fits_parcel e = is_number e.0 && (is_number e.1.unit && (is_kept is_label e.1.label && is_number e.1.source))
+fits_parcel e = is_number e.0 && (is_number e.1.unit && (is_storable is_label e.1.label && is_number e.1.source))
 
 -- its outline is a valid ring
 abbrev pub IsExactParcel : ParcelRecord → Type 0

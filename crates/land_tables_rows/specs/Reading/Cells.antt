@@ -8,8 +8,8 @@ use Rattle.land_core.specs.Numbers.{is_number}
 use Rattle.land_core.specs.Texts.{are_words, is_label, is_name, is_reference, is_title}
 use Rattle.land_fraction.specs.Answer.{fraction_of}
 use Rattle.land_fraction.specs.Ratio.{Ratio, over}
-use Rattle.land_wire_json.specs.Bodies.Fields.{limited}
-use Rattle.land_wire_json.specs.Bodies.Shares.{share_answer}
+use Rattle.land_wire_json.specs.Bodies.Fields.{require_text}
+use Rattle.land_wire_json.specs.Bodies.Shares.{share_or_fault}
 use Rattle.land_wire_json.specs.Bodies.WireFaults.{◌>>=◌}
 use Rattle.land_wire_json.specs.declared.bodies.wire_fault.WireFault.{WireFault}
 use Rattle.land_wire_json.specs.declared.bodies.wire_fault.WireFault.TheVariants as fault
@@ -93,24 +93,24 @@ unfoldable pub share_in : (numerator denominator : Value) → Result Ratio WireF
 share_in numerator denominator = do
   n ← natural_in numerator
   d ← natural_in denominator
-  share_answer (fraction_of (over n d))
+  share_or_fault (fraction_of (over n d))
 
 -- ---- strings; fault 133 if the length is out of range
 
 abbrev pub name_in : Value → Result (List ℕ) WireFault
-name_in cell = text_in cell >>= limited is_name
+name_in cell = text_in cell >>= require_text is_name
 
 abbrev pub title_in : Value → Result (List ℕ) WireFault
-title_in cell = text_in cell >>= limited is_title
+title_in cell = text_in cell >>= require_text is_title
 
 abbrev pub words_in : Value → Result (List ℕ) WireFault
-words_in cell = text_in cell >>= limited are_words
+words_in cell = text_in cell >>= require_text are_words
 
 abbrev pub label_in : Value → Result (List ℕ) WireFault
-label_in cell = text_in cell >>= limited is_label
+label_in cell = text_in cell >>= require_text is_label
 
 abbrev pub reference_in : Value → Result (List ℕ) WireFault
-reference_in cell = text_in cell >>= limited is_reference
+reference_in cell = text_in cell >>= require_text is_reference
 
 abbrev pub currency_in : Value → Result (List ℕ) WireFault
-currency_in cell = text_in cell >>= limited is_currency
+currency_in cell = text_in cell >>= require_text is_currency

@@ -13,7 +13,7 @@ use Rattle.land_tables_history.specs.declared.group_member.GroupMember.{GroupMem
 use Rattle.land_tables_history.specs.declared.history.History.{History}
 use Rattle.land_tables_history.specs.declared.moment.Moment.{Moment}
 use Rattle.land_tables_history.specs.declared.naming.Naming.{Naming}
-use Rattle.land_tables_rows.specs.Edition.Writing.{KeepsEditions}
+use Rattle.land_tables_rows.specs.Edition.Writing.{HoldsEditions}
 use Rattle.land_tables_rows.specs.Mandate.Writing.{fits_mandate}
 use Rattle.land_tables_rows.specs.Mutation.Cells.{fits_mutation}
 use Rattle.land_tables_rows.specs.Parcel.Cells.{fits_parcel}
@@ -38,30 +38,30 @@ abbrev pub fits_group : ℕ × Members → Bool
 fits_group g = is_number g.0 && list_all (λ e. is_number e.0) (map.entries g.1)
 
 -- parties, their roles, the members of groups, and mandates
-abbrev pub fits_people : Change → Bool
-fits_people change =
+abbrev pub fits_parties_and_roles : Change → Bool
+fits_parties_and_roles change =
     fits_kind (λ e. fits_party e.0 e.1) is_number change.put.parties change.ended.parties
     && (fits_kind fits_grant fits_grant change.put.roles change.ended.roles
     && (fits_kind fits_group is_number change.put.members change.ended.members
     && fits_kind fits_mandate fits_mandate change.put.mandates change.ended.mandates))
 
 -- units, parcels, and the entries of units
-abbrev pub fits_estates : Change → Bool
-fits_estates change =
+abbrev pub fits_units_and_entries : Change → Bool
+fits_units_and_entries change =
     fits_kind (λ e. fits_unit e.0 e.1) is_number change.put.units change.ended.units
     && (fits_kind fits_parcel is_number change.put.parcels change.ended.parcels
     && fits_kind fits_rrr is_number change.put.rrrs change.ended.rrrs)
 
 -- sources and mutations; a mutation that can be written refers only to units that can
-abbrev pub fits_papers : Change → Bool
-fits_papers change =
+abbrev pub fits_sources_and_mutations : Change → Bool
+fits_sources_and_mutations change =
     fits_kind (λ e. fits_source e.0 e.1) is_number change.put.sources change.ended.sources
     && fits_kind fits_mutation is_number change.put.mutations change.ended.mutations
 
 -- a change can be written if its records, its ended keys and its next number can
 abbrev pub fits_change : Change → Bool
 fits_change change =
-    fits_people change && (fits_estates change && (fits_papers change && is_next change.next))
+    fits_parties_and_roles change && (fits_units_and_entries change && (fits_sources_and_mutations change && is_next change.next))
 
 -- ---- lists
 
@@ -79,16 +79,16 @@ mutation_names mutation content = names_of mutation (named_units content)
 -- ---- the effect on the tables
 
 -- the tables hold the rewritten history; the moments and the edition are unchanged
-pub record Edits (edit : History → History) (old new : Database) : Type 0 where
+pub record RewritesTables (edit : History → History) (old new : Database) : Type 0 where
   pub schema : new.schema ≡ old.schema
   pub held : (moments : List Moment) (history : History) → HoldsHistory old.trees moments history
       → HoldsHistory new.trees moments (edit history)
-  pub editions : (editions : List Edition) → KeepsEditions old.trees editions
-      → KeepsEditions new.trees editions
+  pub editions : (editions : List Edition) → HoldsEditions old.trees editions
+      → HoldsEditions new.trees editions
 
 -- the parties, roles, members and mandates that a change inserts and ends
-abbrev pub changed_people : Change → (stamp : ℤ) → History → History
-changed_people change stamp h = record h {
+abbrev pub changed_parties_and_roles : Change → (stamp : ℤ) → History → History
+changed_parties_and_roles change stamp h = record h {
   parties = changed_part change.put.parties change.ended.parties stamp h.parties;
   roles = changed_roles change.put.roles change.ended.roles stamp h.roles;
   members = changed_members change.put.members change.ended.members stamp h.members;
@@ -96,16 +96,16 @@ changed_people change stamp h = record h {
 }
 
 -- the units, parcels and entries that it inserts and ends
-abbrev pub changed_estates : Change → (stamp : ℤ) → History → History
-changed_estates change stamp h = record h {
+abbrev pub changed_units_and_entries : Change → (stamp : ℤ) → History → History
+changed_units_and_entries change stamp h = record h {
   units = changed_part change.put.units change.ended.units stamp h.units;
   parcels = changed_part change.put.parcels change.ended.parcels stamp h.parcels;
   rrrs = changed_part change.put.rrrs change.ended.rrrs stamp h.rrrs;
 }
 
 -- the sources and mutations that it inserts and ends, and the units that new mutations refer to
-abbrev pub changed_papers : (next : ℕ) → Change → (stamp : ℤ) → History → History
-changed_papers next change stamp h = record h {
+abbrev pub changed_sources_and_mutations : (next : ℕ) → Change → (stamp : ℤ) → History → History
+changed_sources_and_mutations next change stamp h = record h {
   sources = changed_part change.put.sources change.ended.sources stamp h.sources;
   mutations = changed_part change.put.mutations change.ended.mutations stamp h.mutations;
   namings = changed_namings next change.put.mutations stamp h.namings;
@@ -113,10 +113,10 @@ changed_papers next change stamp h = record h {
 
 -- A change is written with its moment: the tables hold one moment more, with the new next number, and the
 -- changed history. A mutation is new if its number is at least the next number from before the change.
-pub record Records (change : Change) (next : ℕ) (stamp : ℤ) (old new : Database) : Type 0 where
+pub record WritesChange (change : Change) (next : ℕ) (stamp : ℤ) (old new : Database) : Type 0 where
   pub schema : new.schema ≡ old.schema
   pub held : (moments : List Moment) (history : History) → HoldsHistory old.trees moments history
       → HoldsHistory new.trees (record { stamp = stamp; next = change.next } ∷ moments)
       (changed next change stamp history)
-  pub editions : (editions : List Edition) → KeepsEditions old.trees editions
-      → KeepsEditions new.trees editions
+  pub editions : (editions : List Edition) → HoldsEditions old.trees editions
+      → HoldsEditions new.trees editions

@@ -8,8 +8,8 @@ use Rattle.land_wire_json.specs.Bodies.WireFaults.{◌>>=◌}
 use Rattle.land_wire_json.specs.declared.bodies.wire_fault.WireFault.{WireFault}
 use Rattle.sqlite_value.specs.Order.{Row, column}
 
-unfoldable pub grant_in : Row → Result (Version Grant) WireFault
-grant_in row = do
+unfoldable pub role_grant_in : Row → Result (Version Grant) WireFault
+role_grant_in row = do
   party ← number_in (column row 0)
   role ← role_in (column row 1)
   since ← moment_in (column row 2)

@@ -8,7 +8,7 @@ use Rattle.land_core.specs.declared.rrr.Class.{Class}
 use Rattle.land_core.specs.declared.rrr.Class.TheVariants.{Right, Restriction, Responsibility, Mortgage}
 use Rattle.land_core.specs.declared.rrr.RrrRecord.{RrrRecord}
 use Rattle.land_fraction.specs.Ratio.{IsFraction}
-use Rattle.land_tables_rows.specs.Cells.Texts.{is_kept}
+use Rattle.land_tables_rows.specs.Cells.Texts.{is_storable}
 use Rattle.land_tables_rows.specs.declared.reading.words.ClassWord.{ClassWord}
 use Rattle.land_tables_rows.specs.declared.reading.words.ClassWord.TheVariants as word
 use Rattle.land_tables_schema.specs.Rows.Rrr.{RrrRow}
@@ -51,10 +51,10 @@ rrr_row_of e = class_row e e.1.class
 -- the fields of the class are within their limits; a column can hold the rank
 abbrev pub fits_class : Class → Bool
 fits_class (Right type share) = true
-fits_class (Restriction words) = is_kept are_words words
-fits_class (Responsibility words) = is_kept are_words words
+fits_class (Restriction words) = is_storable are_words words
+fits_class (Responsibility words) = is_storable are_words words
 fits_class (Mortgage amount currency rank) =
-    is_amount amount && (is_kept is_currency currency && nat_lt rank (2 ^ 63))
+    is_amount amount && (is_storable is_currency currency && nat_lt rank (2 ^ 63))
 
 -- its numbers and the fields of its class are within their limits
 abbrev pub fits_rrr : ℕ × RrrRecord → Bool

@@ -4,7 +4,7 @@ use Rattle.land_tables_history.specs.declared.history.History.{History}
 use Rattle.land_tables_history.specs.declared.moment.Moment.{Moment}
 use Rattle.land_tables_rows.specs.Mandate.Writing.{mandates}
 use Rattle.land_tables_rows.specs.Member.Writing.{members}
-use Rattle.land_tables_rows.specs.Moment.Writing.{KeepsMoments}
+use Rattle.land_tables_rows.specs.Moment.Writing.{HoldsMoments}
 use Rattle.land_tables_rows.specs.Mutation.Writing.{mutations}
 use Rattle.land_tables_rows.specs.Naming.Writing.{namings}
 use Rattle.land_tables_rows.specs.Parcel.Writing.{parcels}
@@ -18,7 +18,7 @@ use Rattle.sqlite_trees.specs.Tree.{Trees}
 
 -- the tables hold exactly these moments and the versions of this history
 pub record HoldsHistory (db : Trees) (moments : List Moment) (history : History) : Type 0 where
-  pub the_moments : KeepsMoments db moments
+  pub the_moments : HoldsMoments db moments
   pub the_parties : Keeps parties db history.parties
   pub the_roles : Keeps roles db history.roles
   pub the_members : Keeps members db history.members
@@ -32,8 +32,8 @@ pub record HoldsHistory (db : Trees) (moments : List Moment) (history : History)
 
 -- the tables of schema version 1 hold exactly these moments and the versions of this history, which has no
 -- mandates
-pub record HoldsFirst (db : Trees) (moments : List Moment) (history : History) : Type 0 where
-  pub the_moments : KeepsMoments db moments
+pub record HoldsHistoryV1 (db : Trees) (moments : List Moment) (history : History) : Type 0 where
+  pub the_moments : HoldsMoments db moments
   pub the_parties : Keeps parties db history.parties
   pub the_roles : Keeps roles db history.roles
   pub the_members : Keeps members db history.members

@@ -1,9 +1,9 @@
 -- The content of a table of versions, by its decoded rows, and the effect of a statement on it.
 use Rattle.std.specs.Prelude.{◌≡◌, ◌≤ℤ◌, ℕ, ℤ, pos, Bool, List, ◌∷◌, map, Result, Ok, IsPermutation}
-use Rattle.land_tables_history.specs.Changed.{begun, closed}
+use Rattle.land_tables_history.specs.Changed.{opened_version, closed_version}
 use Rattle.land_tables_history.specs.declared.version.Version.{Version}
 use Rattle.land_tables_schema.specs.Rows.Forms.{AreNumbered, KeepsOthers}
-use Rattle.land_tables_schema.specs.Rows.Looks.{columns_from, numbered_cells}
+use Rattle.land_tables_schema.specs.Rows.ReadQueries.{columns_from, numbered_cells}
 use Rattle.land_wire_json.specs.declared.bodies.wire_fault.WireFault.{WireFault}
 use Rattle.sqlite.specs.Effect.{Database}
 use Rattle.sqlite_schema.specs.declared.schema.Table.{Table}
@@ -27,7 +27,7 @@ pub record Keeps {X : Type 0} (reading : Reading X) (db : Trees) (versions : Lis
 pub record Begins {X : Type 0} (reading : Reading X) (x : X) (since : ℤ) (old new : Database) : Type 0 where
   pub schema : new.schema ≡ old.schema
   pub held : (versions : List (Version X)) → Keeps reading old.trees versions
-      → Keeps reading new.trees (begun x since ∷ versions)
+      → Keeps reading new.trees (opened_version x since ∷ versions)
   pub kept : KeepsOthers reading.table old.trees new.trees
 
 -- the matching current versions end at a moment
@@ -35,19 +35,19 @@ pub record Closes {X : Type 0} (reading : Reading X) (meant : X → Bool) (stamp
     : Type 0 where
   pub schema : new.schema ≡ old.schema
   pub held : (versions : List (Version X)) → Keeps reading old.trees versions
-      → Keeps reading new.trees (map (closed meant stamp) versions)
+      → Keeps reading new.trees (map (closed_version meant stamp) versions)
   pub kept : KeepsOthers reading.table old.trees new.trees
 
 -- a table that is keyed by a number decodes to these values, one a row, in any order
-abbrev pub Tells : {X : Type 0} → Table → (Row → Result X WireFault) → Trees → List X → Type 0
-Tells table said db xs =
+abbrev pub HoldsNumbered : {X : Type 0} → Table → (Row → Result X WireFault) → Trees → List X → Type 0
+HoldsNumbered table said db xs =
     IsPermutation (map (λ r. said (numbered_cells r)) (db table.tree)) (map (λ x. Ok x) xs)
 
 -- one value more is held
-pub record TellsMore {X : Type 0} (table : Table) (said : Row → Result X WireFault) (x : X)
+pub record HoldsOneMore {X : Type 0} (table : Table) (said : Row → Result X WireFault) (x : X)
     (old new : Database) : Type 0 where
   pub schema : new.schema ≡ old.schema
-  pub told : (xs : List X) → Tells table said old.trees xs → Tells table said new.trees (x ∷ xs)
+  pub told : (xs : List X) → HoldsNumbered table said old.trees xs → HoldsNumbered table said new.trees (x ∷ xs)
   pub kept : KeepsOthers table old.trees new.trees
 
 -- a moment: Unix time in milliseconds, from 1970 to the end of 2099

@@ -3,10 +3,10 @@ use Rattle.std.specs.Prelude.{List, [], ◌∷◌}
 use Rattle.land_tables_history.specs.declared.history.History.{History}
 use Rattle.land_tables_history.specs.declared.moment.Moment.{Moment}
 use Rattle.land_tables_history.specs.declared.version.Version.{Version}
-use Rattle.land_tables_rows.specs.Edition.Writing.{KeepsEditions, current_edition, first_edition}
+use Rattle.land_tables_rows.specs.Edition.Writing.{HoldsEditions, v2_edition, v1_edition}
 use Rattle.land_tables_rows.specs.Mandate.Writing as mandate
 use Rattle.land_tables_rows.specs.Member.Writing as member
-use Rattle.land_tables_rows.specs.Moment.Writing.{KeepsMoments}
+use Rattle.land_tables_rows.specs.Moment.Writing.{HoldsMoments}
 use Rattle.land_tables_rows.specs.Mutation.Writing as mutation
 use Rattle.land_tables_rows.specs.Naming.Writing as naming
 use Rattle.land_tables_rows.specs.Parcel.Writing as parcel
@@ -15,12 +15,12 @@ use Rattle.land_tables_rows.specs.Role.Writing as role
 use Rattle.land_tables_rows.specs.Rrr.Writing as rrr
 use Rattle.land_tables_rows.specs.Source.Writing as source
 use Rattle.land_tables_rows.specs.Unit.Writing as unit
-use Rattle.land_tables_rows.specs.Writing.History.{HoldsFirst, HoldsHistory}
+use Rattle.land_tables_rows.specs.Writing.History.{HoldsHistoryV1, HoldsHistory}
 use Rattle.land_tables_rows.specs.Writing.Holding.{Keeps, Reading}
 use Rattle.land_tables_rows.specs.Writing.NewHistory.{new_history, new_moments}
 use Rattle.land_tables_schema.specs.Rows.Held.{HoldsRows, new_rows}
 use Rattle.land_tables_schema.specs.Rows.Forms.{KeepsOthers}
-use Rattle.land_tables_schema.specs.Rows.Raising.{Raises}
+use Rattle.land_tables_schema.specs.Rows.SchemaMigration.{Migrates}
 use Rattle.land_tables_schema.specs.Tables as table
 use Rattle.sqlite.specs.Effect.{Database}
 use Rattle.sqlite_trees.specs.Tree.{Trees}
@@ -34,9 +34,9 @@ HoldsWith {X} reading with =
     → HoldsHistory new moments (with versions history)
 
 -- this holds for each table; if only moments are written, the history is unchanged
-pub record ChangesAreHeld : Type 0 where
+pub record TableChangesKeepHistory : Type 0 where
   pub moments : (old new : Trees) (moments others : List Moment) (history : History)
-      → HoldsHistory old moments history → KeepsOthers table.moments old new → KeepsMoments new others
+      → HoldsHistory old moments history → KeepsOthers table.moments old new → HoldsMoments new others
       → HoldsHistory new others history
   pub parties : HoldsWith party.parties (λ vs h. record h { parties = vs })
   pub roles : HoldsWith role.roles (λ vs h. record h { roles = vs })
@@ -52,18 +52,18 @@ pub record ChangesAreHeld : Type 0 where
 -- the rows of a new register decode to its history and to edition 2
 pub record NewRowsAreRead (db : Trees) : Type 0 where
   pub history : HoldsHistory db new_moments new_history
-  pub editions : KeepsEditions db (current_edition ∷ [])
+  pub editions : HoldsEditions db (v2_edition ∷ [])
 
-abbrev pub NewRegistersAreHeld : Type 0
-NewRegistersAreHeld = (db : Trees) → HoldsRows db new_rows → NewRowsAreRead db
+abbrev pub NewRowsHoldNewRegister : Type 0
+NewRowsHoldNewRegister = (db : Trees) → HoldsRows db new_rows → NewRowsAreRead db
 
 -- the migrated tables hold the same history and edition 2
-pub record RaisedAreRead (db : Trees) (moments : List Moment) (held : History) : Type 0 where
+pub record MigratedRowsAreRead (db : Trees) (moments : List Moment) (held : History) : Type 0 where
   pub history : HoldsHistory db moments held
-  pub editions : KeepsEditions db (current_edition ∷ [])
+  pub editions : HoldsEditions db (v2_edition ∷ [])
 
 -- migrating tables of schema version 1 preserves their history
-abbrev pub RaisedRegistersAreHeld : Type 0
-RaisedRegistersAreHeld = (old new : Database) (moments : List Moment) (history : History)
-    → Raises old new → HoldsFirst old.trees moments history → KeepsEditions old.trees (first_edition ∷ [])
-    → RaisedAreRead new.trees moments history
+abbrev pub MigratedRegistersAreHeld : Type 0
+MigratedRegistersAreHeld = (old new : Database) (moments : List Moment) (history : History)
+    → Migrates old new → HoldsHistoryV1 old.trees moments history → HoldsEditions old.trees (v1_edition ∷ [])
+    → MigratedRowsAreRead new.trees moments history

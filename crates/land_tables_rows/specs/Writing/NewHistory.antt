@@ -3,7 +3,7 @@ use Rattle.std.specs.Prelude.{pos, codes, List, [], ◌∷◌}
 use Rattle.land_core.specs.Grants.{grant_of}
 use Rattle.land_core.specs.declared.kind.PartyKind.TheVariants.{NonNaturalPerson}
 use Rattle.land_core.specs.declared.role.Role.TheVariants.{StateAdministrator}
-use Rattle.land_tables_history.specs.Changed.{begun}
+use Rattle.land_tables_history.specs.Changed.{opened_version}
 use Rattle.land_tables_history.specs.declared.history.History.{History}
 use Rattle.land_tables_history.specs.declared.moment.Moment.{Moment}
 
@@ -14,8 +14,8 @@ new_moments = record { stamp = pos 0; next = 2 } ∷ []
 -- party 1, the Land Office, is state administrator from that moment on
 abbrev pub new_history : History
 new_history = record {
-  parties = begun (1, record { kind = NonNaturalPerson; name = codes "Land Office" }) (pos 0) ∷ [];
-  roles = begun (grant_of 1 StateAdministrator) (pos 0) ∷ [];
+  parties = opened_version (1, record { kind = NonNaturalPerson; name = codes "Land Office" }) (pos 0) ∷ [];
+  roles = opened_version (grant_of 1 StateAdministrator) (pos 0) ∷ [];
   members = [];
   units = [];
   parcels = [];

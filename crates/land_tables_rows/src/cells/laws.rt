@@ -1,6 +1,6 @@
 //! Laws, each over the definitions only.
-ghost use Rattle.land_tables_rows.specs.Cells.Laws.{MutationsAreTold, MutationsReadBack, ParcelsAreTold};
-ghost use Rattle.land_tables_rows.specs.Cells.Laws.{ParcelsReadBack, RrrsAreTold, RrrsReadBack, WordsAreRead};
+ghost use Rattle.land_tables_rows.specs.Cells.Laws.{MutationCellsDecode, MutationsReadBack, ParcelCellsDecode};
+ghost use Rattle.land_tables_rows.specs.Cells.Laws.{ParcelsReadBack, RrrCellsDecode, RrrsReadBack, WordsAreRead};
 
 /// States that the words of kinds, roles and states decode to their values.
 pub fn words_are_read()
@@ -11,7 +11,7 @@ pub fn words_are_read()
 pub fn parcels_read_back()
     ensures { ParcelsReadBack }
 {
-    land_wire_json::bodies::laws::outlines_have_their_answers();
+    land_wire_json::bodies::laws::outlines_are_answered();
     land_fraction::laws::fractions_stay();
     land_shape::laws::printed_rings();
     land_shape::laws::one_answer();
@@ -19,8 +19,8 @@ pub fn parcels_read_back()
 
 /// States that decoded parcels were written as their cells, and that closing changes the value as it changes
 /// the row.
-pub fn parcels_are_told()
-    ensures { ParcelsAreTold }
+pub fn parcel_cells_decode()
+    ensures { ParcelCellsDecode }
 {}
 
 /// States that an entry within its limits decodes from its cells: a right, a restriction, a responsibility or
@@ -33,19 +33,19 @@ pub fn rrrs_read_back()
 
 /// States that decoded entries were written as their cells, and that closing changes the value as it changes
 /// the row.
-pub fn rrrs_are_told()
-    ensures { RrrsAreTold }
+pub fn rrr_cells_decode()
+    ensures { RrrCellsDecode }
 {}
 
 /// States that a mutation within its limits decodes from its cells.
 pub fn mutations_read_back()
     ensures { MutationsReadBack }
 {
-    land_wire_json::bodies::laws::contents_are_read();
+    land_wire_json::bodies::laws::contents_round_trip();
 }
 
 /// States that decoded mutations were written as their cells, and that closing changes the value as it
 /// changes the row.
-pub fn mutations_are_told()
-    ensures { MutationsAreTold }
+pub fn mutation_cells_decode()
+    ensures { MutationCellsDecode }
 {}

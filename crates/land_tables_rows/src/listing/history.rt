@@ -1,7 +1,7 @@
 //! Reads all versions in the tables.
 ghost use Rattle.land_tables_rows.specs.Effects.{ReadsTables};
-ghost use Rattle.land_tables_rows.specs.Listing.Groups.{SaysHoldings, SaysPapers, SaysPersons};
-ghost use Rattle.land_tables_rows.specs.Listing.Reading.{FailsOnlyIfNone, SaysFirst, SaysHistory};
+ghost use Rattle.land_tables_rows.specs.Listing.Groups.{DecodesUnits, DecodesSources, DecodesParties};
+ghost use Rattle.land_tables_rows.specs.Listing.Reading.{FailsOnlyIfNone, DecodesHistoryV1, DecodesHistory};
 ghost use Rattle.land_tables_schema.specs.Connections.{HasRegisterTables, HasV1Tables, LeavesAutocommit};
 
 use crate::listing::fault::ReadFault;
@@ -23,7 +23,7 @@ use std::alloc::Global;
 
 /// Versions of parties, roles and members.
 #[derive(Debug, Drop)]
-struct Persons {
+struct PartyVersions {
     parties: Sequence<Version<(u64, PartyRecord)>>,
     roles: Sequence<Version<Grant>>,
     members: Sequence<Version<GroupMember>>,
@@ -31,7 +31,7 @@ struct Persons {
 
 /// Versions of units, parcels and entries.
 #[derive(Debug, Drop)]
-struct Holdings {
+struct UnitVersions {
     units: Sequence<Version<(u64, UnitRecord)>>,
     parcels: Sequence<Version<(u64, ParcelRecord)>>,
     rrrs: Sequence<Version<(u64, RrrRecord)>>,
@@ -39,54 +39,54 @@ struct Holdings {
 
 /// Versions of sources, of mutations, and of their links to units.
 #[derive(Debug, Drop)]
-struct Papers {
+struct SourceVersions {
     sources: Sequence<Version<(u64, SourceRecord)>>,
     mutations: Sequence<Version<(u64, MutationRecord)>>,
     namings: Sequence<Version<Naming>>,
 }
 
-fn all_persons<S: Alter>(alloc: Global, conn: &mut Connection<S>) -> Result<Persons, ReadFault>
+fn read_parties_and_roles<S: Alter>(alloc: Global, conn: &mut Connection<S>) -> Result<PartyVersions, ReadFault>
     requires { HasV1Tables S.Store conn.old }
-    ensures look { ReadsTables S.Store result SaysPersons conn.old conn.new }
-    ensures unreadable { FailsOnlyIfNone S.Store result SaysPersons conn.old conn.new }
-    ensures mode { LeavesAutocommit conn.old conn.new }
+    ensures reads_only { ReadsTables S.Store result DecodesParties conn.old conn.new }
+    ensures unreadable { FailsOnlyIfNone S.Store result DecodesParties conn.old conn.new }
+    ensures autocommit { LeavesAutocommit conn.old conn.new }
 {
     let parties = read_table(alloc, conn)?;
     let roles = read_table(alloc, conn)?;
     let members = read_table(alloc, conn)?;
-    Ok(Persons {
+    Ok(PartyVersions {
         parties,
         roles,
         members,
     })
 }
 
-fn all_holdings<S: Alter>(alloc: Global, conn: &mut Connection<S>) -> Result<Holdings, ReadFault>
+fn read_units_and_entries<S: Alter>(alloc: Global, conn: &mut Connection<S>) -> Result<UnitVersions, ReadFault>
     requires { HasV1Tables S.Store conn.old }
-    ensures look { ReadsTables S.Store result SaysHoldings conn.old conn.new }
-    ensures unreadable { FailsOnlyIfNone S.Store result SaysHoldings conn.old conn.new }
-    ensures mode { LeavesAutocommit conn.old conn.new }
+    ensures reads_only { ReadsTables S.Store result DecodesUnits conn.old conn.new }
+    ensures unreadable { FailsOnlyIfNone S.Store result DecodesUnits conn.old conn.new }
+    ensures autocommit { LeavesAutocommit conn.old conn.new }
 {
     let units = read_table(alloc, conn)?;
     let parcels = read_table(alloc, conn)?;
     let rrrs = read_table(alloc, conn)?;
-    Ok(Holdings {
+    Ok(UnitVersions {
         units,
         parcels,
         rrrs,
     })
 }
 
-fn all_papers<S: Alter>(alloc: Global, conn: &mut Connection<S>) -> Result<Papers, ReadFault>
+fn read_sources_and_mutations<S: Alter>(alloc: Global, conn: &mut Connection<S>) -> Result<SourceVersions, ReadFault>
     requires { HasV1Tables S.Store conn.old }
-    ensures look { ReadsTables S.Store result SaysPapers conn.old conn.new }
-    ensures unreadable { FailsOnlyIfNone S.Store result SaysPapers conn.old conn.new }
-    ensures mode { LeavesAutocommit conn.old conn.new }
+    ensures reads_only { ReadsTables S.Store result DecodesSources conn.old conn.new }
+    ensures unreadable { FailsOnlyIfNone S.Store result DecodesSources conn.old conn.new }
+    ensures autocommit { LeavesAutocommit conn.old conn.new }
 {
     let sources = read_table(alloc, conn)?;
     let mutations = read_table(alloc, conn)?;
     let namings = read_table(alloc, conn)?;
-    Ok(Papers {
+    Ok(SourceVersions {
         sources,
         mutations,
         namings,
@@ -95,18 +95,18 @@ fn all_papers<S: Alter>(alloc: Global, conn: &mut Connection<S>) -> Result<Paper
 
 /// Reads all versions in the tables of schema version 1, of each kind in unspecified order, without mandates.
 /// Errors: `Unreadable` (520) if a value is not a valid value of its field; `NoMemory` (501); `Store` (502).
-pub fn first_history<S: Alter>(
+pub fn read_history_v1<S: Alter>(
     alloc: Global,
     conn: &mut Connection<S>,
 ) -> Result<History, ReadFault>
     requires { HasV1Tables S.Store conn.old }
-    ensures look { ReadsTables S.Store result SaysFirst conn.old conn.new }
-    ensures unreadable { FailsOnlyIfNone S.Store result SaysFirst conn.old conn.new }
-    ensures mode { LeavesAutocommit conn.old conn.new }
+    ensures reads_only { ReadsTables S.Store result DecodesHistoryV1 conn.old conn.new }
+    ensures unreadable { FailsOnlyIfNone S.Store result DecodesHistoryV1 conn.old conn.new }
+    ensures autocommit { LeavesAutocommit conn.old conn.new }
 {
-    let persons = all_persons(alloc, conn)?;
-    let holdings = all_holdings(alloc, conn)?;
-    let papers = all_papers(alloc, conn)?;
+    let persons = read_parties_and_roles(alloc, conn)?;
+    let holdings = read_units_and_entries(alloc, conn)?;
+    let sources_and_mutations = read_sources_and_mutations(alloc, conn)?;
     Ok(History {
         parties: persons.parties,
         roles: persons.roles,
@@ -114,9 +114,9 @@ pub fn first_history<S: Alter>(
         units: holdings.units,
         parcels: holdings.parcels,
         rrrs: holdings.rrrs,
-        sources: papers.sources,
-        mutations: papers.mutations,
-        namings: papers.namings,
+        sources: sources_and_mutations.sources,
+        mutations: sources_and_mutations.mutations,
+        namings: sources_and_mutations.namings,
         mandates: Sequence::new(alloc),
     })
 }
@@ -125,11 +125,11 @@ pub fn first_history<S: Alter>(
 /// valid value of its field; `NoMemory` (501); `Store` (502).
 pub fn history<S: Alter>(alloc: Global, conn: &mut Connection<S>) -> Result<History, ReadFault>
     requires { HasRegisterTables S.Store conn.old }
-    ensures look { ReadsTables S.Store result SaysHistory conn.old conn.new }
-    ensures unreadable { FailsOnlyIfNone S.Store result SaysHistory conn.old conn.new }
-    ensures mode { LeavesAutocommit conn.old conn.new }
+    ensures reads_only { ReadsTables S.Store result DecodesHistory conn.old conn.new }
+    ensures unreadable { FailsOnlyIfNone S.Store result DecodesHistory conn.old conn.new }
+    ensures autocommit { LeavesAutocommit conn.old conn.new }
 {
-    let mut history = first_history(alloc, conn)?;
+    let mut history = read_history_v1(alloc, conn)?;
     let mandates = read_table(alloc, conn)?;
     history.mandates = mandates;
     Ok(history)

@@ -21,9 +21,9 @@ pub trait Listed: FromRow {
     /// Reads all rows of the table, in unspecified order.
     fn all<S: Alter>(conn: &mut Connection<S>) -> Result<Vec<Row>, Error>
         requires { HasCleanDisk (state S.Store conn.old) → has (state S.Store conn.old).now.schema }
-        ensures look { ReadsTables S.Store result
+        ensures reads_only { ReadsTables S.Store result
             (λ db rows. AreListed listing db rows.items) conn.old conn.new }
-        ensures mode { LeavesAutocommit conn.old conn.new };
+        ensures autocommit { LeavesAutocommit conn.old conn.new };
 
     /// The row decodes as `FromRow` decodes it.
     ghost says: { listing.said ≡ Self.said };

@@ -28,9 +28,9 @@ pub fn read_table<S: Alter, X: Listed>(
     conn: &mut Connection<S>,
 ) -> Result<Sequence<X>, ReadFault>
     requires { HasCleanDisk (state S.Store conn.old) → X.has (state S.Store conn.old).now.schema }
-    ensures look { ReadsTables S.Store result (Says X.listing) conn.old conn.new }
+    ensures reads_only { ReadsTables S.Store result (Says X.listing) conn.old conn.new }
     ensures unreadable { FailsOnlyIfNone S.Store result (Says X.listing) conn.old conn.new }
-    ensures mode { LeavesAutocommit conn.old conn.new }
+    ensures autocommit { LeavesAutocommit conn.old conn.new }
 {
     let rows = X::all(conn)?;
     read(alloc, rows.as_slice())
@@ -42,9 +42,9 @@ pub fn moments<S: Alter>(
     conn: &mut Connection<S>,
 ) -> Result<Sequence<Moment>, ReadFault>
     requires { HasV1Tables S.Store conn.old }
-    ensures look { ReadsTables S.Store result (Says moments) conn.old conn.new }
+    ensures reads_only { ReadsTables S.Store result (Says moments) conn.old conn.new }
     ensures unreadable { FailsOnlyIfNone S.Store result (Says moments) conn.old conn.new }
-    ensures mode { LeavesAutocommit conn.old conn.new }
+    ensures autocommit { LeavesAutocommit conn.old conn.new }
 {
     read_table(alloc, conn)
 }
@@ -55,9 +55,9 @@ pub fn editions<S: Alter>(
     conn: &mut Connection<S>,
 ) -> Result<Sequence<Edition>, ReadFault>
     requires { HasV1Tables S.Store conn.old }
-    ensures look { ReadsTables S.Store result (Says editions) conn.old conn.new }
+    ensures reads_only { ReadsTables S.Store result (Says editions) conn.old conn.new }
     ensures unreadable { FailsOnlyIfNone S.Store result (Says editions) conn.old conn.new }
-    ensures mode { LeavesAutocommit conn.old conn.new }
+    ensures autocommit { LeavesAutocommit conn.old conn.new }
 {
     read_table(alloc, conn)
 }

@@ -1,7 +1,7 @@
 //! The table of each kind of record.
 ghost use Rattle.std.specs.Prelude.{refl};
 ghost use Rattle.land_tables_rows.specs.Listing.Reading as listing;
-ghost use Rattle.land_tables_schema.specs.Land.{HasFirstTables, IsLand};
+ghost use Rattle.land_tables_schema.specs.Schemas.{ContainsSchemaV1, IsSchemaV2};
 
 use crate::edition::reading::Edition;
 use crate::listing::listed::Listed;
@@ -25,7 +25,7 @@ use sqlite::{Alter, Connection, Error, Row};
 impl Listed for Version<(u64, PartyRecord)> {
     ghost listing = { listing.parties };
 
-    ghost has = { HasFirstTables };
+    ghost has = { ContainsSchemaV1 };
 
     fn all<S: Alter>(conn: &mut Connection<S>) -> Result<Vec<Row>, Error> {
         party::all(conn)
@@ -37,7 +37,7 @@ impl Listed for Version<(u64, PartyRecord)> {
 impl Listed for Version<Grant> {
     ghost listing = { listing.roles };
 
-    ghost has = { HasFirstTables };
+    ghost has = { ContainsSchemaV1 };
 
     fn all<S: Alter>(conn: &mut Connection<S>) -> Result<Vec<Row>, Error> {
         role::all(conn)
@@ -49,7 +49,7 @@ impl Listed for Version<Grant> {
 impl Listed for Version<GroupMember> {
     ghost listing = { listing.members };
 
-    ghost has = { HasFirstTables };
+    ghost has = { ContainsSchemaV1 };
 
     fn all<S: Alter>(conn: &mut Connection<S>) -> Result<Vec<Row>, Error> {
         member::all(conn)
@@ -61,7 +61,7 @@ impl Listed for Version<GroupMember> {
 impl Listed for Version<(u64, UnitRecord)> {
     ghost listing = { listing.units };
 
-    ghost has = { HasFirstTables };
+    ghost has = { ContainsSchemaV1 };
 
     fn all<S: Alter>(conn: &mut Connection<S>) -> Result<Vec<Row>, Error> {
         unit::all(conn)
@@ -73,7 +73,7 @@ impl Listed for Version<(u64, UnitRecord)> {
 impl Listed for Version<(u64, ParcelRecord)> {
     ghost listing = { listing.parcels };
 
-    ghost has = { HasFirstTables };
+    ghost has = { ContainsSchemaV1 };
 
     fn all<S: Alter>(conn: &mut Connection<S>) -> Result<Vec<Row>, Error> {
         parcel::all(conn)
@@ -85,7 +85,7 @@ impl Listed for Version<(u64, ParcelRecord)> {
 impl Listed for Version<(u64, RrrRecord)> {
     ghost listing = { listing.rrrs };
 
-    ghost has = { HasFirstTables };
+    ghost has = { ContainsSchemaV1 };
 
     fn all<S: Alter>(conn: &mut Connection<S>) -> Result<Vec<Row>, Error> {
         rrr::all(conn)
@@ -97,7 +97,7 @@ impl Listed for Version<(u64, RrrRecord)> {
 impl Listed for Version<(u64, SourceRecord)> {
     ghost listing = { listing.sources };
 
-    ghost has = { HasFirstTables };
+    ghost has = { ContainsSchemaV1 };
 
     fn all<S: Alter>(conn: &mut Connection<S>) -> Result<Vec<Row>, Error> {
         source::all(conn)
@@ -109,7 +109,7 @@ impl Listed for Version<(u64, SourceRecord)> {
 impl Listed for Version<(u64, MutationRecord)> {
     ghost listing = { listing.mutations };
 
-    ghost has = { HasFirstTables };
+    ghost has = { ContainsSchemaV1 };
 
     fn all<S: Alter>(conn: &mut Connection<S>) -> Result<Vec<Row>, Error> {
         mutation::all(conn)
@@ -121,7 +121,7 @@ impl Listed for Version<(u64, MutationRecord)> {
 impl Listed for Version<Naming> {
     ghost listing = { listing.namings };
 
-    ghost has = { HasFirstTables };
+    ghost has = { ContainsSchemaV1 };
 
     fn all<S: Alter>(conn: &mut Connection<S>) -> Result<Vec<Row>, Error> {
         names::all(conn)
@@ -133,7 +133,7 @@ impl Listed for Version<Naming> {
 impl Listed for Version<Mandate> {
     ghost listing = { listing.mandates };
 
-    ghost has = { IsLand };
+    ghost has = { IsSchemaV2 };
 
     fn all<S: Alter>(conn: &mut Connection<S>) -> Result<Vec<Row>, Error> {
         mandate::all(conn)
@@ -145,7 +145,7 @@ impl Listed for Version<Mandate> {
 impl Listed for Moment {
     ghost listing = { listing.moments };
 
-    ghost has = { HasFirstTables };
+    ghost has = { ContainsSchemaV1 };
 
     fn all<S: Alter>(conn: &mut Connection<S>) -> Result<Vec<Row>, Error> {
         moments::all(conn)
@@ -157,7 +157,7 @@ impl Listed for Moment {
 impl Listed for Edition {
     ghost listing = { listing.editions };
 
-    ghost has = { HasFirstTables };
+    ghost has = { ContainsSchemaV1 };
 
     fn all<S: Alter>(conn: &mut Connection<S>) -> Result<Vec<Row>, Error> {
         edition::all(conn)

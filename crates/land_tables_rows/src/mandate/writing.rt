@@ -26,7 +26,7 @@ pub fn begin<S: Alter>(
 ) -> Result<usize, Error>
     requires fits { IsTrue (fits_mandate mandate) }
     requires moment { IsMoment since }
-    requires land { HasRegisterTables S.Store tx.old.conn.now }
+    requires has_tables { HasRegisterTables S.Store tx.old.conn.now }
     ensures same_reference { SameReference tx.old tx.new }
     ensures step { Performs S.Store result (Begins mandates mandate since) tx.old tx.new }
 {
@@ -42,7 +42,7 @@ pub fn close<S: Alter>(
     requires principal_fits { mandate.principal < 2 ^ 63 }
     requires agent_fits { mandate.agent < 2 ^ 63 }
     requires moment { IsMoment stamp }
-    requires land { HasRegisterTables S.Store tx.old.conn.now }
+    requires has_tables { HasRegisterTables S.Store tx.old.conn.now }
     ensures same_reference { SameReference tx.old tx.new }
     ensures step { Performs S.Store result
         (Closes mandates (λ e. is_same_mandate e mandate) stamp) tx.old tx.new }

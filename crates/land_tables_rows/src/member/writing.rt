@@ -25,7 +25,7 @@ pub fn begin<S: Alter>(
 ) -> Result<usize, Error>
     requires fits { IsTrue (fits_member entry.now) }
     requires moment { IsMoment since }
-    requires land { HasRegisterTables S.Store tx.old.conn.now }
+    requires has_tables { HasRegisterTables S.Store tx.old.conn.now }
     ensures same_reference { SameReference tx.old tx.new }
     ensures step { Performs S.Store result (Begins members entry.now since) tx.old tx.new }
 {
@@ -45,7 +45,7 @@ pub fn begin<S: Alter>(
 pub fn close<S: Alter>(tx: &mut Transaction<'_, S>, group: u64, stamp: i64) -> Result<usize, Error>
     requires group_fits { group < 2 ^ 63 }
     requires moment { IsMoment stamp }
-    requires land { HasRegisterTables S.Store tx.old.conn.now }
+    requires has_tables { HasRegisterTables S.Store tx.old.conn.now }
     ensures same_reference { SameReference tx.old tx.new }
     ensures step { Performs S.Store result (Closes members (λ e. nat_eq e.group group) stamp) tx.old tx.new }
 {

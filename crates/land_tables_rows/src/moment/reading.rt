@@ -1,5 +1,5 @@
 //! Moments at which the register changed.
-ghost use Rattle.land_tables_rows.specs.Moment.Reading.{change_in};
+ghost use Rattle.land_tables_rows.specs.Moment.Reading.{moment_row_in};
 
 use crate::reading::cells::{moment_at, next_at};
 use crate::reading::from_row::FromRow;
@@ -10,9 +10,9 @@ use std::alloc::Global;
 
 /// Decodes a row of `moments`: stamp, next.
 impl FromRow for Moment {
-    ghost said = { change_in };
+    ghost said = { moment_row_in };
 
-    #[tactic(auto, unfolding(crate::specs::Moment::Reading::change_in))]
+    #[tactic(auto, unfolding(crate::specs::Moment::Reading::moment_row_in))]
     fn from_row(_alloc: Global, row: &Row) -> Result<Moment, WireFault> {
         let stamp = moment_at(row, 0)?;
         let next = next_at(row, 1)?;

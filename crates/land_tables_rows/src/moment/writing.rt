@@ -1,7 +1,7 @@
 //! Moments at which the register changed.
 ghost use Rattle.std.specs.Prelude.{◌≡◌, IsTrue};
 ghost use Rattle.land_tables_rows.specs.Effects.{Performs};
-ghost use Rattle.land_tables_rows.specs.Moment.Writing.{AddsMoment};
+ghost use Rattle.land_tables_rows.specs.Moment.Writing.{InsertsMoment};
 ghost use Rattle.land_tables_rows.specs.Reading.Cells.{is_next};
 ghost use Rattle.land_tables_rows.specs.Writing.Holding.{IsMoment};
 ghost use Rattle.land_tables_schema.specs.Connections.{HasRegisterTables, SameReference};
@@ -20,10 +20,10 @@ pub fn fits(next: u64) -> bool
 pub fn insert<S: Alter>(tx: &mut Transaction<'_, S>, stamp: i64, next: u64) -> Result<usize, Error>
     requires fits { IsTrue (is_next next) }
     requires moment { IsMoment stamp }
-    requires land { HasRegisterTables S.Store tx.old.conn.now }
+    requires has_tables { HasRegisterTables S.Store tx.old.conn.now }
     ensures same_reference { SameReference tx.old tx.new }
     ensures step { Performs S.Store result
-        (AddsMoment (record { stamp = stamp; next = next })) tx.old tx.new }
+        (InsertsMoment (record { stamp = stamp; next = next })) tx.old tx.new }
 {
     rows::moments::insert(tx, stamp, next)
 }

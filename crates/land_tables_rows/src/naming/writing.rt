@@ -25,7 +25,7 @@ pub fn begin<S: Alter>(
 ) -> Result<usize, Error>
     requires fits { IsTrue (fits_naming naming) }
     requires moment { IsMoment since }
-    requires land { HasRegisterTables S.Store tx.old.conn.now }
+    requires has_tables { HasRegisterTables S.Store tx.old.conn.now }
     ensures same_reference { SameReference tx.old tx.new }
     ensures step { Performs S.Store result (Begins namings naming since) tx.old tx.new }
 {

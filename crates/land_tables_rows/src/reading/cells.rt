@@ -4,7 +4,7 @@ ghost use Rattle.land_tables_rows.specs.Reading.Cells.{amount_in, currency_in, e
 ghost use Rattle.land_tables_rows.specs.Reading.Cells.{label_in, moment_in, name_in, natural_in, next_in};
 ghost use Rattle.land_tables_rows.specs.Reading.Cells.{null_in, number_in, reference_in, share_in, text_in};
 ghost use Rattle.land_tables_rows.specs.Reading.Cells.{title_in, words_in};
-ghost use Rattle.land_wire_json.specs.Bodies.WireFaults.{Gives, seen_by};
+ghost use Rattle.land_wire_json.specs.Bodies.WireFaults.{Returns, map_ok};
 ghost use Rattle.sqlite_value.specs.Order.{column};
 ghost use Rattle.sqlite_value.specs.Value.{owned};
 
@@ -41,13 +41,13 @@ pub fn null_at(row: &Row, at: usize) -> Result<(), WireFault>
 
 /// Decodes a string. Errors: 131 if the cell has another type; 133 if it is not UTF-8.
 pub fn text_at(row: &Row, at: usize) -> Result<&str, WireFault>
-    ensures { seen_by (λ text. text.now) result ≡ text_in (column row.now at) }
+    ensures { map_ok (λ text. text.now) result ≡ text_in (column row.now at) }
 {
     text_of(cell(row, at))
 }
 
 fn text_of(cell: ValueRef<'_>) -> Result<&str, WireFault>
-    ensures { seen_by (λ text. text.now) result ≡ text_in (owned cell.entry) }
+    ensures { map_ok (λ text. text.now) result ≡ text_in (owned cell.entry) }
 {
     match cell {
         ValueRef::Text(bytes) => match std::str::from_utf8(bytes) {
@@ -178,21 +178,21 @@ pub fn share_at(row: &Row, numerator: usize, denominator: usize) -> Result<Fract
 /// Decodes a name of 1 to 200 characters. Errors: 131 if the cell has another type; 133 if it is another
 /// string; 501 if out of memory.
 pub fn name_at(alloc: Global, row: &Row, at: usize) -> Result<Text, WireFault>
-    ensures { Gives (λ text. text) result (name_in (column row.now at)) }
+    ensures { Returns (λ text. text) result (name_in (column row.now at)) }
 {
     name_of(alloc, text_at(row, at)?)
 }
 
 /// Decodes the title of a document. Limits and errors are those of a name.
 pub fn title_at(alloc: Global, row: &Row, at: usize) -> Result<Text, WireFault>
-    ensures { Gives (λ text. text) result (title_in (column row.now at)) }
+    ensures { Returns (λ text. text) result (title_in (column row.now at)) }
 {
     name_at(alloc, row, at)
 }
 
 /// Decodes the words of a restriction or a responsibility. Limits and errors are those of a name.
 pub fn words_at(alloc: Global, row: &Row, at: usize) -> Result<Text, WireFault>
-    ensures { Gives (λ text. text) result (words_in (column row.now at)) }
+    ensures { Returns (λ text. text) result (words_in (column row.now at)) }
 {
     name_at(alloc, row, at)
 }
@@ -200,14 +200,14 @@ pub fn words_at(alloc: Global, row: &Row, at: usize) -> Result<Text, WireFault>
 /// Decodes a label of 1 to 40 characters. Errors: 131 if the cell has another type; 133 if it is another
 /// string; 501 if out of memory.
 pub fn label_at(alloc: Global, row: &Row, at: usize) -> Result<Text, WireFault>
-    ensures { Gives (λ text. text) result (label_in (column row.now at)) }
+    ensures { Returns (λ text. text) result (label_in (column row.now at)) }
 {
     label_of(alloc, text_at(row, at)?)
 }
 
 /// Decodes the reference of a mutation. Limits and errors are those of a label.
 pub fn reference_at(alloc: Global, row: &Row, at: usize) -> Result<Text, WireFault>
-    ensures { Gives (λ text. text) result (reference_in (column row.now at)) }
+    ensures { Returns (λ text. text) result (reference_in (column row.now at)) }
 {
     label_at(alloc, row, at)
 }
@@ -215,7 +215,7 @@ pub fn reference_at(alloc: Global, row: &Row, at: usize) -> Result<Text, WireFau
 /// Decodes a currency: three letters from A to Z (ISO 4217). Errors: 131 if the cell has another type; 133 if
 /// it is another string; 501 if out of memory.
 pub fn currency_at(alloc: Global, row: &Row, at: usize) -> Result<Text, WireFault>
-    ensures { Gives (λ text. text) result (currency_in (column row.now at)) }
+    ensures { Returns (λ text. text) result (currency_in (column row.now at)) }
 {
     currency_of(alloc, text_at(row, at)?)
 }

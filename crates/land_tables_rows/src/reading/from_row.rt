@@ -1,7 +1,7 @@
 //! Decodes rows.
 ghost use Rattle.std.specs.Prelude.{◌≡◌, Result};
 ghost use Rattle.land_tables_rows.specs.Reading.Readings.{each_of};
-ghost use Rattle.land_wire_json.specs.Bodies.WireFaults.{Gives};
+ghost use Rattle.land_wire_json.specs.Bodies.WireFaults.{Returns};
 ghost use Rattle.land_wire_json.specs.declared.bodies.wire_fault.WireFault.{WireFault as Fault};
 ghost use Rattle.sqlite_value.specs.Order.{Row as SqlRow};
 
@@ -17,12 +17,12 @@ pub trait FromRow: Drop {
 
     /// Decodes a row.
     fn from_row(alloc: Global, row: &Row) -> Result<Self, WireFault>
-        ensures { Gives (λ it. it) result (said row.now) };
+        ensures { Returns (λ it. it) result (said row.now) };
 }
 
 /// Decodes rows in order.
 pub fn read_all<X: FromRow>(alloc: Global, rows: &[Row]) -> Result<Sequence<X>, WireFault>
-    ensures { Gives (λ it. it) result (each_of X.FromRow.said rows.now) }
+    ensures { Returns (λ it. it) result (each_of X.FromRow.said rows.now) }
 {
     let mut all = Sequence::new(alloc);
     for row in rows {

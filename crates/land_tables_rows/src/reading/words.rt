@@ -3,7 +3,7 @@ ghost use Rattle.std.specs.Prelude.{◌≡◌};
 ghost use Rattle.land_tables_rows.specs.Reading.Words.{class_of, class_word_in, kind_of, party_kind_in};
 ghost use Rattle.land_tables_rows.specs.Reading.Words.{role_in, source_kind_in, source_kind_of, state_in};
 ghost use Rattle.land_tables_rows.specs.Reading.Words.{state_of};
-ghost use Rattle.land_wire_json.specs.Bodies.WireFaults.{Gives};
+ghost use Rattle.land_wire_json.specs.Bodies.WireFaults.{Returns};
 ghost use Rattle.sqlite_value.specs.Order.{column};
 
 use crate::reading::cells::text_at;

@@ -1,5 +1,5 @@
 //! Roles of parties (LA_PartyRoleType).
-ghost use Rattle.land_tables_rows.specs.Role.Reading.{grant_in};
+ghost use Rattle.land_tables_rows.specs.Role.Reading.{role_grant_in};
 
 use crate::reading::cells::{end_at, moment_at, number_at};
 use crate::reading::from_row::FromRow;
@@ -12,9 +12,9 @@ use std::alloc::Global;
 
 /// Decodes a row of `role`: party, role, since, until.
 impl FromRow for Version<Grant> {
-    ghost said = { grant_in };
+    ghost said = { role_grant_in };
 
-    #[tactic(auto, unfolding(crate::specs::Role::Reading::grant_in))]
+    #[tactic(auto, unfolding(crate::specs::Role::Reading::role_grant_in))]
     fn from_row(_alloc: Global, row: &Row) -> Result<Version<Grant>, WireFault> {
         let party = number_at(row, 0)?;
         let role = role_at(row, 1)?;

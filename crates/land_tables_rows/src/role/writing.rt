@@ -27,7 +27,7 @@ pub fn begin<S: Alter>(
 ) -> Result<usize, Error>
     requires fits { IsTrue (fits_grant grant) }
     requires moment { IsMoment since }
-    requires land { HasRegisterTables S.Store tx.old.conn.now }
+    requires has_tables { HasRegisterTables S.Store tx.old.conn.now }
     ensures same_reference { SameReference tx.old tx.new }
     ensures step { Performs S.Store result (Begins roles grant since) tx.old tx.new }
 {
@@ -42,7 +42,7 @@ pub fn close<S: Alter>(
 ) -> Result<usize, Error>
     requires party_fits { grant.party < 2 ^ 63 }
     requires moment { IsMoment stamp }
-    requires land { HasRegisterTables S.Store tx.old.conn.now }
+    requires has_tables { HasRegisterTables S.Store tx.old.conn.now }
     ensures same_reference { SameReference tx.old tx.new }
     ensures step { Performs S.Store result (Closes roles (λ e. is_same_grant e grant) stamp) tx.old tx.new }
 {

@@ -13,7 +13,7 @@ pub(crate) trait Keyed: Listed {
     /// Reads the rowids of the table, in unspecified order.
     fn rowids<S: Alter>(conn: &mut Connection<S>) -> Result<Vec<Row>, Error>
         requires { HasCleanDisk (state S.Store conn.old) → Self.has (state S.Store conn.old).now.schema }
-        ensures look { ReadsTables S.Store result
+        ensures reads_only { ReadsTables S.Store result
             (λ db rows. AreRowids Self.listing.table db rows.items) conn.old conn.new }
-        ensures mode { LeavesAutocommit conn.old conn.new };
+        ensures autocommit { LeavesAutocommit conn.old conn.new };
 }

@@ -1,7 +1,7 @@
 //! Checks that the rows of each table of versions have unique rowids.
 ghost use Rattle.land_tables_rows.specs.Effects.{ReadsTables};
-ghost use Rattle.land_tables_rows.specs.Rowids.{AreFirstKeyed, AreHoldingsKeyed, AreKeyed, ArePapersKeyed};
-ghost use Rattle.land_tables_rows.specs.Rowids.{ArePersonsKeyed};
+ghost use Rattle.land_tables_rows.specs.Rowids.{HaveUniqueRowidsV1, UnitsHaveUniqueRowids, HasUniqueRowids, SourcesHaveUniqueRowids};
+ghost use Rattle.land_tables_rows.specs.Rowids.{PartiesHaveUniqueRowids};
 ghost use Rattle.land_tables_schema.specs.Connections.{HasRegisterTables, HasV1Tables, LeavesAutocommit};
 ghost use Rattle.land_tables_schema.specs.Tables as table;
 ghost use Rattle.sqlite.specs.Held.{state};
@@ -24,10 +24,10 @@ use sqlite::{Alter, Connection, Error};
 use std::alloc::Global;
 
 /// Checks that the rows of a table have unique rowids.
-fn judge_table<S: Alter, X: Keyed>(alloc: Global, conn: &mut Connection<S>) -> Result<(), Error>
+fn check_table<S: Alter, X: Keyed>(alloc: Global, conn: &mut Connection<S>) -> Result<(), Error>
     requires { HasCleanDisk (state S.Store conn.old) → X.has (state S.Store conn.old).now.schema }
-    ensures look { ReadsTables S.Store result (λ db _. AreKeyed X.listing.table db) conn.old conn.new }
-    ensures mode { LeavesAutocommit conn.old conn.new }
+    ensures reads_only { ReadsTables S.Store result (λ db _. HasUniqueRowids X.listing.table db) conn.old conn.new }
+    ensures autocommit { LeavesAutocommit conn.old conn.new }
 {
     let rows = X::rowids(conn)?;
     are_numbered(alloc, rows.as_slice())
@@ -36,54 +36,54 @@ fn judge_table<S: Alter, X: Keyed>(alloc: Global, conn: &mut Connection<S>) -> R
 /// Checks the tables of parties, roles and members.
 fn persons<S: Alter>(alloc: Global, conn: &mut Connection<S>) -> Result<(), Error>
     requires { HasV1Tables S.Store conn.old }
-    ensures look { ReadsTables S.Store result (λ db _. ArePersonsKeyed db) conn.old conn.new }
-    ensures mode { LeavesAutocommit conn.old conn.new }
+    ensures reads_only { ReadsTables S.Store result (λ db _. PartiesHaveUniqueRowids db) conn.old conn.new }
+    ensures autocommit { LeavesAutocommit conn.old conn.new }
 {
-    judge_table::<S, Version<(u64, PartyRecord)>>(alloc, conn)?;
-    judge_table::<S, Version<Grant>>(alloc, conn)?;
-    judge_table::<S, Version<GroupMember>>(alloc, conn)
+    check_table::<S, Version<(u64, PartyRecord)>>(alloc, conn)?;
+    check_table::<S, Version<Grant>>(alloc, conn)?;
+    check_table::<S, Version<GroupMember>>(alloc, conn)
 }
 
 /// Checks the tables of units, parcels and entries.
 fn holdings<S: Alter>(alloc: Global, conn: &mut Connection<S>) -> Result<(), Error>
     requires { HasV1Tables S.Store conn.old }
-    ensures look { ReadsTables S.Store result (λ db _. AreHoldingsKeyed db) conn.old conn.new }
-    ensures mode { LeavesAutocommit conn.old conn.new }
+    ensures reads_only { ReadsTables S.Store result (λ db _. UnitsHaveUniqueRowids db) conn.old conn.new }
+    ensures autocommit { LeavesAutocommit conn.old conn.new }
 {
-    judge_table::<S, Version<(u64, UnitRecord)>>(alloc, conn)?;
-    judge_table::<S, Version<(u64, ParcelRecord)>>(alloc, conn)?;
-    judge_table::<S, Version<(u64, RrrRecord)>>(alloc, conn)
+    check_table::<S, Version<(u64, UnitRecord)>>(alloc, conn)?;
+    check_table::<S, Version<(u64, ParcelRecord)>>(alloc, conn)?;
+    check_table::<S, Version<(u64, RrrRecord)>>(alloc, conn)
 }
 
 /// Checks the tables of sources, mutations and their units.
-fn papers<S: Alter>(alloc: Global, conn: &mut Connection<S>) -> Result<(), Error>
+fn sources_and_mutations<S: Alter>(alloc: Global, conn: &mut Connection<S>) -> Result<(), Error>
     requires { HasV1Tables S.Store conn.old }
-    ensures look { ReadsTables S.Store result (λ db _. ArePapersKeyed db) conn.old conn.new }
-    ensures mode { LeavesAutocommit conn.old conn.new }
+    ensures reads_only { ReadsTables S.Store result (λ db _. SourcesHaveUniqueRowids db) conn.old conn.new }
+    ensures autocommit { LeavesAutocommit conn.old conn.new }
 {
-    judge_table::<S, Version<(u64, SourceRecord)>>(alloc, conn)?;
-    judge_table::<S, Version<(u64, MutationRecord)>>(alloc, conn)?;
-    judge_table::<S, Version<Naming>>(alloc, conn)
+    check_table::<S, Version<(u64, SourceRecord)>>(alloc, conn)?;
+    check_table::<S, Version<(u64, MutationRecord)>>(alloc, conn)?;
+    check_table::<S, Version<Naming>>(alloc, conn)
 }
 
 /// Checks that the rows of all tables of schema version 1 that hold versions have unique rowids. Errors:
 /// `Store` (502) if they do not, since the file is then corrupted, or if a read fails; `NoMemory` (501). A
 /// store that is still open is unchanged.
-pub fn are_first_keyed<S: Alter>(alloc: Global, conn: &mut Connection<S>) -> Result<(), Error>
+pub fn check_unique_rowids_v1<S: Alter>(alloc: Global, conn: &mut Connection<S>) -> Result<(), Error>
     requires { HasV1Tables S.Store conn.old }
-    ensures look { ReadsTables S.Store result (λ db _. AreFirstKeyed db) conn.old conn.new }
-    ensures mode { LeavesAutocommit conn.old conn.new }
+    ensures reads_only { ReadsTables S.Store result (λ db _. HaveUniqueRowidsV1 db) conn.old conn.new }
+    ensures autocommit { LeavesAutocommit conn.old conn.new }
 {
     persons(alloc, conn)?;
     holdings(alloc, conn)?;
-    papers(alloc, conn)
+    sources_and_mutations(alloc, conn)
 }
 
 /// Checks the table of mandates likewise.
-pub fn are_mandates_keyed<S: Alter>(alloc: Global, conn: &mut Connection<S>) -> Result<(), Error>
+pub fn check_mandates_unique_rowids<S: Alter>(alloc: Global, conn: &mut Connection<S>) -> Result<(), Error>
     requires { HasRegisterTables S.Store conn.old }
-    ensures look { ReadsTables S.Store result (λ db _. AreKeyed table.mandate db) conn.old conn.new }
-    ensures mode { LeavesAutocommit conn.old conn.new }
+    ensures reads_only { ReadsTables S.Store result (λ db _. HasUniqueRowids table.mandate db) conn.old conn.new }
+    ensures autocommit { LeavesAutocommit conn.old conn.new }
 {
-    judge_table::<S, Version<Mandate>>(alloc, conn)
+    check_table::<S, Version<Mandate>>(alloc, conn)
 }

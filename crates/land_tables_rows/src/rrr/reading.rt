@@ -2,7 +2,7 @@
 ghost use Rattle.std.specs.Prelude.{◌≡◌};
 ghost use Rattle.land_tables_rows.specs.Rrr.Reading.{burden_in, class_by, mortgage_in, no_mortgage_in};
 ghost use Rattle.land_tables_rows.specs.Rrr.Reading.{no_right_in, right_in, rrr_in};
-ghost use Rattle.land_wire_json.specs.Bodies.WireFaults.{Gives};
+ghost use Rattle.land_wire_json.specs.Bodies.WireFaults.{Returns};
 
 use crate::reading::cells::{
     amount_at, currency_at, end_at, moment_at, natural_at, null_at, number_at, share_at, words_at,
@@ -47,7 +47,7 @@ impl FromRow for Version<(u64, RrrRecord)> {
 
 /// Decodes the columns of a class.
 fn class_by(alloc: Global, which: ClassWord, row: &Row) -> Result<Class, WireFault>
-    ensures { Gives (λ it. it) result (class_by which row.now) }
+    ensures { Returns (λ it. it) result (class_by which row.now) }
 {
     match which {
         ClassWord::Right(right_type) => right_in(right_type, row),
@@ -75,7 +75,7 @@ fn right_in(right_type: RightType, row: &Row) -> Result<Class, WireFault>
 /// Decodes the words of a restriction or a responsibility. The columns of other classes must be NULL.
 #[tactic(auto, unfolding(crate::specs::Rrr::Reading::burden_in))]
 fn burden_in(alloc: Global, row: &Row) -> Result<Text, WireFault>
-    ensures { Gives (λ it. it) result (burden_in row.now) }
+    ensures { Returns (λ it. it) result (burden_in row.now) }
 {
     no_right_in(row)?;
     no_mortgage_in(row)?;
@@ -85,7 +85,7 @@ fn burden_in(alloc: Global, row: &Row) -> Result<Text, WireFault>
 /// Decodes a mortgage. The columns of other classes must be NULL.
 #[tactic(auto, unfolding(crate::specs::Rrr::Reading::mortgage_in))]
 fn mortgage_in(alloc: Global, row: &Row) -> Result<Class, WireFault>
-    ensures { Gives (λ it. it) result (mortgage_in row.now) }
+    ensures { Returns (λ it. it) result (mortgage_in row.now) }
 {
     no_right_in(row)?;
     let amount = amount_at(row, 6)?;

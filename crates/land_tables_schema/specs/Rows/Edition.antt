@@ -13,9 +13,9 @@ abbrev pub edition_row : Edition → Row
 edition_row e = whole e.id ∷ whole e.version ∷ []
 
 -- schema version 1, without mandates
-abbrev pub first_edition : Edition
-first_edition = record { id = 1; version = 1 }
+abbrev pub v1_edition : Edition
+v1_edition = record { id = 1; version = 1 }
 
 -- schema version 2, the current one
-abbrev pub current_edition : Edition
-current_edition = record { id = 1; version = 2 }
+abbrev pub v2_edition : Edition
+v2_edition = record { id = 1; version = 2 }

@@ -2,7 +2,7 @@
 use Rattle.std.specs.Prelude.{◌≡◌, ◌≢◌, ℕ, true, List, ◌∷◌, map, IsPermutation}
 use Rattle.std.specs.List.{AllByRecursion, IsDistinct}
 use Rattle.std.specs.Ordering.{int_eq}
-use Rattle.land_tables_schema.specs.Rows.Looks.{columns_from, numbered_cells}
+use Rattle.land_tables_schema.specs.Rows.ReadQueries.{columns_from, numbered_cells}
 use Rattle.land_tables_schema.specs.Tables.{land_tables}
 use Rattle.sqlite.specs.Effect.{Database}
 use Rattle.sqlite_rules.specs.Calls.{ids_of}
@@ -34,13 +34,13 @@ KeepsOthers table old new =
     AllByRecursion (λ (t : Table). t.tree ≢ table.tree → new t.tree ≡ old t.tree) land_tables
 
 -- one more value is held
-pub record Adds {X : Type 0} (form : Form X) (x : X) (old new : Database) : Type 0 where
+pub record InsertsVersion {X : Type 0} (form : Form X) (x : X) (old new : Database) : Type 0 where
   pub schema : new.schema ≡ old.schema
   pub held : (xs : List X) → Holds form old.trees xs → Holds form new.trees (x ∷ xs)
   pub kept : KeepsOthers form.table old.trees new.trees
 
 -- each value is replaced by its image under `turn`, which may be the value itself
-pub record Turns {X : Type 0} (form : Form X) (turn : X → X) (old new : Database) : Type 0 where
+pub record UpdatesRows {X : Type 0} (form : Form X) (turn : X → X) (old new : Database) : Type 0 where
   pub schema : new.schema ≡ old.schema
   pub held : (xs : List X) → Holds form old.trees xs → Holds form new.trees (map turn xs)
   pub kept : KeepsOthers form.table old.trees new.trees

@@ -1,7 +1,7 @@
 -- The whole content of the register's tables.
 use Rattle.std.specs.Prelude.{◌≡◌, pos, List, [], ◌∷◌, codes}
-use Rattle.land_tables_schema.specs.Land.{made_schema}
-use Rattle.land_tables_schema.specs.Rows.Edition.{Edition, current_edition, edition_row}
+use Rattle.land_tables_schema.specs.Schemas.{v2_schema}
+use Rattle.land_tables_schema.specs.Rows.Edition.{Edition, v2_edition, edition_row}
 use Rattle.land_tables_schema.specs.Rows.Forms.{Holds, Lists}
 use Rattle.land_tables_schema.specs.Rows.Mandate.{MandateRow, mandates}
 use Rattle.land_tables_schema.specs.Rows.Member.{MemberRow, members}
@@ -14,7 +14,7 @@ use Rattle.land_tables_schema.specs.Rows.Role.{RoleRow, roles}
 use Rattle.land_tables_schema.specs.Rows.Rrr.{RrrRow, rrrs}
 use Rattle.land_tables_schema.specs.Rows.Source.{SourceRow, sources}
 use Rattle.land_tables_schema.specs.Rows.Unit.{UnitRow, units}
-use Rattle.land_tables_schema.specs.Rows.Versions.{Version, begun}
+use Rattle.land_tables_schema.specs.Rows.Versions.{Version, opened_version}
 use Rattle.land_tables_schema.specs.Tables as table
 use Rattle.sqlite.specs.Effect.{Database}
 use Rattle.sqlite_trees.specs.Tree.{Trees}
@@ -52,11 +52,11 @@ pub record HoldsRows (db : Trees) (rows : Rows) : Type 0 where
 -- a new register: since moment 0, party 1, the Land Office, is state administrator, and the next number is 2
 abbrev pub new_rows : Rows
 new_rows = record {
-  editions = current_edition ∷ [];
+  editions = v2_edition ∷ [];
   moments = record { stamp = pos 0; next = 2 } ∷ [];
-  parties = begun (record { number = 1; name = codes "Land Office"; kind = codes "nonNaturalPerson" }) (pos 0)
+  parties = opened_version (record { number = 1; name = codes "Land Office"; kind = codes "nonNaturalPerson" }) (pos 0)
       ∷ [];
-  roles = begun (record { party = 1; role = codes "stateAdministrator" }) (pos 0) ∷ [];
+  roles = opened_version (record { party = 1; role = codes "stateAdministrator" }) (pos 0) ∷ [];
   members = [];
   units = [];
   parcels = [];
@@ -69,5 +69,5 @@ new_rows = record {
 
 -- the database of a new register: its schema, and its rows
 pub record IsNew (db : Database) : Type 0 where
-  pub schema : db.schema ≡ made_schema
+  pub schema : db.schema ≡ v2_schema
   pub rows : HoldsRows db.trees new_rows

@@ -18,12 +18,12 @@ abbrev pub never : ℤ
 never = pos 4102444800000
 
 -- a new version, which is current from this moment
-abbrev pub begun : {C : Type 0} → C → ℤ → Version C
-begun c since = record { what = c; since = since; until = never }
+abbrev pub opened_version : {C : Type 0} → C → ℤ → Version C
+opened_version c since = record { what = c; since = since; until = never }
 
 -- ends a version at `stamp` if it is current and meant; leaves other versions unchanged
-abbrev pub closed : {C : Type 0} → (C → Bool) → ℤ → Version C → Version C
-closed meant stamp v = if meant v.what && int_eq v.until never then record v { until = stamp } else v
+abbrev pub closed_version : {C : Type 0} → (C → Bool) → ℤ → Version C → Version C
+closed_version meant stamp v = if meant v.what && int_eq v.until never then record v { until = stamp } else v
 
 -- a number as a cell
 abbrev pub whole : ℕ → Value

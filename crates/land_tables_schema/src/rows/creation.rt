@@ -1,13 +1,13 @@
 //! Creates a new register.
 ghost use Rattle.std.specs.Prelude.{◌≡◌, false, IsTrue, OnErr, OnOk};
 ghost use Rattle.land_tables_schema.specs.Connections.{InTransaction, SameReference};
-ghost use Rattle.land_tables_schema.specs.Land.{no_schema};
+ghost use Rattle.land_tables_schema.specs.Schemas.{no_schema};
 ghost use Rattle.land_tables_schema.specs.Making.{IsMade};
 ghost use Rattle.land_tables_schema.specs.Rows.Held.{HoldsRows, IsNew, new_rows};
 ghost use Rattle.sqlite.specs.Held.{state};
 ghost use Rattle.sqlite.specs.State.{HasCleanDisk, Survives};
 
-use crate::making::make_tables;
+use crate::making::create_schema;
 use crate::rows::tables::{edition, moments, party, role};
 use sqlite::{Alter, Connection, Error, Transaction};
 
@@ -43,7 +43,7 @@ pub fn make_register<S: Alter>(conn: &mut Connection<S>) -> Result<(), Error>
     ensures ended { conn.new.in_transaction ≡ false }
 {
     let mut tx = conn.transaction();
-    make_tables(&mut tx)?;
+    create_schema(&mut tx)?;
     put_first_rows(&mut tx)?;
     tx.commit()
 }

@@ -1,7 +1,7 @@
 //! Checks that a store is open.
 ghost use Rattle.std.specs.Prelude.{false, IsTrue};
 ghost use Rattle.land_tables_schema.specs.Connections.{LeavesAutocommit};
-ghost use Rattle.land_tables_schema.specs.Rows.Looks.{IsLeft};
+ghost use Rattle.land_tables_schema.specs.Rows.ReadQueries.{IsLeft};
 ghost use Rattle.sqlite.specs.Held.{state};
 ghost use Rattle.sqlite.specs.State.{HasCleanDisk, IsUnchanged, Survives};
 
@@ -15,7 +15,7 @@ pub fn is_open<S: Alter>(conn: &mut Connection<S>) -> bool
     ensures left { HasCleanDisk (state S.Store conn.new) → IsTrue (state S.Store conn.new).is_open
         → IsLeft (state S.Store conn.old) (state S.Store conn.new) }
     ensures survives { Survives (state S.Store conn.old) (state S.Store conn.new) (λ _. ⊥) }
-    ensures mode { LeavesAutocommit conn.old conn.new }
+    ensures autocommit { LeavesAutocommit conn.old conn.new }
 {
     match conn.prepare("!") {
         Ok(_) => true,

@@ -1,6 +1,6 @@
 //! Requests and replies as bytes, with a new register.
 use crate::desk::office::is_answered;
-use land_test_scenario::first::{ANNA_IS_ENROLLED, ENROL_ANNA};
+use land_test_scenario::first::{ANNA_ENROLLED_RESPONSE, ENROL_ANNA_REQUEST};
 use land_test_scenario::stop::{Stop, expect};
 use std::alloc::Global;
 
@@ -69,7 +69,7 @@ const EXCHANGES: &[Exchange] = &[
     Exchange(
         1,
         b"POST /acts/enrol HTTP/1.1\r\nhost: land\r\ncontent-length:\t 038 \t\r\nREGISTER-ROLE:stateAdministrator\r\nregister-PARTY:   0000000000001\t\r\n\r\n{\"kind\":\"naturalPerson\",\"name\":\"Anna\"}",
-        ANNA_IS_ENROLLED,
+        ANNA_ENROLLED_RESPONSE,
     ),
     // Empty lines, also between requests, and lines that end with only a line feed.
     Exchange(
@@ -138,10 +138,10 @@ pub fn requests_and_replies_as_bytes(alloc: Global) -> Result<(), Stop> {
 
 /// Checks that the first enrolment is the same in chunks of any size.
 pub fn the_first_run(alloc: Global) -> Result<(), Stop> {
-    let lengths = (ENROL_ANNA.len(), ANNA_IS_ENROLLED.len());
+    let lengths = (ENROL_ANNA_REQUEST.len(), ANNA_ENROLLED_RESPONSE.len());
     expect(lengths == (141, 107), "lengths", 0)?;
-    for piece in 1..=ENROL_ANNA.len() {
-        let is_answered = is_answered(alloc, ENROL_ANNA, piece, 1, ANNA_IS_ENROLLED)?;
+    for piece in 1..=ENROL_ANNA_REQUEST.len() {
+        let is_answered = is_answered(alloc, ENROL_ANNA_REQUEST, piece, 1, ANNA_ENROLLED_RESPONSE)?;
         expect(is_answered, "in pieces of", piece)?;
     }
     Ok(())

@@ -1,15 +1,15 @@
 //! Readers and writers that fail at each byte of a small stream.
 use crate::desk::long_requests::joined;
-use crate::desk::office::{Office, common, is_want_of_memory, open_sink};
+use crate::desk::office::{Office, common, is_out_of_memory, open_sink};
 use land_desk::serve::{DeskFault, Served};
 use land_keep::keeper::Keeper;
 use land_keep::plain_keeper::PlainKeeper;
 use land_streams::put::put;
 use land_streams::send::send;
-use land_test_scenario::doubles::{Pieces, Sink};
+use land_test_scenario::doubles::{ChunkReader, Sink};
 use land_test_scenario::stop::{Stop, expect};
-use land_test_scenario::talk::Told::{Fault, Shown};
-use land_test_scenario::talk::{ENROL, OFFICE, Row, Talk};
+use land_test_scenario::talk::ExpectedReply::{Fault, Shown};
+use land_test_scenario::talk::{ENROL, OFFICE, Row, Transcript};
 use std::alloc::Global;
 
 /// Two parties are enrolled, with a request between them that changes nothing.
@@ -40,37 +40,37 @@ fn last_after(rows: usize) -> i64 {
 
 /// The result of serving, and the stamp of the last change.
 #[derive(Clone, Copy)]
-struct Left {
+struct ServeOutcome {
     served: Result<Served, DeskFault>,
     last: i64,
 }
 
 /// Serves the rows one byte at a time, with a limited number of reads.
-fn serve_rows(alloc: Global, talk: &Talk, reads: u64, sink: &mut Sink) -> Result<Left, Stop> {
+fn serve_rows(alloc: Global, talk: &Transcript, reads: u64, sink: &mut Sink) -> Result<ServeOutcome, Stop> {
     let mut keeper = PlainKeeper::new(alloc)?;
     let mut office = Office::of(&mut keeper);
-    let reader = Pieces {
+    let reader = ChunkReader {
         left: talk.input.as_slice(),
         piece: 1,
         reads,
     };
     let served = office.serve(alloc, reader, sink);
-    if is_want_of_memory(&served, &sink.taken, talk.output.as_bytes()) {
+    if is_out_of_memory(&served, &sink.taken, talk.output.as_bytes()) {
         return Err(Stop::Memory);
     }
-    Ok(Left {
+    Ok(ServeOutcome {
         served,
         last: office.keeper.last(),
     })
 }
 
 /// Returns the number of rows whose input is within this number of bytes.
-fn rows_within(talk: &Talk, bytes: usize) -> usize {
+fn rows_within(talk: &Transcript, bytes: usize) -> usize {
     talk.marks.iter().filter(|mark| mark.asked <= bytes).count()
 }
 
 /// Returns the end of the output of these rows.
-fn end_of(talk: &Talk, rows: usize) -> usize {
+fn end_of(talk: &Transcript, rows: usize) -> usize {
     match talk.marks.iter().take(rows).last() {
         Some(mark) => mark.told,
         None => 0,
@@ -79,7 +79,7 @@ fn end_of(talk: &Talk, rows: usize) -> usize {
 
 /// Checks that a reader that fails after this number of bytes has only the whole requests answered and
 /// executed.
-fn is_unread(alloc: Global, talk: &Talk, bytes: usize) -> Result<bool, Stop> {
+fn is_unread(alloc: Global, talk: &Transcript, bytes: usize) -> Result<bool, Stop> {
     let mut sink = open_sink(alloc, talk.output.len())?;
     let left = serve_rows(alloc, talk, bytes as u64, &mut sink)?;
     let rows = rows_within(talk, bytes);
@@ -94,7 +94,7 @@ fn is_unread(alloc: Global, talk: &Talk, bytes: usize) -> Result<bool, Stop> {
 
 /// Checks readers that fail after each byte of the stream, including the last one.
 pub fn readers_fail_at_each_byte(alloc: Global) -> Result<(), Stop> {
-    let mut talk = Talk::new(alloc)?;
+    let mut talk = Transcript::new(alloc)?;
     talk.ask_all("rows", ROWS)?;
     for bytes in 0..=talk.input.len() {
         expect(is_unread(alloc, &talk, bytes)?, "read", bytes)?;
@@ -104,7 +104,7 @@ pub fn readers_fail_at_each_byte(alloc: Global) -> Result<(), Stop> {
 
 /// Checks that a writer that accepts this number of bytes, one at a time, has exactly those, and that each
 /// change whose reply was begun is durable.
-fn is_unwritten(alloc: Global, talk: &Talk, bytes: usize, fails: bool) -> Result<bool, Stop> {
+fn is_unwritten(alloc: Global, talk: &Transcript, bytes: usize, fails: bool) -> Result<bool, Stop> {
     let mut sink = open_sink(alloc, talk.output.len())?;
     sink.piece = 1;
     sink.writes = bytes;
@@ -129,7 +129,7 @@ fn is_unwritten(alloc: Global, talk: &Talk, bytes: usize, fails: bool) -> Result
 
 /// Checks writers that fail, or accept nothing, after each byte of the output except the last.
 pub fn writers_fail_at_each_byte(alloc: Global) -> Result<(), Stop> {
-    let mut talk = Talk::new(alloc)?;
+    let mut talk = Transcript::new(alloc)?;
     talk.ask_all("rows", ROWS)?;
     for bytes in 0..talk.output.len() {
         for fails in [false, true] {

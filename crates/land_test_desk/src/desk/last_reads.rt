@@ -1,10 +1,10 @@
 //! Requests after which the connection closes: the reader is not called again.
-use crate::desk::office::{Office, is_want_of_memory, open_sink};
+use crate::desk::office::{Office, is_out_of_memory, open_sink};
 use land_desk::serve::Served;
 use land_keep::plain_keeper::PlainKeeper;
-use land_test_scenario::doubles::Pieces;
+use land_test_scenario::doubles::ChunkReader;
 use land_test_scenario::stop::{Stop, expect};
-use land_test_scenario::talk::{Talk, Told};
+use land_test_scenario::talk::{Transcript, ExpectedReply};
 use std::alloc::Global;
 
 /// Input in one chunk, and its fault, after which the connection closes.
@@ -19,18 +19,18 @@ const LAST: &[Last] = &[
 
 /// Checks that the item is served, and that the reader is called only once for it.
 fn is_served_by_one_read(alloc: Global, row: &Last) -> Result<bool, Stop> {
-    let mut talk = Talk::new(alloc)?;
-    talk.tell(Told::Fault(row.1), true)?;
+    let mut talk = Transcript::new(alloc)?;
+    talk.tell(ExpectedReply::Fault(row.1), true)?;
     let mut sink = open_sink(alloc, talk.output.len())?;
     let mut keeper = PlainKeeper::new(alloc)?;
     let mut office = Office::of(&mut keeper);
-    let mut reader = Pieces {
+    let mut reader = ChunkReader {
         left: row.0,
         piece: 4096,
         reads: u64::MAX,
     };
     let served = office.serve_from(alloc, &mut reader, &mut sink);
-    if is_want_of_memory(&served, &sink.taken, talk.output.as_bytes()) {
+    if is_out_of_memory(&served, &sink.taken, talk.output.as_bytes()) {
         return Err(Stop::Memory);
     }
     Ok(
@@ -41,7 +41,7 @@ fn is_served_by_one_read(alloc: Global, row: &Last) -> Result<bool, Stop> {
 }
 
 /// Checks that a reader is not called after the last reply.
-pub fn a_reader_is_not_asked_after_the_last_reply(alloc: Global) -> Result<(), Stop> {
+pub fn a_reader_is_not_called_after_the_last_reply(alloc: Global) -> Result<(), Stop> {
     for (place, row) in LAST.iter().enumerate() {
         expect(is_served_by_one_read(alloc, row)?, "last", place)?;
     }

@@ -1,7 +1,7 @@
 //! Requests at the limits of their sizes, with a new register.
-use crate::desk::office::is_told;
+use crate::desk::office::is_reply_as_expected;
 use land_test_scenario::stop::{Stop, expect};
-use land_test_scenario::talk::Told;
+use land_test_scenario::talk::ExpectedReply;
 use std::alloc::{AllocError, Global};
 
 /// A request with a part that is repeated in its middle, and its reply.
@@ -10,7 +10,7 @@ struct Long {
     filler: &'static [u8],
     times: usize,
     back: &'static [u8],
-    told: Told,
+    told: ExpectedReply,
     ends: bool,
 }
 
@@ -21,7 +21,7 @@ const LONG: &[Long] = &[
         filler: b"\xf0\x9f\x98\x80",
         times: 1,
         back: b"\"}",
-        told: Told::Shown("{\"made\":[2],\"number\":2,\"stamp\":1000}"),
+        told: ExpectedReply::Shown("{\"made\":[2],\"number\":2,\"stamp\":1000}"),
         ends: false,
     },
     Long {
@@ -29,7 +29,7 @@ const LONG: &[Long] = &[
         filler: b"\xf0\x9f\x98\x80",
         times: 200,
         back: b"\"}",
-        told: Told::Shown("{\"made\":[2],\"number\":2,\"stamp\":1000}"),
+        told: ExpectedReply::Shown("{\"made\":[2],\"number\":2,\"stamp\":1000}"),
         ends: false,
     },
     Long {
@@ -37,7 +37,7 @@ const LONG: &[Long] = &[
         filler: b"\xf0\x9f\x98\x80",
         times: 201,
         back: b"\"}",
-        told: Told::Fault(133),
+        told: ExpectedReply::Fault(133),
         ends: false,
     },
     // A head has at most 8192 bytes, with the empty lines before it.
@@ -46,7 +46,7 @@ const LONG: &[Long] = &[
         filler: b"x",
         times: 8192 - 84,
         back: b"\r\n\r\n",
-        told: Told::Shown("{\"numbers\":[1]}"),
+        told: ExpectedReply::Shown("{\"numbers\":[1]}"),
         ends: false,
     },
     Long {
@@ -54,7 +54,7 @@ const LONG: &[Long] = &[
         filler: b"x",
         times: 8192 - 84,
         back: b"\r\n\r\n",
-        told: Told::Fault(141),
+        told: ExpectedReply::Fault(141),
         ends: true,
     },
     Long {
@@ -62,7 +62,7 @@ const LONG: &[Long] = &[
         filler: b"x",
         times: 8192 - 84,
         back: b"\r\n\r\n",
-        told: Told::Fault(141),
+        told: ExpectedReply::Fault(141),
         ends: true,
     },
     Long {
@@ -70,7 +70,7 @@ const LONG: &[Long] = &[
         filler: b"x",
         times: 8192,
         back: b"\r\nContent-Length: 0\r\n\r\n",
-        told: Told::Fault(141),
+        told: ExpectedReply::Fault(141),
         ends: true,
     },
     // An incomplete head, below 8192 bytes and at 8192 bytes.
@@ -79,7 +79,7 @@ const LONG: &[Long] = &[
         filler: b"X",
         times: 8191,
         back: b"",
-        told: Told::Fault(144),
+        told: ExpectedReply::Fault(144),
         ends: true,
     },
     Long {
@@ -87,7 +87,7 @@ const LONG: &[Long] = &[
         filler: b"X",
         times: 8192,
         back: b"",
-        told: Told::Fault(141),
+        told: ExpectedReply::Fault(141),
         ends: true,
     },
     // A head has at most 64 fields.
@@ -96,7 +96,7 @@ const LONG: &[Long] = &[
         filler: b"a:b\r\n",
         times: 62,
         back: b"\r\n",
-        told: Told::Shown("{\"numbers\":[1]}"),
+        told: ExpectedReply::Shown("{\"numbers\":[1]}"),
         ends: false,
     },
     Long {
@@ -104,7 +104,7 @@ const LONG: &[Long] = &[
         filler: b"a:b\r\n",
         times: 62,
         back: b"Transfer-Encoding: chunked\r\n\r\n",
-        told: Told::Fault(140),
+        told: ExpectedReply::Fault(140),
         ends: true,
     },
     // Only a whole head has too many fields.
@@ -113,7 +113,7 @@ const LONG: &[Long] = &[
         filler: b"a:b\r\n",
         times: 62,
         back: b"Transfer-Encoding: chunked\r\n",
-        told: Told::Fault(144),
+        told: ExpectedReply::Fault(144),
         ends: true,
     },
     // A body has at most 1048576 bytes.
@@ -122,7 +122,7 @@ const LONG: &[Long] = &[
         filler: b" ",
         times: 1_048_576,
         back: b"",
-        told: Told::Fault(130),
+        told: ExpectedReply::Fault(130),
         ends: false,
     },
     Long {
@@ -130,7 +130,7 @@ const LONG: &[Long] = &[
         filler: b" ",
         times: 1_048_577,
         back: b"",
-        told: Told::Fault(142),
+        told: ExpectedReply::Fault(142),
         ends: true,
     },
 ];
@@ -152,15 +152,15 @@ pub fn joined(
     Ok(bytes)
 }
 
-fn is_long_told(alloc: Global, row: &Long) -> Result<bool, Stop> {
+fn is_limit_reported(alloc: Global, row: &Long) -> Result<bool, Stop> {
     let input = joined(alloc, row.front, row.filler, row.times, row.back)?;
-    is_told(alloc, &input, row.told, row.ends)
+    is_reply_as_expected(alloc, &input, row.told, row.ends)
 }
 
 /// Checks the limits of requests.
 pub fn requests_have_limits(alloc: Global) -> Result<(), Stop> {
     for (place, row) in LONG.iter().enumerate() {
-        expect(is_long_told(alloc, row)?, "row", place)?;
+        expect(is_limit_reported(alloc, row)?, "row", place)?;
     }
     Ok(())
 }
@@ -199,15 +199,15 @@ fn nested(alloc: Global, row: &Deep) -> Result<Vec<u8>, AllocError> {
     Ok(input)
 }
 
-fn is_deep_told(alloc: Global, row: &Deep) -> Result<bool, Stop> {
+fn is_depth_reported(alloc: Global, row: &Deep) -> Result<bool, Stop> {
     let input = nested(alloc, row)?;
-    is_told(alloc, &input, Told::Fault(row.fault), false)
+    is_reply_as_expected(alloc, &input, ExpectedReply::Fault(row.fault), false)
 }
 
 /// Checks that arrays may be nested to this depth, and not deeper.
-pub fn bodies_are_so_deep(alloc: Global) -> Result<(), Stop> {
+pub fn bodies_have_depth_limits(alloc: Global) -> Result<(), Stop> {
     for row in DEEP {
-        expect(is_deep_told(alloc, row)?, "depth", row.depth)?;
+        expect(is_depth_reported(alloc, row)?, "depth", row.depth)?;
     }
     Ok(())
 }

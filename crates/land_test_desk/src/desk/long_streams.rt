@@ -3,7 +3,7 @@ use crate::desk::office::{Office, is_answered};
 use land_keep::plain_keeper::PlainKeeper;
 use land_test_scenario::scenario::STEPS;
 use land_test_scenario::stop::{Stop, expect};
-use land_test_scenario::talk::{Talk, Told};
+use land_test_scenario::talk::{Transcript, ExpectedReply};
 use std::alloc::{AllocError, Global};
 use std::fmt::Write;
 
@@ -23,7 +23,7 @@ const LIST: &[u8] =
 const NO_ROUTE: &[u8] = b"GET / HTTP/1.1\r\n\r\n";
 
 /// Appends the enrolment of a party: party 2 at 1000, each next one a millisecond later.
-fn ask_enrolment(talk: &mut Talk, text: &mut String, party: u64) -> Result<(), AllocError> {
+fn ask_enrolment(talk: &mut Transcript, text: &mut String, party: u64) -> Result<(), AllocError> {
     let stamp = party.saturating_add(998);
     text.clear();
     write!(
@@ -31,11 +31,11 @@ fn ask_enrolment(talk: &mut Talk, text: &mut String, party: u64) -> Result<(), A
         "{{\"made\":[{party}],\"number\":{party},\"stamp\":{stamp}}}"
     )?;
     talk.input.extend_from_slice(ENROLMENT)?;
-    talk.tell_text(text.as_str())
+    talk.expect_object(text.as_str())
 }
 
 /// Appends the list of the parties up to this one.
-fn ask_list(talk: &mut Talk, text: &mut String, party: u64) -> Result<(), AllocError> {
+fn ask_list(talk: &mut Transcript, text: &mut String, party: u64) -> Result<(), AllocError> {
     text.clear();
     text.push_str("{\"numbers\":[1")?;
     for number in 2..=party {
@@ -43,22 +43,22 @@ fn ask_list(talk: &mut Talk, text: &mut String, party: u64) -> Result<(), AllocE
     }
     text.push_str("]}")?;
     talk.input.extend_from_slice(LIST)?;
-    talk.tell_text(text.as_str())
+    talk.expect_object(text.as_str())
 }
 
-fn ask_a_hundred(talk: &mut Talk, text: &mut String, party: u64) -> Result<(), AllocError> {
+fn ask_a_hundred(talk: &mut Transcript, text: &mut String, party: u64) -> Result<(), AllocError> {
     ask_enrolment(talk, text, party)?;
     ask_list(talk, text, party)?;
     for _ in 0..98 {
         talk.input.extend_from_slice(NO_ROUTE)?;
-        talk.tell(Told::Fault(136), false)?;
+        talk.tell(ExpectedReply::Fault(136), false)?;
     }
     Ok(())
 }
 
 /// Checks that the requests of these parties get their replies.
 fn are_hundreds_answered(alloc: Global, parties: u64) -> Result<bool, Stop> {
-    let mut talk = Talk::new(alloc)?;
+    let mut talk = Transcript::new(alloc)?;
     let mut text = String::with_capacity(alloc, 256)?;
     for place in 0..parties {
         ask_a_hundred(&mut talk, &mut text, place.saturating_add(2))?;
@@ -81,19 +81,19 @@ pub fn twenty_thousand_requests_are_answered(alloc: Global) -> Result<(), Stop> 
 /// Returns the name and the index of the first of ten requests whose reply differs if bytes arrive one at a
 /// time.
 fn wrong_byte_by_byte(alloc: Global) -> Result<Option<(&'static str, usize)>, Stop> {
-    let mut talk = Talk::new(alloc)?;
+    let mut talk = Transcript::new(alloc)?;
     for (place, step) in STEPS.iter().take(10).enumerate() {
         talk.ask("the scenario", place, step)?;
     }
     let mut keeper = PlainKeeper::new(alloc)?;
     let mut office = Office::of(&mut keeper);
-    office.first_wrong(alloc, &talk, 1)
+    office.first_mismatch(alloc, &talk, 1)
 }
 
 /// Checks requests that arrive byte by byte.
 pub fn bytes_come_one_by_one(alloc: Global) -> Result<(), Stop> {
     match wrong_byte_by_byte(alloc)? {
-        Some((name, place)) => Err(Stop::Unlike(name, place)),
+        Some((name, place)) => Err(Stop::Mismatch(name, place)),
         None => Ok(()),
     }
 }

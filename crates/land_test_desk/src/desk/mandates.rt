@@ -4,8 +4,8 @@ use land_keep::plain_keeper::PlainKeeper;
 use land_test_scenario::mandates::MANDATES;
 use land_test_scenario::scenario::STEPS;
 use land_test_scenario::stop::Stop;
-use land_test_scenario::talk::Told::Fault;
-use land_test_scenario::talk::{ANNA, BEN, NOTARY, Row, Talk};
+use land_test_scenario::talk::ExpectedReply::Fault;
+use land_test_scenario::talk::{ANNA, BEN, NOTARY, Row, Transcript};
 use std::alloc::{AllocError, Global};
 
 /// Bodies are read before the policy is checked: kinds of fields, and which fields exist.
@@ -30,8 +30,8 @@ const READING: &[Row] = &[
     Row("GET /acts/mandate", ANNA, b"", Fault(137)),
 ];
 
-fn talk(alloc: Global) -> Result<Talk, AllocError> {
-    let mut talk = Talk::new(alloc)?;
+fn talk(alloc: Global) -> Result<Transcript, AllocError> {
+    let mut talk = Transcript::new(alloc)?;
     for (place, step) in STEPS.iter().take(12).enumerate() {
         talk.ask("the scenario", place, step)?;
     }
@@ -41,17 +41,17 @@ fn talk(alloc: Global) -> Result<Talk, AllocError> {
 }
 
 /// Returns the name and the index of the first request whose reply differs.
-fn first_wrong(alloc: Global) -> Result<Option<(&'static str, usize)>, Stop> {
+fn first_mismatch(alloc: Global) -> Result<Option<(&'static str, usize)>, Stop> {
     let talk = talk(alloc)?;
     let mut keeper = PlainKeeper::new(alloc)?;
     let mut office = Office::of(&mut keeper);
-    office.first_wrong(alloc, &talk, 1000)
+    office.first_mismatch(alloc, &talk, 1000)
 }
 
 /// Checks that mandates are created and withdrawn, that a citizen sees by them, and that bodies are read.
 pub fn mandates(alloc: Global) -> Result<(), Stop> {
-    match first_wrong(alloc)? {
-        Some((name, place)) => Err(Stop::Unlike(name, place)),
+    match first_mismatch(alloc)? {
+        Some((name, place)) => Err(Stop::Mismatch(name, place)),
         None => Ok(()),
     }
 }

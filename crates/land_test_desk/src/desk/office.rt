@@ -2,18 +2,18 @@
 use land_desk::serve::{DeskFault, Served, serve};
 use land_keep::keeper::Keeper;
 use land_keep::plain_keeper::PlainKeeper;
-use land_test_scenario::doubles::{Pieces, Readings, Sink};
-pub use land_test_scenario::playing::open_sink;
+use land_test_scenario::doubles::{ChunkReader, ClockReadings, Sink};
+pub use land_test_scenario::run_scenario::open_sink;
 use land_test_scenario::stop::Stop;
 pub use land_test_scenario::talk::common;
-use land_test_scenario::talk::{Talk, Told};
+use land_test_scenario::talk::{Transcript, ExpectedReply};
 use std::alloc::Global;
 
 /// A keeper with its clock.
 #[derive(Drop)]
 pub struct Office<'a, K> {
     pub keeper: &'a mut K,
-    pub clock: Readings,
+    pub clock: ClockReadings,
 }
 
 impl<'a, K: Keeper> Office<'a, K> {
@@ -21,7 +21,7 @@ impl<'a, K: Keeper> Office<'a, K> {
     pub fn of(keeper: &'a mut K) -> Office<'a, K> {
         Office {
             keeper,
-            clock: Readings { left: &[] },
+            clock: ClockReadings { left: &[] },
         }
     }
 
@@ -29,7 +29,7 @@ impl<'a, K: Keeper> Office<'a, K> {
     pub fn serve_from(
         &mut self,
         alloc: Global,
-        reader: &mut Pieces<'_>,
+        reader: &mut ChunkReader<'_>,
         writer: &mut Sink,
     ) -> Result<Served, DeskFault> {
         serve(alloc, reader, writer, self.keeper, &mut self.clock)
@@ -39,7 +39,7 @@ impl<'a, K: Keeper> Office<'a, K> {
     pub fn serve(
         &mut self,
         alloc: Global,
-        reader: Pieces<'_>,
+        reader: ChunkReader<'_>,
         writer: &mut Sink,
     ) -> Result<Served, DeskFault> {
         let mut reader = reader;
@@ -48,7 +48,7 @@ impl<'a, K: Keeper> Office<'a, K> {
 
     /// Checks that the input, in chunks of this size, gets exactly these bytes, which are this number of
     /// replies. Returns an error if memory ran out.
-    pub fn answers(
+    pub fn gives_replies(
         &mut self,
         alloc: Global,
         input: &[u8],
@@ -57,13 +57,13 @@ impl<'a, K: Keeper> Office<'a, K> {
         answer: &[u8],
     ) -> Result<bool, Stop> {
         let mut sink = open_sink(alloc, answer.len())?;
-        let reader = Pieces {
+        let reader = ChunkReader {
             left: input,
             piece,
             reads: u64::MAX,
         };
         let served = self.serve(alloc, reader, &mut sink);
-        if is_want_of_memory(&served, &sink.taken, answer) {
+        if is_out_of_memory(&served, &sink.taken, answer) {
             return Err(Stop::Memory);
         }
         Ok(served == Ok(Served { replies }) && sink.taken.as_slice() == answer)
@@ -71,28 +71,28 @@ impl<'a, K: Keeper> Office<'a, K> {
 
     /// Returns the name and the index of the first row whose reply differs, if any. The input arrives in
     /// chunks.
-    pub fn first_wrong(
+    pub fn first_mismatch(
         &mut self,
         alloc: Global,
-        talk: &Talk,
+        talk: &Transcript,
         piece: usize,
     ) -> Result<Option<(&'static str, usize)>, Stop> {
         let mut sink = open_sink(alloc, talk.output.len())?;
-        let reader = Pieces {
+        let reader = ChunkReader {
             left: talk.input.as_slice(),
             piece,
             reads: u64::MAX,
         };
         let served = self.serve(alloc, reader, &mut sink);
-        if is_want_of_memory(&served, &sink.taken, talk.output.as_bytes()) {
+        if is_out_of_memory(&served, &sink.taken, talk.output.as_bytes()) {
             return Err(Stop::Memory);
         }
-        Ok(talk.first_wrong(&served, &sink.taken))
+        Ok(talk.first_mismatch(&served, &sink.taken))
     }
 }
 
 /// Checks whether memory ran out: serving stopped for it, or the first reply that differs has the status 503.
-pub fn is_want_of_memory(served: &Result<Served, DeskFault>, taken: &[u8], wanted: &[u8]) -> bool {
+pub fn is_out_of_memory(served: &Result<Served, DeskFault>, taken: &[u8], wanted: &[u8]) -> bool {
     if *served == Err(DeskFault::NoMemory) {
         return true;
     }
@@ -111,13 +111,13 @@ pub fn is_answered(
 ) -> Result<bool, Stop> {
     let mut keeper = PlainKeeper::new(alloc)?;
     let mut office = Office::of(&mut keeper);
-    office.answers(alloc, input, piece, replies, answer)
+    office.gives_replies(alloc, input, piece, replies, answer)
 }
 
 /// Checks that a new server gives this reply to the input, which is one item, and whether it closes the
 /// connection.
-pub fn is_told(alloc: Global, input: &[u8], told: Told, ends: bool) -> Result<bool, Stop> {
-    let mut talk = Talk::new(alloc)?;
+pub fn is_reply_as_expected(alloc: Global, input: &[u8], told: ExpectedReply, ends: bool) -> Result<bool, Stop> {
+    let mut talk = Transcript::new(alloc)?;
     talk.tell(told, ends)?;
     is_answered(alloc, input, 50, 1, talk.output.as_bytes())
 }

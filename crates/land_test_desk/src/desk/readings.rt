@@ -12,7 +12,7 @@ use land_wire_json::bodies::wire_fault::WireFault;
 use std::alloc::Global;
 
 /// Returns an error if a field was not appended.
-fn put(outcome: Result<(), FieldFault>) -> Result<(), Stop> {
+fn require_appended(outcome: Result<(), FieldFault>) -> Result<(), Stop> {
     match outcome {
         Ok(()) => Ok(()),
         Err(FieldFault::NoMemory) => Err(Stop::Memory),
@@ -23,9 +23,9 @@ fn put(outcome: Result<(), FieldFault>) -> Result<(), Stop> {
 /// Returns the fields with the operator as the caller.
 fn office_fields(alloc: Global) -> Result<HeaderMap, Stop> {
     let mut fields = HeaderMap::new(alloc);
-    put(append_field(alloc, &mut fields, b"Register-Party", b"1"))?;
+    require_appended(append_field(alloc, &mut fields, b"Register-Party", b"1"))?;
     let role = b"stateAdministrator";
-    put(append_field(alloc, &mut fields, b"Register-Role", role))?;
+    require_appended(append_field(alloc, &mut fields, b"Register-Role", role))?;
     Ok(fields)
 }
 

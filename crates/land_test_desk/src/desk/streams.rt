@@ -2,17 +2,17 @@
 ghost use Rattle.land_wire.specs.Framing.Items.{IsRequestIn};
 
 use crate::desk::long_requests::joined;
-use crate::desk::office::is_told;
+use crate::desk::office::is_reply_as_expected;
 use httparse::spans::{EMPTY_HEADER_SPAN, HeaderSpan, RequestSpans};
-use land_streams::buffer::drop_front;
+use land_streams::buffer::consume_front;
 use land_streams::counted_reader::CountedReader;
 use land_streams::stream_fault::StreamFault;
-use land_test_scenario::doubles::Pieces;
+use land_test_scenario::doubles::ChunkReader;
 use land_test_scenario::stop::{Stop, expect};
-use land_test_scenario::talk::Told;
-use land_wire::framing::connection::{ends, is_head};
+use land_test_scenario::talk::ExpectedReply;
+use land_wire::framing::connection::{wants_close, is_head};
 use land_wire::framing::head::FIELD_ROOM;
-use land_wire::framing::item::{Front, read_item};
+use land_wire::framing::item::{NextItem, read_item};
 use land_wire::framing::listing::item_count;
 use std::alloc::{AllocError, Global};
 use std::io::Read;
@@ -569,7 +569,7 @@ impl Reading {
     }
 
     /// Reads the first item, and discards nothing.
-    fn front<R: Read>(&mut self, reader: &mut CountedReader<'_, R>) -> Result<Front, StreamFault> {
+    fn front<R: Read>(&mut self, reader: &mut CountedReader<'_, R>) -> Result<NextItem, StreamFault> {
         if self.headers.len() < FIELD_ROOM {
             return Err(StreamFault::NoMemory);
         }
@@ -588,11 +588,11 @@ impl Reading {
         match read_item(reader, &mut self.buffer, &mut self.headers) {
             Err(StreamFault::NoMemory) => Err(Stop::Memory),
             Err(StreamFault::Read) => Ok(false),
-            Ok(Front::End) => Ok(matches!(item, Item::End)),
-            Ok(Front::Fault(fault)) => Ok(is_fault(item, fault.number())),
-            Ok(Front::Request(spans, length)) => {
+            Ok(NextItem::End) => Ok(matches!(item, Item::End)),
+            Ok(NextItem::Fault(fault)) => Ok(is_fault(item, fault.number())),
+            Ok(NextItem::Request(spans, length)) => {
                 let is = is_request(item, &self.buffer, &self.headers, &spans, length);
-                drop_front(&mut self.buffer, spans.len + length);
+                consume_front(&mut self.buffer, spans.len + length);
                 Ok(is)
             }
         }
@@ -600,9 +600,9 @@ impl Reading {
 }
 
 /// Returns a reader of a stream in chunks of this size, which does not fail.
-fn whole(left: &[u8], piece: usize) -> Pieces<'_> {
+fn whole(left: &[u8], piece: usize) -> ChunkReader<'_> {
     let reads = u64::MAX;
-    Pieces { left, piece, reads }
+    ChunkReader { left, piece, reads }
 }
 
 fn is_fault(item: &Item, number: u16) -> bool {
@@ -628,7 +628,7 @@ fn is_request(
                 && spans.path.of(buffer) == wanted.target
                 && &buffer[spans.len..spans.len + length] == wanted.body
                 && is_head(spans, buffer, headers) == wanted.is_head
-                && ends(spans, buffer, headers) == wanted.is_last
+                && wants_close(spans, buffer, headers) == wanted.is_last
         }
         _ => false,
     }
@@ -687,14 +687,14 @@ fn are_counted(alloc: Global, row: &Stream) -> Result<bool, Stop> {
 /// closes.
 fn is_refused(alloc: Global, row: &Stream) -> Result<bool, Stop> {
     match row.items {
-        [item] => is_item_told(alloc, row.bytes, item),
+        [item] => is_item_reported(alloc, row.bytes, item),
         _ => Ok(true),
     }
 }
 
-fn is_item_told(alloc: Global, bytes: &[u8], item: &Item) -> Result<bool, Stop> {
+fn is_item_reported(alloc: Global, bytes: &[u8], item: &Item) -> Result<bool, Stop> {
     match item {
-        Item::Fault(number) => is_told(alloc, bytes, Told::Fault(*number), true),
+        Item::Fault(number) => is_reply_as_expected(alloc, bytes, ExpectedReply::Fault(*number), true),
         _ => Ok(true),
     }
 }
@@ -739,7 +739,7 @@ fn is_unread(alloc: Global, budget: u64) -> Result<bool, Stop> {
 /// Checks that a reader that fails after this number of chunks of ten bytes yields a failed read.
 fn is_failed(alloc: Global, reads: u64) -> Result<bool, Stop> {
     let left = b"POST / HTTP/1.1\r\nContent-Length: 5\r\n\r\nhello".as_slice();
-    let mut pieces = Pieces {
+    let mut pieces = ChunkReader {
         left,
         piece: 10,
         reads,
@@ -766,7 +766,7 @@ pub fn readers_fail(alloc: Global) -> Result<(), Stop> {
 const TWO: &[u8] = b"GET / HTTP/1.1\r\n\r\nGET / HTTP/1.1\r\n\r\n";
 
 /// Checks that one read finds both requests of a chunk, and only a second read finds the end.
-fn is_asked_once(alloc: Global) -> Result<bool, Stop> {
+fn is_read_once(alloc: Global) -> Result<bool, Stop> {
     let mut pieces = whole(TWO, 4096);
     let mut reader = CountedReader::with_budget(&mut pieces, 1);
     let mut stream = Reading::new(alloc)?;
@@ -778,6 +778,6 @@ fn is_asked_once(alloc: Global) -> Result<bool, Stop> {
 }
 
 /// Checks that bytes read ahead are not read again.
-pub fn what_was_read_ahead_is_not_read_again(alloc: Global) -> Result<(), Stop> {
-    expect(is_asked_once(alloc)?, "reads", 0)
+pub fn read_ahead_is_not_read_again(alloc: Global) -> Result<(), Stop> {
+    expect(is_read_once(alloc)?, "reads", 0)
 }

@@ -1,5 +1,5 @@
 //! The rows of extracts.
-use crate::wire::sheets::{Says, class, ring, text};
+use crate::wire::sheets::{EntryContent, class, ring, text};
 use land_core::content::{Content, Discharge};
 use land_core::kind::{Kind, PartyKind};
 use land_core::mutation::{Mutation, MutationState};
@@ -38,7 +38,7 @@ enum Shown {
     Party(PartyKind, &'static str),
     Unit(bool, &'static str),
     Parcel(&'static str, &'static str),
-    Entry(Says),
+    Entry(EntryContent),
     Source(SourceKind, &'static str),
     Mutation(MutationState, &'static str),
 }
@@ -75,31 +75,31 @@ const ROWS: &[Row] = &[
     ),
     Row(
         13,
-        Shown::Entry(Says::Right(RightType::Lease, 1, 1)),
+        Shown::Entry(EntryContent::Right(RightType::Lease, 1, 1)),
         "Sam",
         "13,9,6,Sam,lease,1/1,,,,,8\n",
     ),
     Row(
         12,
-        Shown::Entry(Says::Right(RightType::Usufruct, 6, 8)),
+        Shown::Entry(EntryContent::Right(RightType::Usufruct, 6, 8)),
         "A \"B\"",
         "12,9,6,\"A \"\"B\"\"\",usufruct,3/4,,,,,8\n",
     ),
     Row(
         16,
-        Shown::Entry(Says::Mortgage),
+        Shown::Entry(EntryContent::Mortgage),
         "Bank, \"North\"",
         "16,9,6,\"Bank, \"\"North\"\"\",mortgage,,2500000,EUR,1,,8\n",
     ),
     Row(
         15,
-        Shown::Entry(Says::Restriction("No well, no hedge")),
+        Shown::Entry(EntryContent::Restriction("No well, no hedge")),
         "Land Office",
         "15,9,6,Land Office,restriction,,,,,\"No well, no hedge\",8\n",
     ),
     Row(
         1_000_000_000,
-        Shown::Entry(Says::Responsibility("Keep the hedge")),
+        Shown::Entry(EntryContent::Responsibility("Keep the hedge")),
         "Sam",
         "1000000000,9,6,Sam,responsibility,,,,,Keep the hedge,8\n",
     ),
@@ -150,7 +150,7 @@ fn parcel(alloc: Global, number: u64, label: &str, outline: &str) -> Result<Obje
     }))
 }
 
-fn entry(alloc: Global, number: u64, says: Says) -> Result<Object, Stop> {
+fn entry(alloc: Global, number: u64, says: EntryContent) -> Result<Object, Stop> {
     Ok(Object::Rrr(Rrr {
         number,
         unit: 9,

@@ -264,7 +264,7 @@ const LISTS: &[Row] = &[
 ];
 
 /// Checks that text that is not JSON is fault 130.
-pub fn what_is_no_json_is_130(alloc: Global) -> Result<(), Stop> {
+pub fn invalid_json_is_130(alloc: Global) -> Result<(), Stop> {
     expect_faults(alloc, NO_JSON)
 }
 
@@ -289,7 +289,7 @@ pub fn wrong_texts_and_words_are_133_and_134(alloc: Global) -> Result<(), Stop> 
 }
 
 /// Checks that faults of lists come after those of their elements.
-pub fn wrong_lists_are_told_after_their_elements(alloc: Global) -> Result<(), Stop> {
+pub fn wrong_lists_are_reported_after_their_elements(alloc: Global) -> Result<(), Stop> {
     expect_faults(alloc, LISTS)
 }
 
@@ -317,7 +317,7 @@ pub fn levels_are_read_up_to_127(alloc: Global) -> Result<(), Stop> {
 }
 
 /// Checks that bytes that are not valid UTF-8 are fault 130.
-pub fn bytes_that_are_no_text_are_130(alloc: Global) -> Result<(), Stop> {
+pub fn invalid_utf8_is_130(alloc: Global) -> Result<(), Stop> {
     let body = b"{\"kind\":\"naturalPerson\",\"name\":\"\xff\"}";
     expect(fault_in(alloc, Reader::Enrol, body)? == 130, "fault", 130)
 }

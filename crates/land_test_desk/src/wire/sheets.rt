@@ -14,7 +14,7 @@ use std::alloc::{AllocError, Global};
 
 /// The content of an entry.
 #[derive(Clone, Copy)]
-pub enum Says {
+pub enum EntryContent {
     Right(RightType, u64, u64),
     Restriction(&'static str),
     Responsibility(&'static str),
@@ -22,37 +22,37 @@ pub enum Says {
 }
 
 /// A parcel by its number, its label and its outline.
-struct Land(u64, &'static str, &'static str);
+struct ParcelRow(u64, &'static str, &'static str);
 
 /// An entry by its number, its content, and its party by number and name.
-struct Entry(u64, Says, u64, &'static str);
+struct Entry(u64, EntryContent, u64, &'static str);
 
 /// A unit at a moment, by its number and its name, and whether its shares are checked.
-struct Picture {
+struct SheetRow {
     unit: u64,
     name: &'static str,
     checked: bool,
     at: i64,
-    parcels: &'static [Land],
+    parcels: &'static [ParcelRow],
     entries: &'static [Entry],
     sheet: &'static str,
 }
 
-const PICTURES: &[Picture] = &[
-    Picture {
+const PICTURES: &[SheetRow] = &[
+    SheetRow {
         unit: 9,
         name: "Garden",
         checked: true,
         at: 1017,
-        parcels: &[Land(
+        parcels: &[ParcelRow(
             24,
             "12a",
             "POLYGON ((0 0, 5000 0, 5000 10000, 0 10000, 0 0))",
         )],
         entries: &[
-            Entry(13, Says::Right(RightType::Lease, 1, 1), 6, "Sam"),
-            Entry(16, Says::Mortgage, 4, "Bank, \"North\""),
-            Entry(21, Says::Right(RightType::Ownership, 1, 1), 3, "Ben"),
+            Entry(13, EntryContent::Right(RightType::Lease, 1, 1), 6, "Sam"),
+            Entry(16, EntryContent::Mortgage, 4, "Bank, \"North\""),
+            Entry(21, EntryContent::Right(RightType::Ownership, 1, 1), 3, "Ben"),
         ],
         sheet: "TITLE SHEET
 Unit 9 Garden
@@ -69,30 +69,30 @@ END
 ",
     },
     // The widest numbers, a maximum and a minimum area, and texts with more bytes than characters.
-    Picture {
+    SheetRow {
         unit: 1_000_000_000,
         name: "Zoë's Hof",
         checked: false,
         at: 951_782_400_000,
         parcels: &[
-            Land(
+            ParcelRow(
                 1,
                 "Äcker 1",
                 "POLYGON ((0 0, 1000000000 0, 0 1000000000, 0 0))",
             ),
-            Land(1_000_000_000, "b", "POLYGON ((0 0, 1 0, 0 1, 0 0))"),
+            ParcelRow(1_000_000_000, "b", "POLYGON ((0 0, 1 0, 0 1, 0 0))"),
         ],
         entries: &[
             Entry(
                 7,
-                Says::Right(RightType::Usufruct, 1, 3),
+                EntryContent::Right(RightType::Usufruct, 1, 3),
                 1_000_000_000,
                 "Zoë",
             ),
-            Entry(8, Says::Restriction("No well"), 2, "漢字"),
+            Entry(8, EntryContent::Restriction("No well"), 2, "漢字"),
             Entry(
                 1_000_000_000,
-                Says::Responsibility("Keep the hedge"),
+                EntryContent::Responsibility("Keep the hedge"),
                 3,
                 "Sam",
             ),
@@ -113,12 +113,12 @@ END
 ",
     },
     // The caller sees only the parcel, at the last moment.
-    Picture {
+    SheetRow {
         unit: 2,
         name: "Yard",
         checked: true,
         at: LAST_MOMENT,
-        parcels: &[Land(
+        parcels: &[ParcelRow(
             3,
             "1",
             "polygon((0.0 0, 10000 0,10000 10000, 0 10000, 0 0))",
@@ -164,19 +164,19 @@ pub fn ring(alloc: Global, outline: &str) -> Result<Ring, Stop> {
 }
 
 /// Returns the class of an entry.
-pub fn class(alloc: Global, says: Says) -> Result<Class, Stop> {
+pub fn class(alloc: Global, says: EntryContent) -> Result<Class, Stop> {
     match says {
-        Says::Right(right_type, parts, whole) => match Fraction::new(parts, whole) {
+        EntryContent::Right(right_type, parts, whole) => match Fraction::new(parts, whole) {
             Ok(share) => Ok(Class::Right { right_type, share }),
             Err(_) => Err(Stop::Call),
         },
-        Says::Restriction(words) => Ok(Class::Restriction {
+        EntryContent::Restriction(words) => Ok(Class::Restriction {
             words: text(alloc, words)?,
         }),
-        Says::Responsibility(words) => Ok(Class::Responsibility {
+        EntryContent::Responsibility(words) => Ok(Class::Responsibility {
             words: text(alloc, words)?,
         }),
-        Says::Mortgage => Ok(Class::Mortgage {
+        EntryContent::Mortgage => Ok(Class::Mortgage {
             amount: 2_500_000,
             currency: text(alloc, "EUR")?,
             rank: 1,
@@ -184,7 +184,7 @@ pub fn class(alloc: Global, says: Says) -> Result<Class, Stop> {
     }
 }
 
-fn parcel(alloc: Global, land: &Land) -> Result<Parcel, Stop> {
+fn parcel(alloc: Global, land: &ParcelRow) -> Result<Parcel, Stop> {
     let outline = ring(alloc, land.2)?;
     Ok(Parcel {
         number: land.0,
@@ -195,7 +195,7 @@ fn parcel(alloc: Global, land: &Land) -> Result<Parcel, Stop> {
     })
 }
 
-fn parcels(alloc: Global, lands: &[Land], times: usize) -> Result<Sequence<Parcel>, Stop> {
+fn parcels(alloc: Global, lands: &[ParcelRow], times: usize) -> Result<Sequence<Parcel>, Stop> {
     let mut parcels = Sequence::new(alloc);
     for _ in 0..times {
         for land in lands {
@@ -228,7 +228,7 @@ fn entries(alloc: Global, rows: &[Entry]) -> Result<Sequence<NamedRrr>, Stop> {
 }
 
 /// Returns the sheet of a view whose moment is valid.
-fn told(alloc: Global, view: &View) -> Result<String, Stop> {
+fn write_sheet(alloc: Global, view: &View) -> Result<String, Stop> {
     if view.at < 0 || LAST_MOMENT < view.at {
         return Err(Stop::Call);
     }
@@ -236,7 +236,7 @@ fn told(alloc: Global, view: &View) -> Result<String, Stop> {
 }
 
 /// Returns the sheet of a row at a moment, with its parcels repeated.
-fn sheet(alloc: Global, picture: &Picture, at: i64, times: usize) -> Result<String, Stop> {
+fn sheet(alloc: Global, picture: &SheetRow, at: i64, times: usize) -> Result<String, Stop> {
     let parcels = parcels(alloc, picture.parcels, times)?;
     let rrrs = entries(alloc, picture.entries)?;
     let unit = Unit {
@@ -250,7 +250,7 @@ fn sheet(alloc: Global, picture: &Picture, at: i64, times: usize) -> Result<Stri
         rrrs,
         at,
     };
-    told(alloc, &view)
+    write_sheet(alloc, &view)
 }
 
 /// Checks sheets.

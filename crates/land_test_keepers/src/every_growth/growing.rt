@@ -4,10 +4,10 @@ use crate::serving::serve_stream;
 use land_desk::serve::{DeskFault, Served};
 use land_keep::keeper::Keeper;
 use land_test_scenario::doubles::Sink;
-use land_test_scenario::playing::{open_sink, play};
+use land_test_scenario::run_scenario::{open_sink, play};
 use land_test_scenario::scenario::{MORE, STEPS};
 use land_test_scenario::stop::{Stop, expect};
-use land_test_scenario::talk::{Row, Talk};
+use land_test_scenario::talk::{Row, Transcript};
 use std::alloc::{AllocError, Global};
 
 /// The reply of error 501. The connection stays open.
@@ -23,8 +23,8 @@ fn step(place: usize) -> Option<&'static Row> {
 }
 
 /// Returns a range of steps, as requests.
-fn some_steps(alloc: Global, first: usize, end: usize) -> Result<Talk, AllocError> {
-    let mut talk = Talk::new(alloc)?;
+fn some_steps(alloc: Global, first: usize, end: usize) -> Result<Transcript, AllocError> {
+    let mut talk = Transcript::new(alloc)?;
     for place in first..end {
         if let Some(step) = step(place) {
             talk.ask("a step", place, step)?;
@@ -51,17 +51,17 @@ fn ended(served: &Result<Served, DeskFault>) -> bool {
 
 /// Checks if the request got its own reply. Returns an error for any reply but that and 501.
 fn got_its_own(
-    talk: &Talk,
+    talk: &Transcript,
     served: &Result<Served, DeskFault>,
     taken: &[u8],
 ) -> Result<bool, Stop> {
     if taken == talk.output.as_bytes() && ended(served) {
         return Ok(true);
     }
-    let is_told = taken == NO_ROOM && ended(served);
+    let has_expected_reply = taken == NO_ROOM && ended(served);
     let is_cut = taken.is_empty() && *served == Err(DeskFault::NoMemory);
     expect(
-        is_told || is_cut,
+        has_expected_reply || is_cut,
         "its own reply, or none for want of memory",
         0,
     )?;

@@ -10,7 +10,7 @@ use land_keep::store_fault::StoreFault;
 use land_select::sql_keeper::SqlKeeper;
 use land_sheet::extracts::extract::extract_to;
 use land_sheet::extracts::fault::ExtractFault;
-use land_test_scenario::playing::{plain, play_steps};
+use land_test_scenario::run_scenario::{plain, play_steps};
 use land_test_scenario::stop::{Stop, expect};
 use std::alloc::Global;
 
@@ -113,7 +113,7 @@ const EXTRACTS: &[Extract] = &[
 ];
 
 /// Checks if a page has a text or, if out of memory, its prefix of the reported length.
-fn has_front(page: &Page, text: &str, written: u64) -> bool {
+fn has_prefix(page: &Page, text: &str, written: u64) -> bool {
     let taken = page.taken.as_slice();
     taken.len() as u64 == written && text.as_bytes().starts_with(taken)
 }
@@ -132,7 +132,7 @@ fn pass_memory(
                 written,
             },
         ) => {
-            expect(has_front(page, text, written), "a front", place)?;
+            expect(has_prefix(page, text, written), "a front", place)?;
             Err(Stop::Memory)
         }
         _ => Ok(()),
@@ -184,7 +184,7 @@ fn compare_cut<K: Keeper>(
     let written = room as u64;
     let is_cut = told == Err(ExtractFault::Write { written });
     expect(
-        is_cut && has_front(&page, texts::ENTRIES, written),
+        is_cut && has_prefix(&page, texts::ENTRIES, written),
         "a cut",
         room,
     )

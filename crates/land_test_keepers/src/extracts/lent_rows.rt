@@ -7,8 +7,8 @@ use land_core::role::Role;
 use land_keep::keeper::Keeper;
 use land_keep::named::NamedObject;
 use land_select::sql_keeper::SqlKeeper;
-use land_sheet::extracts::seen::{Seen, each_seen, numbers_seen};
-use land_test_scenario::playing::{plain, play_steps};
+use land_sheet::extracts::seen::{Seen, each_seen, visible_numbers};
+use land_test_scenario::run_scenario::{plain, play_steps};
 use land_test_scenario::stop::{Stop, expect};
 use std::alloc::Global;
 
@@ -61,7 +61,7 @@ fn are_lent<K: Keeper>(seen: &mut Seen<'_, K>) -> Result<(), Stop> {
 /// Checks the rows that a keeper lends.
 fn are_lent_by<K: Keeper>(alloc: Global, keeper: &mut K) -> Result<(), Stop> {
     let last = keeper.last();
-    let numbers = numbers_seen(alloc, keeper, BEN, Kind::Rrr, last)?;
+    let numbers = visible_numbers(alloc, keeper, BEN, Kind::Rrr, last)?;
     let mut seen = each_seen(alloc, keeper, &numbers, Kind::Rrr, last);
     are_lent(&mut seen)
 }

@@ -77,7 +77,7 @@ impl Reply {
     }
 
     /// Checks if the view is returned now.
-    fn is_shown<K: Keeper>(&self, alloc: Global, keeper: &mut K) -> Result<bool, Stop> {
+    fn has_expected_object<K: Keeper>(&self, alloc: Global, keeper: &mut K) -> Result<bool, Stop> {
         let last = keeper.last();
         match self.3 {
             Shown::Object(kind, number) => Ok(keeper.object(alloc, kind, number, last)?.is_some()),
@@ -110,14 +110,14 @@ fn is_shown_once<K: Keeper>(
     reply: &Reply,
 ) -> Result<(), Stop> {
     expect(reply.is_allowed(alloc, keeper)?, reply.0, place)?;
-    expect(reply.is_shown(alloc, keeper)?, reply.0, place)?;
-    expect(reply.is_shown(alloc, keeper)?, reply.0, place)?;
+    expect(reply.has_expected_object(alloc, keeper)?, reply.0, place)?;
+    expect(reply.has_expected_object(alloc, keeper)?, reply.0, place)?;
     mark(rt, reply.0)?;
-    expect(reply.is_shown(alloc, keeper)?, reply.0, place)?;
+    expect(reply.has_expected_object(alloc, keeper)?, reply.0, place)?;
     mark(rt, "the verdict")?;
     expect(reply.is_allowed(alloc, keeper)?, reply.0, place)?;
     mark(rt, "once it was judged")?;
-    expect(reply.is_shown(alloc, keeper)?, reply.0, place)?;
+    expect(reply.has_expected_object(alloc, keeper)?, reply.0, place)?;
     mark(rt, "what comes between")
 }
 

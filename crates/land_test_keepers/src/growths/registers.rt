@@ -7,7 +7,7 @@ use land_keep::reply::Reply;
 use land_select::sql_keeper::SqlKeeper;
 use land_tables::tables::Tables;
 use land_test_scenario::first::first_request;
-use land_test_scenario::playing::play_steps;
+use land_test_scenario::run_scenario::play_steps;
 use land_test_scenario::stop::Stop;
 use sqlite::MemStore;
 use std::alloc::Global;

@@ -33,7 +33,7 @@ fn number_of(object: &Object) -> u64 {
 }
 
 /// Checks if an object exists now.
-fn is_shown<K: Keeper>(alloc: Global, keeper: &mut K, shown: &Shown) -> Result<bool, Stop> {
+fn has_expected_object<K: Keeper>(alloc: Global, keeper: &mut K, shown: &Shown) -> Result<bool, Stop> {
     let last = keeper.last();
     match keeper.object(alloc, shown.1, shown.2, last)? {
         Some(object) => Ok(number_of(&object) == shown.2),
@@ -42,10 +42,10 @@ fn is_shown<K: Keeper>(alloc: Global, keeper: &mut K, shown: &Shown) -> Result<b
 }
 
 /// Checks that each object exists now.
-pub fn are_shown<K: Keeper>(rt: &impl Print, alloc: Global, keeper: &mut K) -> Result<(), Stop> {
+pub fn expect_objects<K: Keeper>(rt: &impl Print, alloc: Global, keeper: &mut K) -> Result<(), Stop> {
     for (place, shown) in SHOWN.iter().enumerate() {
         mark(rt, shown.0)?;
-        expect(is_shown(alloc, keeper, shown)?, shown.0, place)?;
+        expect(has_expected_object(alloc, keeper, shown)?, shown.0, place)?;
     }
     Ok(())
 }
@@ -60,7 +60,7 @@ const SHEETS: &[Sheet] = &[
 ];
 
 /// Checks if the garden's title sheet has the given number of entries now.
-fn has_entries<K: Keeper>(alloc: Global, keeper: &mut K, sheet: &Sheet) -> Result<bool, Stop> {
+fn has_expected_entries<K: Keeper>(alloc: Global, keeper: &mut K, sheet: &Sheet) -> Result<bool, Stop> {
     let last = keeper.last();
     let caller = Caller {
         party: sheet.1,
@@ -73,10 +73,10 @@ fn has_entries<K: Keeper>(alloc: Global, keeper: &mut K, sheet: &Sheet) -> Resul
 }
 
 /// Checks that each title sheet has its entries.
-pub fn have_entries<K: Keeper>(rt: &impl Print, alloc: Global, keeper: &mut K) -> Result<(), Stop> {
+pub fn expect_sheet_entries<K: Keeper>(rt: &impl Print, alloc: Global, keeper: &mut K) -> Result<(), Stop> {
     for (place, sheet) in SHEETS.iter().enumerate() {
         mark(rt, sheet.0)?;
-        expect(has_entries(alloc, keeper, sheet)?, sheet.0, place)?;
+        expect(has_expected_entries(alloc, keeper, sheet)?, sheet.0, place)?;
     }
     Ok(())
 }

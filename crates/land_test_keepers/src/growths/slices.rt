@@ -32,40 +32,40 @@ enum Asked {
 struct Sizes(usize, usize, usize);
 
 /// An act: its name, the caller, its role, the act, and the size of its slice.
-struct Sliced(&'static str, u64, Role, Asked, Sizes);
+struct SliceCase(&'static str, u64, Role, Asked, Sizes);
 
 /// Each slice has the office. An act on the garden has its three entries; an act on a party or with a
 /// creditor has that party.
-const SLICED: &[Sliced] = &[
-    Sliced(
+const SLICED: &[SliceCase] = &[
+    SliceCase(
         "for an enrolment",
         1,
         Role::StateAdministrator,
         Asked::Enrol,
         Sizes(1, 0, 0),
     ),
-    Sliced(
+    SliceCase(
         "for a grant",
         1,
         Role::StateAdministrator,
         Asked::Grant,
         Sizes(2, 0, 0),
     ),
-    Sliced(
+    SliceCase(
         "for an approval",
         1,
         Role::StateAdministrator,
         Asked::Approve,
         Sizes(2, 1, 3),
     ),
-    Sliced(
+    SliceCase(
         "for a lodging",
         4,
         Role::Bank,
         Asked::Discharge,
         Sizes(1, 1, 3),
     ),
-    Sliced(
+    SliceCase(
         "for a lift",
         1,
         Role::StateAdministrator,
@@ -128,20 +128,20 @@ fn gives<K: Keeper>(
 }
 
 /// Checks if the slice of an act has its expected size.
-fn is_given<K: Keeper>(alloc: Global, keeper: &mut K, sliced: &Sliced) -> Result<bool, Stop> {
+fn has_expected_slice<K: Keeper>(alloc: Global, keeper: &mut K, slice_case: &SliceCase) -> Result<bool, Stop> {
     let caller = Caller {
-        party: sliced.1,
-        role: sliced.2,
+        party: slice_case.1,
+        role: slice_case.2,
     };
-    let act = act_of(alloc, &sliced.3)?;
-    gives(alloc, keeper, caller, &act, sliced.4)
+    let act = act_of(alloc, &slice_case.3)?;
+    gives(alloc, keeper, caller, &act, slice_case.4)
 }
 
 /// Checks that the slice of each act has its expected size.
-pub fn are_given<K: Keeper>(rt: &impl Print, alloc: Global, keeper: &mut K) -> Result<(), Stop> {
-    for (place, sliced) in SLICED.iter().enumerate() {
-        mark(rt, sliced.0)?;
-        expect(is_given(alloc, keeper, sliced)?, sliced.0, place)?;
+pub fn expect_slices<K: Keeper>(rt: &impl Print, alloc: Global, keeper: &mut K) -> Result<(), Stop> {
+    for (place, slice_case) in SLICED.iter().enumerate() {
+        mark(rt, slice_case.0)?;
+        expect(has_expected_slice(alloc, keeper, slice_case)?, slice_case.0, place)?;
     }
     Ok(())
 }

@@ -8,7 +8,7 @@ use land_core::role::Role;
 use land_keep::keeper::Keeper;
 use land_select::sql_keeper::SqlKeeper;
 use land_tables::table_keeper::TableKeeper;
-use land_test_scenario::playing::play_steps;
+use land_test_scenario::run_scenario::play_steps;
 use land_test_scenario::stop::{Stop, expect};
 use std::alloc::Global;
 
@@ -103,7 +103,7 @@ const LISTS: &[List] = &[
 const LAST: i64 = 1017;
 
 /// Checks if a keeper returns the expected list.
-fn is_told<K: Keeper>(alloc: Global, keeper: &mut K, list: &List) -> Result<bool, Stop> {
+fn has_expected_reply<K: Keeper>(alloc: Global, keeper: &mut K, list: &List) -> Result<bool, Stop> {
     let caller = Caller {
         party: list.1,
         role: list.2,
@@ -114,14 +114,14 @@ fn is_told<K: Keeper>(alloc: Global, keeper: &mut K, list: &List) -> Result<bool
 
 /// Plays the scenario, and requests each list twice: first so that its SQL statements are planned, and then
 /// with a line printed before it. Prints a line after the last.
-fn are_told<K: Keeper>(rt: &impl Print, alloc: Global, keeper: &mut K) -> Result<(), Stop> {
+fn expect_replies<K: Keeper>(rt: &impl Print, alloc: Global, keeper: &mut K) -> Result<(), Stop> {
     play_steps(alloc, keeper)?;
     for (place, list) in LISTS.iter().enumerate() {
-        expect(is_told(alloc, keeper, list)?, list.0, place)?;
+        expect(has_expected_reply(alloc, keeper, list)?, list.0, place)?;
     }
     for (place, list) in LISTS.iter().enumerate() {
         mark(rt, list.0)?;
-        expect(is_told(alloc, keeper, list)?, list.0, place)?;
+        expect(has_expected_reply(alloc, keeper, list)?, list.0, place)?;
     }
     mark_end(rt)
 }
@@ -129,11 +129,11 @@ fn are_told<K: Keeper>(rt: &impl Print, alloc: Global, keeper: &mut K) -> Result
 /// Tests the lists on whole tables.
 pub fn lists_by_tables(rt: &impl Print, alloc: Global) -> Result<(), Stop> {
     let mut keeper = TableKeeper::new(new_tables(alloc)?);
-    are_told(rt, alloc, &mut keeper)
+    expect_replies(rt, alloc, &mut keeper)
 }
 
 /// Tests the lists with indexed queries.
 pub fn lists_by_joins(rt: &impl Print, alloc: Global) -> Result<(), Stop> {
     let mut keeper = SqlKeeper::new(new_tables(alloc)?);
-    are_told(rt, alloc, &mut keeper)
+    expect_replies(rt, alloc, &mut keeper)
 }

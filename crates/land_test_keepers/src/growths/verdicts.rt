@@ -7,7 +7,7 @@ use land_core::kind::Kind;
 use land_core::role::Role;
 use land_core::roles::Grant;
 use land_keep::keeper::Keeper;
-use land_keep::moments::named_moment;
+use land_keep::moments::explicit_moment;
 use land_rules::verdict::Verdict;
 use land_test_scenario::stop::{Stop, expect};
 use std::alloc::Global;
@@ -132,7 +132,7 @@ fn is_denied_by<K: Keeper>(
     rule: u8,
 ) -> Result<bool, Stop> {
     let now = keeper.last();
-    let at = named_moment(ask).unwrap_or(now);
+    let at = explicit_moment(ask).unwrap_or(now);
     if now < at {
         return Ok(false);
     }
@@ -141,7 +141,7 @@ fn is_denied_by<K: Keeper>(
 }
 
 /// Checks if a keeper returns the expected verdict.
-fn is_judged<K: Keeper>(
+fn has_expected_verdict<K: Keeper>(
     alloc: Global,
     keeper: &mut K,
     verdict_case: &VerdictCase,
@@ -155,11 +155,11 @@ fn is_judged<K: Keeper>(
 }
 
 /// Checks that each verdict is the expected one.
-pub fn are_judged<K: Keeper>(rt: &impl Print, alloc: Global, keeper: &mut K) -> Result<(), Stop> {
+pub fn expect_verdicts<K: Keeper>(rt: &impl Print, alloc: Global, keeper: &mut K) -> Result<(), Stop> {
     for (place, verdict_case) in JUDGED.iter().enumerate() {
         mark(rt, verdict_case.0)?;
         expect(
-            is_judged(alloc, keeper, verdict_case)?,
+            has_expected_verdict(alloc, keeper, verdict_case)?,
             verdict_case.0,
             place,
         )?;

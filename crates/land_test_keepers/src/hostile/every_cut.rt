@@ -4,7 +4,7 @@ use crate::hostile::stream::Stream;
 use land_desk::serve::{DeskFault, Served};
 use land_keep::keeper::Keeper;
 use land_test_scenario::calls::CUT;
-use land_test_scenario::first::{ANNA_IS_ENROLLED, ENROL_ANNA};
+use land_test_scenario::first::{ANNA_ENROLLED_RESPONSE, ENROL_ANNA_REQUEST};
 use land_test_scenario::stop::{Stop, expect};
 use std::alloc::Global;
 
@@ -23,7 +23,7 @@ const NOTHING: Stream<'static> = Stream {
 /// changes.
 fn cut_after(bytes: usize) -> Stream<'static> {
     Stream {
-        input: &ENROL_ANNA[..bytes.min(ENROL_ANNA.len())],
+        input: &ENROL_ANNA_REQUEST[..bytes.min(ENROL_ANNA_REQUEST.len())],
         piece: usize::MAX,
         reads: u64::MAX,
         writes: usize::MAX,
@@ -37,7 +37,7 @@ fn cut_after(bytes: usize) -> Stream<'static> {
 /// nothing changes.
 fn unread_after(bytes: usize) -> Stream<'static> {
     Stream {
-        input: ENROL_ANNA,
+        input: ENROL_ANNA_REQUEST,
         piece: 1,
         reads: bytes as u64,
         writes: usize::MAX,
@@ -49,12 +49,12 @@ fn unread_after(bytes: usize) -> Stream<'static> {
 
 /// All bytes, which arrive one by one.
 const WHOLE: Stream<'static> = Stream {
-    input: ENROL_ANNA,
+    input: ENROL_ANNA_REQUEST,
     piece: 1,
     reads: u64::MAX,
     writes: usize::MAX,
     ending: Ok(Served { replies: 1 }),
-    told: ANNA_IS_ENROLLED,
+    told: ANNA_ENROLLED_RESPONSE,
     last: 1000,
 };
 
@@ -66,10 +66,10 @@ struct EveryCut;
 impl Trial for EveryCut {
     fn run<K: Keeper>(&self, alloc: Global, keeper: &mut K) -> Result<(), Stop> {
         expect(NOTHING.is_served(alloc, keeper)?, "nothing", 0)?;
-        for bytes in 1..ENROL_ANNA.len() {
+        for bytes in 1..ENROL_ANNA_REQUEST.len() {
             expect(cut_after(bytes).is_served(alloc, keeper)?, "cut", bytes)?;
         }
-        for bytes in 0..ENROL_ANNA.len() {
+        for bytes in 0..ENROL_ANNA_REQUEST.len() {
             let is_unread = unread_after(bytes).is_served(alloc, keeper)?;
             expect(is_unread, "unread", bytes)?;
         }

@@ -5,19 +5,19 @@ use land_core::kind::Kind;
 use land_core::object::Object;
 use land_desk::serve::DeskFault;
 use land_keep::keeper::Keeper;
-use land_test_scenario::first::{ANNA_IS_ENROLLED, ENROL_ANNA};
+use land_test_scenario::first::{ANNA_ENROLLED_RESPONSE, ENROL_ANNA_REQUEST};
 use land_test_scenario::stop::{Stop, expect};
 use std::alloc::Global;
 
 /// A writer that fails after the given number of bytes: the enrolment exists.
 fn unwritten_after(bytes: usize) -> Stream<'static> {
     Stream {
-        input: ENROL_ANNA,
+        input: ENROL_ANNA_REQUEST,
         piece: usize::MAX,
         reads: u64::MAX,
         writes: bytes,
         ending: Err(DeskFault::Write),
-        told: &ANNA_IS_ENROLLED[..bytes.min(ANNA_IS_ENROLLED.len())],
+        told: &ANNA_ENROLLED_RESPONSE[..bytes.min(ANNA_ENROLLED_RESPONSE.len())],
         last: 1000,
     }
 }
@@ -48,7 +48,7 @@ impl Trial for Unwritten {
 
 /// Tests that an enrolment exists if its reply is truncated, for each length.
 pub fn every_write(alloc: Global) -> Result<(), Stop> {
-    for bytes in 0..ANNA_IS_ENROLLED.len() {
+    for bytes in 0..ANNA_ENROLLED_RESPONSE.len() {
         over_each(alloc, &Unwritten(bytes))?;
     }
     Ok(())

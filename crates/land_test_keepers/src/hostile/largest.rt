@@ -1,7 +1,7 @@
 //! The largest registration: 64 parcels with outlines of 200 points each.
 use crate::keepers::keepers::play_over_each;
 use land_test_scenario::stop::Stop;
-use land_test_scenario::talk::{OFFICE, Talk, Told};
+use land_test_scenario::talk::{OFFICE, Transcript, ExpectedReply};
 use std::alloc::{AllocError, Global};
 use std::fmt::Write;
 
@@ -56,7 +56,7 @@ fn write_unit(text: &mut String, crossed: Option<usize>) -> Result<(), AllocErro
 
 /// The office registers the unit, with at most one self-intersecting parcel.
 fn ask_registration(
-    talk: &mut Talk,
+    talk: &mut Transcript,
     text: &mut String,
     crossed: Option<usize>,
 ) -> Result<(), AllocError> {
@@ -65,14 +65,14 @@ fn ask_registration(
 }
 
 /// Expects the fault of a self-intersecting outline, in any parcel.
-fn ask_crossed(talk: &mut Talk, text: &mut String, parcel: usize) -> Result<(), AllocError> {
+fn ask_crossed(talk: &mut Transcript, text: &mut String, parcel: usize) -> Result<(), AllocError> {
     ask_registration(talk, text, Some(parcel))?;
-    talk.tell(Told::Fault(119), false)?;
+    talk.tell(ExpectedReply::Fault(119), false)?;
     talk.mark("a crossed outline", parcel)
 }
 
 /// Expects success without one: source 2, unit 3, the parcels, and the right.
-fn ask_whole(talk: &mut Talk, text: &mut String) -> Result<(), AllocError> {
+fn ask_whole(talk: &mut Transcript, text: &mut String) -> Result<(), AllocError> {
     ask_registration(talk, text, None)?;
     text.clear();
     text.push_str(r#"{"made":[2"#)?;
@@ -80,12 +80,12 @@ fn ask_whole(talk: &mut Talk, text: &mut String) -> Result<(), AllocError> {
         write!(text, ",{number}")?;
     }
     text.push_str(r#"],"number":3,"stamp":1000}"#)?;
-    talk.tell_text(text.as_str())?;
+    talk.expect_object(text.as_str())?;
     talk.mark("the registration", 0)
 }
 
 /// Expects the last parcel with its outline. If n is the last x, its doubled area is n(n + 1)(n - 1) / 3.
-fn ask_parcel(talk: &mut Talk, text: &mut String) -> Result<(), AllocError> {
+fn ask_parcel(talk: &mut Transcript, text: &mut String) -> Result<(), AllocError> {
     text.clear();
     write!(text, "GET /parcels/{LAST_PARCEL}")?;
     talk.push_request(text.as_str(), OFFICE, b"")?;
@@ -96,14 +96,14 @@ fn ask_parcel(talk: &mut Talk, text: &mut String) -> Result<(), AllocError> {
     )?;
     write_outline(text, false)?;
     text.push_str(r#"","source":2,"unit":3}}"#)?;
-    talk.tell_text(text.as_str())?;
+    talk.expect_object(text.as_str())?;
     talk.mark("the last parcel", 0)
 }
 
 /// Registers with a self-intersecting outline in the first and the last parcel, and then without one; then
 /// reads the parcel.
-fn registrations(alloc: Global) -> Result<Talk, AllocError> {
-    let mut talk = Talk::new(alloc)?;
+fn registrations(alloc: Global) -> Result<Transcript, AllocError> {
+    let mut talk = Transcript::new(alloc)?;
     let mut text = String::with_capacity(alloc, 65536)?;
     ask_crossed(&mut talk, &mut text, 0)?;
     ask_crossed(&mut talk, &mut text, PARCELS - 1)?;

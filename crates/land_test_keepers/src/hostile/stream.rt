@@ -1,8 +1,8 @@
 //! A stream that a keeper serves, with its expected end.
 use land_desk::serve::{DeskFault, Served, serve};
 use land_keep::keeper::Keeper;
-use land_test_scenario::doubles::{Pieces, Readings, Sink};
-use land_test_scenario::playing::{is_want_of_memory, open_sink};
+use land_test_scenario::doubles::{ChunkReader, ClockReadings, Sink};
+use land_test_scenario::run_scenario::{ran_out_of_memory, open_sink};
 use land_test_scenario::stop::Stop;
 use std::alloc::Global;
 
@@ -32,15 +32,15 @@ impl Stream<'_> {
     /// Checks if a keeper serves the stream as expected, with the clock at 1000. The test ends without a
     /// failure if out of memory.
     pub fn is_served<K: Keeper>(&self, alloc: Global, keeper: &mut K) -> Result<bool, Stop> {
-        let mut reader = Pieces {
+        let mut reader = ChunkReader {
             left: self.input,
             piece: self.piece,
             reads: self.reads,
         };
         let mut sink = self.sink(alloc)?;
-        let mut clock = Readings { left: &[] };
+        let mut clock = ClockReadings { left: &[] };
         let ending = serve(alloc, &mut reader, &mut sink, keeper, &mut clock);
-        if is_want_of_memory(&ending, &sink.taken, self.told) {
+        if ran_out_of_memory(&ending, &sink.taken, self.told) {
             return Err(Stop::Memory);
         }
         Ok(

@@ -1,16 +1,16 @@
 //! A conversation with each keeper.
 use crate::each::{Trial, over_each};
 use land_keep::keeper::Keeper;
-use land_test_scenario::playing::play;
+use land_test_scenario::run_scenario::play;
 use land_test_scenario::stop::Stop;
-use land_test_scenario::talk::Talk;
+use land_test_scenario::talk::Transcript;
 use std::alloc::Global;
 
 /// A conversation, and the moments that the clock returns before it stays at 1000.
 #[derive(Clone, Copy)]
 struct Played<'a> {
     clock: &'static [i64],
-    talk: &'a Talk,
+    talk: &'a Transcript,
 }
 
 impl Trial for Played<'_> {
@@ -20,6 +20,6 @@ impl Trial for Played<'_> {
 }
 
 /// Plays a conversation with each keeper, and checks the replies byte for byte.
-pub fn play_over_each(alloc: Global, clock: &'static [i64], talk: &Talk) -> Result<(), Stop> {
+pub fn play_over_each(alloc: Global, clock: &'static [i64], talk: &Transcript) -> Result<(), Stop> {
     over_each(alloc, &Played { clock, talk })
 }

@@ -1,10 +1,10 @@
 //! Requests in addition to the scenario, after some of its steps. They do not change the register.
 use crate::keepers::story::Story;
 use land_test_scenario::scenario::MORTGAGE;
-use land_test_scenario::talk::Told::{self, Denied, Fault, Refused, Sheet, Shown, Unsaid};
+use land_test_scenario::talk::ExpectedReply::{self, Denied, Fault, Refused, Sheet, Shown, HeadFault};
 use land_test_scenario::talk::{ANNA, BANK, BEN, ENROL, NORA, NOTARY, OFFICE, Row, SAM, SURVEYOR};
 
-const GARDEN: Told = Shown(r#"{"object":{"checked":true,"name":"Garden","number":9}}"#);
+const GARDEN: ExpectedReply = Shown(r#"{"object":{"checked":true,"name":"Garden","number":9}}"#);
 
 const NOBODY: &[Row] = &[Row(
     "POST /acts/enrol",
@@ -38,7 +38,7 @@ const FIRST_CITIZEN: &[Row] = &[
         OFFICE,
         b"",
         Shown(
-            r#"{"object":{"kind":"nonNaturalPerson","members":[],"name":"Land Office","number":1,"roles":["stateAdministrator"]}}"#,
+            r#"{"object":{"kind":"nonNaturalPerson","members":[],"name":"Schemas Office","number":1,"roles":["stateAdministrator"]}}"#,
         ),
     ),
 ];
@@ -349,7 +349,7 @@ const SHEETS: &[Row] = &[
     Row("GET /units/9/sheet?at=1018", BEN, b"", Fault(135)),
     Row("GET /units/9/sheet", ANNA, b"", Denied(11)),
     Row("GET /units/9/sheet", SURVEYOR, b"", Denied(23)),
-    Row("HEAD /units/9/sheet", BEN, b"", Unsaid(13)),
+    Row("HEAD /units/9/sheet", BEN, b"", HeadFault(13)),
 ];
 
 /// Requests in addition to the first twelve steps, by the number of steps before them.

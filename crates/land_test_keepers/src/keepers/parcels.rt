@@ -1,6 +1,6 @@
 //! Alternatives of the scenario in which parcels are subdivided and merged.
 use crate::keepers::story::Story;
-use land_test_scenario::talk::Told::{self, Denied, Refused, Sheet, Shown};
+use land_test_scenario::talk::ExpectedReply::{self, Denied, Refused, Sheet, Shown};
 use land_test_scenario::talk::{ANNA, BANK, BEN, NORA, NOTARY, OFFICE, Row, SURVEYOR};
 
 /// The second part has the area of the right half, but lies a metre away from it.
@@ -129,7 +129,7 @@ const MERGED: &[Row] = &[
 ];
 
 /// The merger before it is decided.
-const MERGER_SHOWN: Told = Shown(
+const MERGER_SHOWN: ExpectedReply = Shown(
     r#"{"object":{"act":"merger","content":{"label":"12","others":[25],"outline":"POLYGON ((0 0, 10000 0, 10000 10000, 0 10000, 0 0))","parcels":[24,26],"unit":9},"lodged":1020,"lodger":6,"number":34,"reference":"G1","source":33,"state":"lodged"}}"#,
 );
 
@@ -138,7 +138,7 @@ const SEEN_FROM_ANOTHER_UNIT: &[Row] = &[
     Row(
         "POST /acts/transfer",
         NOTARY,
-        br#"{"reference":"T3","document":"Deed 4","unit":25,"right":29,"receiver":2,"share":"1/1"}"#,
+        br#"{"reference":"T3","document":"FileCommand 4","unit":25,"right":29,"receiver":2,"share":"1/1"}"#,
         Shown(r#"{"made":[30,31],"number":31,"stamp":1018}"#),
     ),
     Row(

@@ -1,6 +1,6 @@
 //! Requests to a new register, with their replies: each fault of their form, and well-formed requests. The
 //! connection stays open after them.
-use land_test_scenario::talk::Told::{Denied, Fault, Shown, Unsaid};
+use land_test_scenario::talk::ExpectedReply::{Denied, Fault, Shown, HeadFault};
 use land_test_scenario::talk::{ANNA, ENROL, OFFICE, Row};
 
 /// Routes and methods.
@@ -37,8 +37,8 @@ pub const ROUTES: &[Row] = &[
     Row("GET http://land/parties", OFFICE, ENROL, Fault(136)),
     Row("GET ?/parties", OFFICE, ENROL, Fault(136)),
     Row("get /parties", OFFICE, ENROL, Fault(137)),
-    Row("HEAD /parties", OFFICE, b"", Unsaid(13)),
-    Row("HEAD /units/2/sheet", OFFICE, b"", Unsaid(13)),
+    Row("HEAD /parties", OFFICE, b"", HeadFault(13)),
+    Row("HEAD /units/2/sheet", OFFICE, b"", HeadFault(13)),
     Row("POST /parties", OFFICE, ENROL, Fault(137)),
     Row("POST /parties/x", OFFICE, ENROL, Fault(137)),
     Row("POST /units/2/sheet", OFFICE, ENROL, Fault(137)),

@@ -1,6 +1,6 @@
 //! Streams that end within a request, and heads at the size limit.
-use land_test_scenario::talk::Told::{self, Fault, Shown};
-use land_test_scenario::talk::{ENROL, OFFICE, Row, Talk};
+use land_test_scenario::talk::ExpectedReply::{self, Fault, Shown};
+use land_test_scenario::talk::{ENROL, OFFICE, Row, Transcript};
 use std::alloc::{AllocError, Global};
 
 const NAME: &str = "streams";
@@ -26,14 +26,14 @@ const LISTING: &[u8] =
 const END_OF_HEAD: &[u8] = b"\r\n\r\n";
 
 /// Adds the reply to the input since the row before.
-fn tell_next(talk: &mut Talk, told: Told, ends: bool) -> Result<(), AllocError> {
+fn push_reply(talk: &mut Transcript, told: ExpectedReply, ends: bool) -> Result<(), AllocError> {
     talk.tell(told, ends)?;
     let place = talk.marks.len();
     talk.mark(NAME, place)
 }
 
 /// Adds a head of the given length, which lists the parties.
-fn push_head(talk: &mut Talk, length: usize) -> Result<(), AllocError> {
+fn push_head(talk: &mut Transcript, length: usize) -> Result<(), AllocError> {
     talk.input.extend_from_slice(LISTING)?;
     for _ in LISTING.len() + END_OF_HEAD.len()..length {
         talk.input.push(b'a')?;
@@ -42,21 +42,21 @@ fn push_head(talk: &mut Talk, length: usize) -> Result<(), AllocError> {
 }
 
 /// An enrolment, and the same again, which ends a byte too early.
-pub(crate) fn cut_in_a_body(alloc: Global) -> Result<Talk, AllocError> {
-    let mut talk = Talk::new(alloc)?;
+pub(crate) fn cut_in_a_body(alloc: Global) -> Result<Transcript, AllocError> {
+    let mut talk = Transcript::new(alloc)?;
     talk.ask(NAME, 0, &ENROLLED)?;
     talk.input.extend_from_slice(CUT)?;
-    tell_next(&mut talk, Fault(144), true)?;
+    push_reply(&mut talk, Fault(144), true)?;
     Ok(talk)
 }
 
 /// An enrolment, then a head at the size limit, and one that is a byte longer.
-pub(crate) fn heads_at_their_limit(alloc: Global) -> Result<Talk, AllocError> {
-    let mut talk = Talk::new(alloc)?;
+pub(crate) fn heads_at_their_limit(alloc: Global) -> Result<Transcript, AllocError> {
+    let mut talk = Transcript::new(alloc)?;
     talk.ask(NAME, 0, &ENROLLED)?;
     push_head(&mut talk, LONGEST_HEAD)?;
-    tell_next(&mut talk, Shown(r#"{"numbers":[1,2]}"#), false)?;
+    push_reply(&mut talk, Shown(r#"{"numbers":[1,2]}"#), false)?;
     push_head(&mut talk, LONGEST_HEAD + 1)?;
-    tell_next(&mut talk, Fault(141), true)?;
+    push_reply(&mut talk, Fault(141), true)?;
     Ok(talk)
 }

@@ -10,7 +10,7 @@ use crate::keepers::turns::{EARLY, ROLES, SHOWN, TRANSFERS};
 use land_test_scenario::mandates::MANDATES;
 use land_test_scenario::scenario::STEPS;
 use land_test_scenario::stop::Stop;
-use land_test_scenario::talk::Talk;
+use land_test_scenario::talk::Transcript;
 use std::alloc::{AllocError, Global};
 
 /// Requests to a new register.
@@ -30,8 +30,8 @@ const ACTS: &[Story] = &[
 const AGENTS: &[Story] = &[Story("mandates", 12, &[], MANDATES)];
 
 /// Returns the conversation of a story, after its steps of the scenario.
-fn talk_of(alloc: Global, story: &Story) -> Result<Talk, AllocError> {
-    let mut talk = Talk::new(alloc)?;
+fn talk_of(alloc: Global, story: &Story) -> Result<Transcript, AllocError> {
+    let mut talk = Transcript::new(alloc)?;
     for (place, step) in STEPS.iter().enumerate() {
         if place < story.1 {
             talk.ask("the scenario", place, step)?;
@@ -41,60 +41,60 @@ fn talk_of(alloc: Global, story: &Story) -> Result<Talk, AllocError> {
     Ok(talk)
 }
 
-fn is_told(alloc: Global, story: &Story) -> Result<(), Stop> {
+fn has_expected_reply(alloc: Global, story: &Story) -> Result<(), Stop> {
     let talk = talk_of(alloc, story)?;
     play_over_each(alloc, story.2, &talk)
 }
 
 /// Plays stories with each keeper, each on a new register.
-fn are_told(alloc: Global, stories: &[Story]) -> Result<(), Stop> {
+fn expect_replies(alloc: Global, stories: &[Story]) -> Result<(), Stop> {
     for story in stories {
-        is_told(alloc, story)?;
+        has_expected_reply(alloc, story)?;
     }
     Ok(())
 }
 
 /// Tests that a request gets its first fault.
-pub fn requests_are_told_their_first_fault(alloc: Global) -> Result<(), Stop> {
-    are_told(alloc, REQUESTS)
+pub fn requests_get_their_first_fault(alloc: Global) -> Result<(), Stop> {
+    expect_replies(alloc, REQUESTS)
 }
 
 /// Tests that a body gets its first fault.
-pub fn bodies_are_told_their_first_fault(alloc: Global) -> Result<(), Stop> {
-    are_told(alloc, ACTS)
+pub fn bodies_get_their_first_fault(alloc: Global) -> Result<(), Stop> {
+    expect_replies(alloc, ACTS)
 }
 
 /// Tests the early alternatives.
 pub fn the_register_takes_early_turns(alloc: Global) -> Result<(), Stop> {
-    are_told(alloc, EARLY)
+    expect_replies(alloc, EARLY)
 }
 
 /// Tests that holders and members see what they hold.
 pub fn holders_and_members_are_shown_what_they_hold(alloc: Global) -> Result<(), Stop> {
-    are_told(alloc, SHOWN)
+    expect_replies(alloc, SHOWN)
 }
 
 /// Tests transfers of rights.
 pub fn rights_are_transferred(alloc: Global) -> Result<(), Stop> {
-    are_told(alloc, TRANSFERS)
+    expect_replies(alloc, TRANSFERS)
 }
 
 /// Tests roles and banks that start and end.
 pub fn roles_and_banks_come_and_go(alloc: Global) -> Result<(), Stop> {
-    are_told(alloc, ROLES)
+    expect_replies(alloc, ROLES)
 }
 
 /// Tests mandates that are given and withdrawn.
 pub fn mandates_are_given_and_withdrawn(alloc: Global) -> Result<(), Stop> {
-    are_told(alloc, AGENTS)
+    expect_replies(alloc, AGENTS)
 }
 
 /// Tests parcels that are subdivided and merged.
 pub fn parcels_are_cut_and_merged(alloc: Global) -> Result<(), Stop> {
-    are_told(alloc, PARCELS)
+    expect_replies(alloc, PARCELS)
 }
 
-fn ask_beside(talk: &mut Talk, looks: &[Story], steps: usize) -> Result<(), AllocError> {
+fn ask_beside(talk: &mut Transcript, looks: &[Story], steps: usize) -> Result<(), AllocError> {
     for look in looks {
         if look.1 == steps {
             talk.ask_all(look.0, look.3)?;
@@ -104,8 +104,8 @@ fn ask_beside(talk: &mut Talk, looks: &[Story], steps: usize) -> Result<(), Allo
 }
 
 /// Returns the conversation of the whole scenario, with the additional requests after each step.
-fn talk_beside(alloc: Global, looks: &[Story]) -> Result<Talk, AllocError> {
-    let mut talk = Talk::new(alloc)?;
+fn talk_beside(alloc: Global, looks: &[Story]) -> Result<Transcript, AllocError> {
+    let mut talk = Transcript::new(alloc)?;
     for (place, step) in STEPS.iter().enumerate() {
         ask_beside(&mut talk, looks, place)?;
         talk.ask("the scenario", place, step)?;
@@ -114,19 +114,19 @@ fn talk_beside(alloc: Global, looks: &[Story]) -> Result<Talk, AllocError> {
     Ok(talk)
 }
 
-fn are_told_beside(alloc: Global, looks: &[Story]) -> Result<(), Stop> {
+fn expect_replies_after(alloc: Global, looks: &[Story]) -> Result<(), Stop> {
     let talk = talk_beside(alloc, looks)?;
     play_over_each(alloc, &[], &talk)
 }
 
 /// Tests the scenario with additional requests after its first steps.
-pub fn the_scenario_with_what_is_told_beside_its_first_steps(alloc: Global) -> Result<(), Stop> {
-    are_told_beside(alloc, FIRST_LOOKS)
+pub fn the_scenario_with_other_requests_after_its_first_steps(alloc: Global) -> Result<(), Stop> {
+    expect_replies_after(alloc, FIRST_LOOKS)
 }
 
 /// Tests the scenario with additional requests after its last steps.
-pub fn the_scenario_with_what_is_told_beside_its_last_steps(alloc: Global) -> Result<(), Stop> {
-    are_told_beside(alloc, LAST_LOOKS)
+pub fn the_scenario_with_other_requests_after_its_last_steps(alloc: Global) -> Result<(), Stop> {
+    expect_replies_after(alloc, LAST_LOOKS)
 }
 
 /// Tests a stream that ends within its second request, and heads at the size limit.

@@ -1,7 +1,7 @@
 //! The three keepers of one register.
 use crate::random::page::{Page, tell};
 use land_keep::keeper::Keeper;
-use land_test_scenario::playing::play_steps;
+use land_test_scenario::run_scenario::play_steps;
 use land_test_scenario::stop::{Stop, expect};
 use std::alloc::Global;
 
@@ -24,7 +24,7 @@ impl<P: Keeper, T: Keeper, J: Keeper> Keepers<'_, P, T, J> {
     }
 
     /// Checks that all of them return the same reply to the request on a page.
-    pub fn tell_alike(&mut self, alloc: Global, page: &mut Page, place: usize) -> Result<(), Stop> {
+    pub fn expect_same_replies(&mut self, alloc: Global, page: &mut Page, place: usize) -> Result<(), Stop> {
         tell(alloc, self.plain, page.request.as_str(), &mut page.told)?;
         tell(alloc, self.tables, page.request.as_str(), &mut page.other)?;
         expect(page.is_alike(), "told by tables", place)?;

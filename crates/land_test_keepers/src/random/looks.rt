@@ -63,7 +63,7 @@ const MOMENTS: u32 = 3;
 
 /// Returns the length of a caller's list at a time. The list is the same in memory and with indexed queries,
 /// and at random also on whole tables.
-fn shown_at<P: Keeper, T: Keeper, J: Keeper>(
+fn read_at<P: Keeper, T: Keeper, J: Keeper>(
     alloc: Global,
     keepers: &mut Keepers<'_, P, T, J>,
     dice: &mut Dice,
@@ -90,16 +90,16 @@ fn shown<P: Keeper, T: Keeper, J: Keeper>(
     kind: Kind,
 ) -> Result<usize, Stop> {
     let last = keepers.plain.last();
-    let mut count = shown_at(alloc, keepers, dice, caller, kind, last)?;
+    let mut count = read_at(alloc, keepers, dice, caller, kind, last)?;
     for _ in 0..MOMENTS {
         let at = draw_moment(dice, last);
-        count = count.saturating_add(shown_at(alloc, keepers, dice, caller, kind, at)?);
+        count = count.saturating_add(read_at(alloc, keepers, dice, caller, kind, at)?);
     }
     Ok(count)
 }
 
 /// Returns the lengths of the lists of several callers in a role.
-fn shown_to<P: Keeper, T: Keeper, J: Keeper>(
+fn read_as<P: Keeper, T: Keeper, J: Keeper>(
     alloc: Global,
     keepers: &mut Keepers<'_, P, T, J>,
     dice: &mut Dice,
@@ -128,7 +128,7 @@ fn pairs_shown<P: Keeper, T: Keeper, J: Keeper>(
     let mut pairs = 0usize;
     for role in ROLES {
         for kind in KINDS {
-            if shown_to(alloc, keepers, dice, parties, *role, *kind)? != 0 {
+            if read_as(alloc, keepers, dice, parties, *role, *kind)? != 0 {
                 pairs = pairs.saturating_add(1);
             }
         }
@@ -151,7 +151,7 @@ fn pairs_shown_to_parties<P: Keeper, T: Keeper, J: Keeper>(
 /// Parties see an object in 30 of the 36 pairs of a role and a kind: no sources as citizen, conveyancer or
 /// bank, and no units, entries or sources as certified surveyor. Other callers see only what does not depend
 /// on the party: parcels in four roles, and all six kinds in two.
-pub fn look_around<P: Keeper, T: Keeper, J: Keeper>(
+pub fn read_everything<P: Keeper, T: Keeper, J: Keeper>(
     alloc: Global,
     keepers: &mut Keepers<'_, P, T, J>,
     dice: &mut Dice,

@@ -7,7 +7,7 @@ use crate::serving::serve_stream;
 use land_desk::serve::DeskFault;
 use land_keep::keeper::Keeper;
 use land_test_scenario::doubles::Sink;
-use land_test_scenario::playing::open_sink;
+use land_test_scenario::run_scenario::open_sink;
 use land_test_scenario::stop::{Stop, expect};
 use std::alloc::{AllocError, Global};
 

@@ -3,7 +3,7 @@ use crate::each::new_tables;
 use crate::random::dice::Dice;
 use crate::random::drawn::{OFFICE, draw};
 use crate::random::keepers::Keepers;
-use crate::random::looks::{KINDS, look_around};
+use crate::random::looks::{KINDS, read_everything};
 use crate::random::page::Page;
 use land_keep::keeper::Keeper;
 use land_keep::plain_keeper::PlainKeeper;
@@ -34,7 +34,7 @@ fn tell_one<P: Keeper, T: Keeper, J: Keeper>(
         let drawn = draw(alloc, keepers.plain, dice, place)?;
         page.write(dice, &drawn)?;
     }
-    keepers.tell_alike(alloc, page, place as usize)
+    keepers.expect_same_replies(alloc, page, place as usize)
 }
 
 /// Returns the number of current objects.
@@ -65,7 +65,7 @@ fn tell_all<P: Keeper, T: Keeper, J: Keeper>(
 }
 
 /// The same, and checks that enough of them were accepted, denied and refused.
-fn tell_enough<P: Keeper, T: Keeper, J: Keeper>(
+fn expect_enough_replies<P: Keeper, T: Keeper, J: Keeper>(
     alloc: Global,
     keepers: &mut Keepers<'_, P, T, J>,
     dice: &mut Dice,
@@ -84,12 +84,12 @@ fn play<P: Keeper, T: Keeper, J: Keeper>(
 ) -> Result<(), Stop> {
     let mut dice = Dice { state: seed };
     keepers.play_scenario(alloc)?;
-    tell_enough(alloc, keepers, &mut dice)?;
+    expect_enough_replies(alloc, keepers, &mut dice)?;
     let changes = keepers.plain.last().saturating_sub(999);
     expect(CHANGES <= changes, "changes", 0)?;
     let count = objects(alloc, keepers)?;
     expect(OBJECTS <= count, "objects", count)?;
-    look_around(alloc, keepers, &mut dice)?;
+    read_everything(alloc, keepers, &mut dice)?;
     expect(LISTS <= keepers.lists, "lists", keepers.lists)
 }
 

@@ -1,14 +1,14 @@
 //! Views of parties after the scenario, on a store that records its reads: once authorized by the indexed
 //! keeper, and once as the SQL statements that are documented for them.
 use crate::sights::recorder::Reads;
-use crate::sights::texts_are_run::{LAST, MANDATES, Recorded, played};
+use crate::sights::texts_are_run::{LAST, MANDATES, Recorded, play_register};
 use land_core::ask::Ask;
 use land_core::caller::Caller;
 use land_core::kind::Kind;
 use land_core::limits::LAST_MOMENT;
 use land_core::role::Role;
 use land_keep::keeper::Keeper;
-use land_keep::moments::named_moment;
+use land_keep::moments::explicit_moment;
 use land_rules::verdict::Verdict;
 use land_test_scenario::stop::{Stop, expect};
 use sqlite::types::ValueRef;
@@ -57,14 +57,14 @@ impl Seen {
 
 /// Returns if a keeper's verdict on a view is the expected rule, and the reads of the store.
 fn read_by_keeper(alloc: Global, view: &Seen) -> Result<(bool, Reads), Stop> {
-    let mut keeper = played(alloc)?;
+    let mut keeper = play_register(alloc)?;
     let ask = Ask::View {
         kind: Kind::Party,
         number: view.2,
         at: None,
     };
     let now = keeper.last();
-    if now < named_moment(&ask).unwrap_or(now) {
+    if now < explicit_moment(&ask).unwrap_or(now) {
         return Err(Stop::Call);
     }
     let verdict = keeper.first_denial(alloc, view.caller(), &ask, now)?;
@@ -100,14 +100,14 @@ fn run_texts(conn: &mut Recorded, view: &Seen) -> Result<(), Stop> {
 
 /// Returns the reads of the store for the SQL statements of a view.
 fn read_by_texts(alloc: Global, view: &Seen) -> Result<Reads, Stop> {
-    let mut conn = played(alloc)?.into_tables().into_connection();
+    let mut conn = play_register(alloc)?.into_tables().into_connection();
     run_texts(&mut conn, view)?;
     Ok(conn.into_store().reads())
 }
 
 /// Tests that the indexed keeper authorizes the view of a party with few viewers by these, without the
 /// caller's list.
-pub fn parties_are_seen_by_who_is_told_of_them(alloc: Global) -> Result<(), Stop> {
+pub fn parties_are_visible_to_their_viewers(alloc: Global) -> Result<(), Stop> {
     for (place, view) in VIEWS.iter().enumerate() {
         let (is_so, by_keeper) = read_by_keeper(alloc, view)?;
         let by_texts = read_by_texts(alloc, view)?;

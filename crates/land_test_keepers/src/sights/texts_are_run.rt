@@ -9,10 +9,10 @@ use land_keep::keeper::Keeper;
 use land_select::sight_text::sight_text;
 use land_select::sql_keeper::SqlKeeper;
 use land_tables::tables::Tables;
-use land_test_scenario::playing::{play, play_steps};
+use land_test_scenario::run_scenario::{play, play_steps};
 use land_test_scenario::stop::{Stop, expect};
-use land_test_scenario::talk::Told::Shown;
-use land_test_scenario::talk::{BEN, Row, Talk};
+use land_test_scenario::talk::ExpectedReply::Shown;
+use land_test_scenario::talk::{BEN, Row, Transcript};
 use sqlite::types::ValueRef;
 use sqlite::{Connection, MemStore};
 use std::alloc::Global;
@@ -62,7 +62,7 @@ fn connect_recorder(alloc: Global) -> Result<Recorded, Stop> {
 }
 
 /// Returns the register after the scenario, in such a store.
-pub(crate) fn played(alloc: Global) -> Result<SqlKeeper<Recorder<MemStore>>, Stop> {
+pub(crate) fn play_register(alloc: Global) -> Result<SqlKeeper<Recorder<MemStore>>, Stop> {
     let tables = match Tables::create(connect_recorder(alloc)?) {
         Ok(tables) => tables,
         Err((_, fault)) => return Err(Stop::from(fault)),
@@ -99,12 +99,12 @@ const SAM: Viewer<'static> = Viewer {
 };
 
 /// Returns the register after the scenario, with the mandate if the viewer has one.
-fn played_for(alloc: Global, viewer: &Viewer<'_>) -> Result<SqlKeeper<Recorder<MemStore>>, Stop> {
-    let mut keeper = played(alloc)?;
+fn play_register_for(alloc: Global, viewer: &Viewer<'_>) -> Result<SqlKeeper<Recorder<MemStore>>, Stop> {
+    let mut keeper = play_register(alloc)?;
     if viewer.principals.is_empty() {
         return Ok(keeper);
     }
-    let mut talk = Talk::new(alloc)?;
+    let mut talk = Transcript::new(alloc)?;
     talk.ask("a mandate", 0, &GIVEN)?;
     play(alloc, &mut keeper, &[], &talk)?;
     Ok(keeper)
@@ -112,7 +112,7 @@ fn played_for(alloc: Global, viewer: &Viewer<'_>) -> Result<SqlKeeper<Recorder<M
 
 /// Returns the keeper's reads of the store for the lists of a viewer.
 fn read_by_keeper(alloc: Global, viewer: &Viewer<'_>) -> Result<Reads, Stop> {
-    let mut keeper = played_for(alloc, viewer)?;
+    let mut keeper = play_register_for(alloc, viewer)?;
     for kind in KINDS {
         keeper.sight(alloc, viewer.caller, *kind, viewer.at)?;
     }
@@ -158,7 +158,7 @@ fn run_texts(conn: &mut Recorded, viewer: &Viewer<'_>, kind: Kind) -> Result<(),
 
 /// Returns the reads of the store if the SQL statements of these lists are run.
 fn read_by_texts(alloc: Global, viewer: &Viewer<'_>) -> Result<Reads, Stop> {
-    let mut conn = played_for(alloc, viewer)?.into_tables().into_connection();
+    let mut conn = play_register_for(alloc, viewer)?.into_tables().into_connection();
     for kind in KINDS {
         run_texts(&mut conn, viewer, *kind)?;
     }
@@ -173,7 +173,7 @@ fn expect_same_reads(alloc: Global, viewer: &Viewer<'_>, place: usize) -> Result
 }
 
 /// Tests that a list runs only its SQL statements, a citizen's first that of its mandates.
-pub fn lists_are_told_by_their_texts(alloc: Global) -> Result<(), Stop> {
+pub fn lists_run_their_statements(alloc: Global) -> Result<(), Stop> {
     for (place, caller) in CALLERS.iter().enumerate() {
         let viewer = Viewer {
             caller: *caller,

@@ -55,7 +55,7 @@ const HOLDERS: &[Row] = &[
 ];
 
 /// Checks that holders see the objects of their units.
-pub fn holders_see_what_is_in_their_units(alloc: Global) -> Result<(), Stop> {
+pub fn holders_see_the_contents_of_their_units(alloc: Global) -> Result<(), Stop> {
     expect_shown(alloc, HOLDERS)
 }
 
@@ -71,7 +71,7 @@ const CREDITORS: &[Row] = &[
 ];
 
 /// Checks that creditors see the objects of the units of their mortgages.
-pub fn creditors_see_what_is_in_the_units_of_their_mortgages(alloc: Global) -> Result<(), Stop> {
+pub fn creditors_see_the_units_of_their_mortgages(alloc: Global) -> Result<(), Stop> {
     expect_shown(alloc, CREDITORS)
 }
 

@@ -110,7 +110,7 @@ fn expect_views(alloc: Global, rows: &[View]) -> Result<(), Stop> {
 }
 
 /// Checks that agents are denied objects that no party of their circle sees.
-pub fn agents_are_denied_what_none_of_their_circle_sees(alloc: Global) -> Result<(), Stop> {
+pub fn agents_see_only_what_their_circle_sees(alloc: Global) -> Result<(), Stop> {
     expect_views(alloc, VIEWS)
 }
 

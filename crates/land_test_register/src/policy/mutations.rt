@@ -202,7 +202,7 @@ const LODGERS: &[Lodgers] = &[
 ];
 
 /// Checks which callers may lodge each content.
-pub fn who_lodges_what(alloc: Global) -> Result<(), Stop> {
+pub fn roles_lodge_their_contents(alloc: Global) -> Result<(), Stop> {
     for (place, it) in LODGERS.iter().enumerate() {
         let told = told_of_lodging(alloc, &it.0, it.1)?;
         expect(told == it.1.len(), "row", told)?;
@@ -246,7 +246,7 @@ fn are_told(alloc: Global, it: &Deciders) -> Result<bool, Stop> {
 }
 
 /// Checks that no party decides its own mutation.
-pub fn nobody_decides_what_it_lodged(alloc: Global) -> Result<(), Stop> {
+pub fn no_party_decides_on_its_own_lodging(alloc: Global) -> Result<(), Stop> {
     for (place, it) in DECIDERS.iter().enumerate() {
         expect(are_told(alloc, it)?, "mutation", place)?;
     }

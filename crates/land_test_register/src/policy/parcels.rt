@@ -177,7 +177,7 @@ fn is_sound(alloc: Global) -> Result<bool, Stop> {
 }
 
 /// Checks that the register with Sam's mutations is sound.
-pub fn what_is_surveyed_is_soundly_registered(alloc: Global) -> Result<(), Stop> {
+pub fn surveyed_parcels_are_soundly_registered(alloc: Global) -> Result<(), Stop> {
     expect(is_sound(alloc)?, "the register", 0)
 }
 

@@ -73,7 +73,7 @@ const IN_THE_PAST: &[Row] = &[
 ];
 
 /// Checks that some roles see only the present.
-pub fn some_roles_are_told_of_the_present_alone(alloc: Global) -> Result<(), Stop> {
+pub fn some_roles_see_only_the_present(alloc: Global) -> Result<(), Stop> {
     expect_told(alloc, VIEW, true, IN_THE_PAST)
 }
 
@@ -101,7 +101,7 @@ fn told_burden(alloc: Global) -> Result<usize, Stop> {
 const LIFT: Ask = Ask::Do(Act::Lift(Lift { rrr: 17 }));
 
 /// Checks that only the registrar burdens units and lifts burdens.
-pub fn the_office_alone_burdens_units_and_lifts_burdens(alloc: Global) -> Result<(), Stop> {
+pub fn only_the_office_burdens_units_and_lifts_burdens(alloc: Global) -> Result<(), Stop> {
     expect(told_burden(alloc)? == OFFICE_ACTS.len(), "burdens", 0)?;
     expect_told(alloc, LIFT, false, OFFICE_ACTS)
 }

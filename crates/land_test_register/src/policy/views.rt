@@ -133,7 +133,7 @@ const ABSENCES: &[Row] = &[
 ];
 
 /// Checks that the view of an object that does not exist is denied by rule 27.
-pub fn what_is_absent_is_denied_by_rule_27(alloc: Global) -> Result<(), Stop> {
+pub fn missing_objects_are_denied_by_rule_27(alloc: Global) -> Result<(), Stop> {
     expect_views(alloc, ABSENCES)
 }
 

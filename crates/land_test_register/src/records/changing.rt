@@ -167,7 +167,7 @@ const ENTERING: &Changing = &Changing {
 };
 
 /// Checks that running out of memory leaves the register unchanged, or the change made.
-pub fn want_of_memory_leaves_the_changed_register(alloc: Global) -> Result<(), Stop> {
+pub fn out_of_memory_leaves_the_changed_register(alloc: Global) -> Result<(), Stop> {
     expect(changes(alloc, ENTERING)?, "the change", 0)
 }
 

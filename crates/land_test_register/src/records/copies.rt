@@ -70,7 +70,7 @@ fn stays_new(alloc: Global) -> Result<bool, Stop> {
 }
 
 /// Checks that running out of memory leaves the original register unchanged.
-pub fn want_of_memory_leaves_the_copied_register(alloc: Global) -> Result<(), Stop> {
+pub fn out_of_memory_leaves_the_copied_register(alloc: Global) -> Result<(), Stop> {
     expect(stays_new(alloc)?, "the register", 0)
 }
 

@@ -43,7 +43,7 @@ const NO_ADMINISTRATOR: &[Case] = &[Case(
 )];
 
 /// Checks that a party is state administrator.
-pub fn somebody_is_state_administrator(alloc: Global) -> Result<(), Stop> {
+pub fn there_is_a_state_administrator(alloc: Global) -> Result<(), Stop> {
     expect_faults(alloc, OFFICE_ALONE, NO_ADMINISTRATOR)
 }
 

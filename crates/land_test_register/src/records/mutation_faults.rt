@@ -36,7 +36,7 @@ const LODGERS: &[Case] = &[
 ];
 
 /// Checks that the lodger of a mutation exists.
-pub fn the_lodger_of_a_mutation_stands(alloc: Global) -> Result<(), Stop> {
+pub fn the_lodger_of_a_mutation_exists(alloc: Global) -> Result<(), Stop> {
     expect_faults(alloc, UP_TO_19, LODGERS)
 }
 
@@ -59,7 +59,7 @@ const SOURCES: &[Case] = &[
 ];
 
 /// Checks that the source of a mutation exists.
-pub fn the_source_of_a_mutation_stands(alloc: Global) -> Result<(), Stop> {
+pub fn the_source_of_a_mutation_exists(alloc: Global) -> Result<(), Stop> {
     expect_faults(alloc, UP_TO_19, SOURCES)
 }
 

@@ -286,6 +286,6 @@ const NOTHING: &[Shown] = &[
 ];
 
 /// Checks that an object that does not exist is not returned.
-pub fn nothing_is_shown_where_no_object_of_the_kind_stands(alloc: Global) -> Result<(), Stop> {
+pub fn missing_objects_are_not_shown(alloc: Global) -> Result<(), Stop> {
     expect_shown(alloc, WITH_GARDEN, NOTHING)
 }

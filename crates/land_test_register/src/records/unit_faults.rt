@@ -19,7 +19,7 @@ const PARCELS: &[Case] = &[
 ];
 
 /// Checks that parcels refer to objects that exist.
-pub fn parcels_refer_to_what_stands(alloc: Global) -> Result<(), Stop> {
+pub fn parcels_refer_to_existing_objects(alloc: Global) -> Result<(), Stop> {
     expect_faults(alloc, WITH_GARDEN, PARCELS)
 }
 
@@ -55,7 +55,7 @@ const ENTRIES: &[Case] = &[
 ];
 
 /// Checks that entries refer to objects that exist.
-pub fn entries_refer_to_what_stands(alloc: Global) -> Result<(), Stop> {
+pub fn entries_refer_to_existing_objects(alloc: Global) -> Result<(), Stop> {
     expect_faults(alloc, WITH_GARDEN, ENTRIES)
 }
 

@@ -19,6 +19,6 @@ const STEPS: &[Step] = &[
 ];
 
 #[test]
-fn the_last_number_is_given_and_no_other_after_it(rt: HostRuntime) -> Result<(), Fail> {
+fn the_last_number_is_assigned_and_none_after_it(rt: HostRuntime) -> Result<(), Fail> {
     assert_steps(&rt, rt.alloc(), 1_000_000_000, STEPS)
 }

@@ -36,7 +36,7 @@ const SHARES: &[Step] = &[
 ];
 
 #[test]
-fn shares_are_whole_and_no_party_stands_twice(rt: HostRuntime) -> Result<(), Fail> {
+fn shares_are_whole_and_no_party_occurs_twice(rt: HostRuntime) -> Result<(), Fail> {
     assert_steps(&rt, rt.alloc(), FIRST, SHARES)
 }
 
@@ -90,6 +90,6 @@ const NO_MEMBER: &[Step] = &[
 ];
 
 #[test]
-fn a_group_is_regrouped_and_is_no_member(rt: HostRuntime) -> Result<(), Fail> {
+fn a_group_is_regrouped_but_never_a_member(rt: HostRuntime) -> Result<(), Fail> {
     assert_steps(&rt, rt.alloc(), FIRST, NO_MEMBER)
 }

@@ -257,7 +257,7 @@ const OTHER_GROUND: &[Step] = &[
 ];
 
 #[test]
-fn ground_is_looked_at_last(rt: HostRuntime) -> Result<(), Fail> {
+fn ground_is_checked_last(rt: HostRuntime) -> Result<(), Fail> {
     assert_steps(&rt, rt.alloc(), FIRST, OTHER_GROUND)
 }
 
@@ -447,7 +447,7 @@ const MARKS: &[Step] = &[
 ];
 
 #[test]
-fn units_are_merged_where_both_are_checked_or_neither(rt: HostRuntime) -> Result<(), Fail> {
+fn units_are_merged_if_both_are_checked_or_neither(rt: HostRuntime) -> Result<(), Fail> {
     assert_steps(&rt, rt.alloc(), FIRST, MARKS)
 }
 

@@ -93,7 +93,7 @@ const PARTIES: &[Step] = &[
 ];
 
 #[test]
-fn parties_stand_and_have_one_right_of_a_type(rt: HostRuntime) -> Result<(), Fail> {
+fn parties_exist_and_have_one_right_of_a_type(rt: HostRuntime) -> Result<(), Fail> {
     assert_steps(&rt, rt.alloc(), FIRST, PARTIES)
 }
 

@@ -40,7 +40,7 @@ const NOBODY: &[Step] = &[
 ];
 
 #[test]
-fn nobody_and_groups_have_no_roles(rt: HostRuntime) -> Result<(), Fail> {
+fn only_single_parties_have_roles(rt: HostRuntime) -> Result<(), Fail> {
     assert_steps(&rt, rt.alloc(), FIRST, NOBODY)
 }
 

@@ -328,7 +328,7 @@ fn lifts(rrr: u64) -> bool {
 }
 
 #[test]
-fn what_is_read_has_no_limits(rt: HostRuntime) {
+fn reads_have_no_limits(rt: HostRuntime) {
     let (party, rrr, at) = (Kind::Party, Kind::Rrr, Some(-1));
     assert!(&rt; views(party, 0, at) && lists(rrr, at) && shows_sheet(0, None) && lifts(PATH));
 }

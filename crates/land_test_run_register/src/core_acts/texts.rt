@@ -74,7 +74,7 @@ fn may_have(alloc: Global, place: &Place, given: &str) -> Result<bool, Fail> {
     Ok(is_good(with_text(alloc, place, given)?))
 }
 
-fn may_have_so_many(alloc: Global, place: &Place, row: &Row) -> Result<bool, Fail> {
+fn may_have_repeated(alloc: Global, place: &Place, row: &Row) -> Result<bool, Fail> {
     let given = row.0.repeat(alloc, row.1)?;
     may_have(alloc, place, given.as_str())
 }
@@ -82,7 +82,7 @@ fn may_have_so_many(alloc: Global, place: &Place, row: &Row) -> Result<bool, Fai
 fn assert_texts(rt: &impl Abort, alloc: Global, place: &Place, rows: &[Row]) -> Result<(), Fail> {
     for (number, row) in rows.iter().enumerate() {
         assert!(rt;
-            may_have_so_many(alloc, place, row)? == row.2,
+            may_have_repeated(alloc, place, row)? == row.2,
             "row {number}"
         );
     }

@@ -128,7 +128,7 @@ const OTHERS: &[Row] = &[
 ];
 
 #[test]
-fn banks_lodge_for_themselves_alone(rt: HostRuntime) -> Result<(), Fail> {
+fn banks_lodge_only_for_themselves(rt: HostRuntime) -> Result<(), Fail> {
     conclude(&rt, play_with_mortgage(rt.alloc(), OTHERS))
 }
 
@@ -183,7 +183,7 @@ const RANKS: &[Row] = &[
 ];
 
 #[test]
-fn a_mortgage_comes_after_those_that_stand(rt: HostRuntime) -> Result<(), Fail> {
+fn a_mortgage_gets_the_rank_after_the_existing_ones(rt: HostRuntime) -> Result<(), Fail> {
     conclude(&rt, play_with_mortgage(rt.alloc(), RANKS))
 }
 
@@ -197,6 +197,6 @@ const NO_LONGER_A_BANK: &[Row] = &[
 ];
 
 #[test]
-fn mortgages_stay_where_the_role_of_the_bank_ends(rt: HostRuntime) -> Result<(), Fail> {
+fn mortgages_stay_when_the_role_of_the_bank_ends(rt: HostRuntime) -> Result<(), Fail> {
     conclude(&rt, play_with_mortgage(rt.alloc(), NO_LONGER_A_BANK))
 }

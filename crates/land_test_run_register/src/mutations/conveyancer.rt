@@ -87,7 +87,7 @@ const REFUSED: &[Row] = &[
 ];
 
 #[test]
-fn what_is_refused_is_not_done(rt: HostRuntime) -> Result<(), Fail> {
+fn refused_acts_change_nothing(rt: HostRuntime) -> Result<(), Fail> {
     conclude(&rt, play_with_mortgage(rt.alloc(), REFUSED))
 }
 
@@ -114,7 +114,7 @@ const WHO_LODGES: &[Row] = &[
 ];
 
 #[test]
-fn conveyancers_lodge_transfers_alone(rt: HostRuntime) -> Result<(), Fail> {
+fn conveyancers_lodge_only_transfers(rt: HostRuntime) -> Result<(), Fail> {
     conclude(&rt, play_with_mortgage(rt.alloc(), WHO_LODGES))
 }
 
@@ -135,6 +135,6 @@ const NO_UNIT: &[Row] = &[
 ];
 
 #[test]
-fn lodging_looks_at_no_unit(rt: HostRuntime) -> Result<(), Fail> {
+fn lodging_reads_no_unit(rt: HostRuntime) -> Result<(), Fail> {
     conclude(&rt, play_with_mortgage(rt.alloc(), NO_UNIT))
 }

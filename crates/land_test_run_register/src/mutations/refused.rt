@@ -26,7 +26,7 @@ const NOT_LODGED: &[Row] = &[
 ];
 
 #[test]
-fn what_is_no_undecided_mutation_is_not_decided(rt: HostRuntime) -> Result<(), Fail> {
+fn only_undecided_mutations_are_decided(rt: HostRuntime) -> Result<(), Fail> {
     conclude(&rt, play_with_mortgage(rt.alloc(), NOT_LODGED))
 }
 
@@ -101,7 +101,7 @@ const TRANSFERS: &[Row] = &[
 ];
 
 #[test]
-fn transfers_are_of_rights_that_stand(rt: HostRuntime) -> Result<(), Fail> {
+fn transfers_are_of_existing_rights(rt: HostRuntime) -> Result<(), Fail> {
     conclude(&rt, play_with_mortgage(rt.alloc(), TRANSFERS))
 }
 

@@ -49,7 +49,7 @@ const LOANS: &[Row] = &[
 ];
 
 #[test]
-fn a_lodging_is_told_again_as_it_was_told_first(rt: HostRuntime) -> Result<(), Fail> {
+fn a_repeated_lodging_gets_its_first_receipt(rt: HostRuntime) -> Result<(), Fail> {
     conclude(&rt, play_with_loan(rt.alloc(), LOANS))
 }
 
@@ -190,6 +190,6 @@ const ITS_OWN: &[Row] = &[
 ];
 
 #[test]
-fn nobody_decides_what_it_lodged(rt: HostRuntime) -> Result<(), Fail> {
+fn no_party_decides_on_its_own_lodging(rt: HostRuntime) -> Result<(), Fail> {
     conclude(&rt, play_with_mortgage(rt.alloc(), ITS_OWN))
 }

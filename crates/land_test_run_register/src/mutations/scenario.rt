@@ -124,7 +124,7 @@ const SHOWN: &[Row] = &[
 ];
 
 #[test]
-fn what_is_lodged_and_approved_is_shown(rt: HostRuntime) -> Result<(), Fail> {
+fn lodged_and_approved_mutations_are_shown(rt: HostRuntime) -> Result<(), Fail> {
     conclude(&rt, play_with_mortgage(rt.alloc(), SHOWN))
 }
 
@@ -161,7 +161,7 @@ const GROWN: &[Row] = &[
 ];
 
 #[test]
-fn a_right_ends_where_all_of_it_goes(rt: HostRuntime) -> Result<(), Fail> {
+fn a_right_ends_if_all_of_it_is_transferred(rt: HostRuntime) -> Result<(), Fail> {
     conclude(&rt, play_with_mortgage(rt.alloc(), GROWN))
 }
 
@@ -200,7 +200,7 @@ const GIVEN_UP: &[Row] = &[
 ];
 
 #[test]
-fn who_gave_up_a_unit_sees_it_as_it_was(rt: HostRuntime) -> Result<(), Fail> {
+fn a_former_owner_sees_the_unit_of_that_time(rt: HostRuntime) -> Result<(), Fail> {
     conclude(&rt, play_with_mortgage(rt.alloc(), GIVEN_UP))
 }
 
@@ -216,6 +216,6 @@ const REVOKED: &[Row] = &[
 ];
 
 #[test]
-fn who_is_no_notary_now_was_none_for_the_past(rt: HostRuntime) -> Result<(), Fail> {
+fn a_former_notary_is_denied_the_past(rt: HostRuntime) -> Result<(), Fail> {
     conclude(&rt, play_with_mortgage(rt.alloc(), REVOKED))
 }

@@ -84,7 +84,7 @@ fn the_whole_of_a_right_goes_to_a_party_or_a_group(rt: HostRuntime) -> Result<()
 }
 
 /// All but the finest part goes to the bank; then a third of that is too fine.
-const FINEST: &[Row] = &[
+const MAX_DENOMINATOR: &[Row] = &[
     OWNED,
     Row(
         1000,
@@ -141,7 +141,7 @@ const FINEST: &[Row] = &[
 
 #[test]
 fn shares_are_as_fine_as_fractions_are(rt: HostRuntime) -> Result<(), Fail> {
-    conclude(&rt, play_with_group(rt.alloc(), FINEST))
+    conclude(&rt, play_with_group(rt.alloc(), MAX_DENOMINATOR))
 }
 
 const THREE: &[Right] = &[
@@ -314,7 +314,7 @@ const UNCHECKED: &[Row] = &[
 ];
 
 #[test]
-fn nobody_has_more_than_the_whole(rt: HostRuntime) -> Result<(), Fail> {
+fn no_party_has_more_than_one(rt: HostRuntime) -> Result<(), Fail> {
     conclude(&rt, play_with_group(rt.alloc(), UNCHECKED))
 }
 
@@ -347,6 +347,6 @@ const PARTIAL: &[Row] = &[
 ];
 
 #[test]
-fn a_part_of_a_right_goes_to_who_has_another(rt: HostRuntime) -> Result<(), Fail> {
+fn a_part_of_a_right_goes_to_a_party_with_another(rt: HostRuntime) -> Result<(), Fail> {
     conclude(&rt, play_with_mortgage(rt.alloc(), PARTIAL))
 }

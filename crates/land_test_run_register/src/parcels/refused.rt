@@ -147,7 +147,7 @@ const NAMED: &[Row] = &[
 ];
 
 #[test]
-fn what_is_named_stands_when_it_is_approved(rt: HostRuntime) -> Result<(), Fail> {
+fn referenced_objects_exist_at_approval(rt: HostRuntime) -> Result<(), Fail> {
     conclude(&rt, play_with_sale(rt.alloc(), NAMED))
 }
 
@@ -260,7 +260,7 @@ const KEPT: &[Row] = &[
 ];
 
 #[test]
-fn a_unit_that_ends_keeps_no_parcel(rt: HostRuntime) -> Result<(), Fail> {
+fn a_unit_that_ends_has_no_other_parcel(rt: HostRuntime) -> Result<(), Fail> {
     conclude(&rt, play_with_sale(rt.alloc(), KEPT))
 }
 

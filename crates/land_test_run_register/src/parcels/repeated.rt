@@ -66,7 +66,7 @@ const SUBDIVISIONS: &[Row] = &[
 ];
 
 #[test]
-fn a_subdivision_is_told_again_and_no_other_under_its_reference(
+fn a_repeated_subdivision_gets_its_receipt_and_no_other_does(
     rt: HostRuntime,
 ) -> Result<(), Fail> {
     conclude(&rt, play_with_sale(rt.alloc(), SUBDIVISIONS))
@@ -114,6 +114,6 @@ const MERGERS: &[Row] = &[
 ];
 
 #[test]
-fn a_merger_is_told_again_and_no_other_under_its_reference(rt: HostRuntime) -> Result<(), Fail> {
+fn a_repeated_merger_gets_its_receipt_and_no_other_does(rt: HostRuntime) -> Result<(), Fail> {
     conclude(&rt, play_with_sale(rt.alloc(), MERGERS))
 }

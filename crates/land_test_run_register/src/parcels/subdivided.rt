@@ -102,7 +102,7 @@ const SEEN: &[Row] = &[
 ];
 
 #[test]
-fn holders_see_what_a_parcel_was_cut_into(rt: HostRuntime) -> Result<(), Fail> {
+fn holders_see_the_parts_of_a_parcel(rt: HostRuntime) -> Result<(), Fail> {
     conclude(&rt, play_with_sale(rt.alloc(), SEEN))
 }
 
@@ -354,6 +354,6 @@ const REPEATS: &[Row] = &[
 ];
 
 #[test]
-fn a_plan_is_a_repeat_where_its_rings_are_the_same(rt: HostRuntime) -> Result<(), Fail> {
+fn a_plan_is_a_repeat_if_its_rings_are_the_same(rt: HostRuntime) -> Result<(), Fail> {
     conclude(&rt, play_with_sale(rt.alloc(), REPEATS))
 }

@@ -1,8 +1,8 @@
 //! Replies to a change, and to a read after it, on a store that may stop.
 use land_desk::serve::{DeskFault, Served, serve};
 use land_keep::keeper::Keeper;
-use land_test_scenario::doubles::{Pieces, Readings, Sink};
-use land_test_scenario::talk::Talk;
+use land_test_scenario::doubles::{ChunkReader, ClockReadings, Sink};
+use land_test_scenario::talk::Transcript;
 use std::alloc::Global;
 
 /// The reply of a keeper whose store fails. The connection closes.
@@ -26,79 +26,79 @@ pub enum Ending {
     /// The change was done, the read got 502, which closes the connection, and the next request 503.
     Done,
     /// The change was done, and the read got its reply.
-    Told,
+    ExpectedReply,
     /// Out of memory.
-    Lacked,
+    AllocFailed,
     /// Any other outcome.
     Other,
 }
 
 /// Serves a stream from a keeper. Earlier replies are removed from the sink.
-fn served<K: Keeper>(
+fn serve_stream<K: Keeper>(
     alloc: Global,
     keeper: &mut K,
-    talk: &Talk,
+    talk: &Transcript,
     told: &mut Sink,
 ) -> Result<Served, DeskFault> {
-    told.taken.clear();
-    let mut reader = Pieces {
+    told.adopt_or_stop.clear();
+    let mut reader = ChunkReader {
         left: &talk.input,
         piece: 4096,
         reads: u64::MAX,
     };
-    let mut clock = Readings { left: &[] };
+    let mut clock = ClockReadings { left: &[] };
     serve(alloc, &mut reader, told, keeper, &mut clock)
 }
 
 /// Whether the given number of requests were answered.
-fn answered(served: &Result<Served, DeskFault>, replies: u64) -> bool {
-    *served == Ok(Served { replies })
+fn has_replies(serve_stream: &Result<Served, DeskFault>, replies: u64) -> bool {
+    *serve_stream == Ok(Served { replies })
 }
 
 /// Whether the change got its own reply, followed by the reply of a failed store.
-fn is_done_then_failed(talk: &Talk, taken: &[u8]) -> bool {
+fn is_done_then_failed(talk: &Transcript, adopt_or_stop: &[u8]) -> bool {
     let Some(mark) = talk.marks.first() else {
         return false;
     };
     if talk.output.len() < mark.told {
         return false;
     }
-    match taken.strip_prefix(&talk.output.as_bytes()[..mark.told]) {
+    match adopt_or_stop.strip_prefix(&talk.output.as_bytes()[..mark.told]) {
         Some(rest) => rest == FAILED,
         None => false,
     }
 }
 
 /// Determines the outcome from the replies.
-fn became(talk: &Talk, served: &Result<Served, DeskFault>, taken: &[u8]) -> Ending {
-    if taken == talk.output.as_bytes() && answered(served, 2) {
-        return Ending::Told;
+fn ending_of(talk: &Transcript, serve_stream: &Result<Served, DeskFault>, adopt_or_stop: &[u8]) -> Ending {
+    if adopt_or_stop == talk.output.as_bytes() && has_replies(serve_stream, 2) {
+        return Ending::ExpectedReply;
     }
-    if taken == FAILED && answered(served, 1) {
+    if adopt_or_stop == FAILED && has_replies(serve_stream, 1) {
         return Ending::Failed;
     }
-    if is_done_then_failed(talk, taken) && answered(served, 2) {
+    if is_done_then_failed(talk, adopt_or_stop) && has_replies(serve_stream, 2) {
         return Ending::Done;
     }
-    if taken.ends_with(NO_ROOM) || *served == Err(DeskFault::NoMemory) {
-        return Ending::Lacked;
+    if adopt_or_stop.ends_with(NO_ROOM) || *serve_stream == Err(DeskFault::NoMemory) {
+        return Ending::AllocFailed;
     }
     Ending::Other
 }
 
 /// Whether a keeper is closed, and the next request gets 503, after which the connection closes.
-fn is_closed<K: Keeper>(alloc: Global, keeper: &mut K, talk: &Talk, told: &mut Sink) -> bool {
-    let outcome = served(alloc, keeper, talk, told);
-    keeper.is_closed() && told.taken.as_slice() == CLOSED && answered(&outcome, 1)
+fn is_closed<K: Keeper>(alloc: Global, keeper: &mut K, talk: &Transcript, told: &mut Sink) -> bool {
+    let outcome = serve_stream(alloc, keeper, talk, told);
+    keeper.is_closed() && told.adopt_or_stop.as_slice() == CLOSED && has_replies(&outcome, 1)
 }
 
 /// Sends a change and a read as one stream, and again if the store fails.
-pub fn ask<K: Keeper>(alloc: Global, keeper: &mut K, talk: &Talk, told: &mut Sink) -> Ending {
-    let outcome = served(alloc, keeper, talk, told);
-    let ending = became(talk, &outcome, &told.taken);
+pub fn ask<K: Keeper>(alloc: Global, keeper: &mut K, talk: &Transcript, told: &mut Sink) -> Ending {
+    let outcome = serve_stream(alloc, keeper, talk, told);
+    let ending = ending_of(talk, &outcome, &told.adopt_or_stop);
     let is_well = match ending {
         Ending::Failed | Ending::Done => is_closed(alloc, keeper, talk, told),
-        Ending::Told => !keeper.is_closed(),
+        Ending::ExpectedReply => !keeper.is_closed(),
         _ => true,
     };
     if is_well { ending } else { Ending::Other }

@@ -7,12 +7,12 @@ use crate::every_stop::registers::{
     Change, MERGER, REGISTRATION, SUBDIVISION, Story, TRANSFER, rows_in, story_of,
 };
 use land_test_scenario::doubles::Sink;
-use land_test_scenario::playing::open_sink;
+use land_test_scenario::run_scenario::open_sink;
 use land_test_scenario::stop::{Stop, expect};
 use std::alloc::Global;
 
 /// A run is not stopped if a file may make this many calls.
-pub(crate) const MOST: u64 = 100000;
+pub(crate) const MAX_CALLS: u64 = 100000;
 
 /// The file that stops.
 #[derive(Clone, Copy)]
@@ -22,7 +22,7 @@ pub(crate) enum Which {
 }
 
 /// Returns fuses that stop one file after a number of calls, and never the other one.
-pub(crate) fn stopping(which: Which, calls: u64) -> Fuses {
+pub(crate) fn fuses_for(which: Which, calls: u64) -> Fuses {
     match which {
         Which::Log => Fuses {
             log: calls,
@@ -37,38 +37,38 @@ pub(crate) fn stopping(which: Which, calls: u64) -> Fuses {
 
 /// Whether files hold the register from before a change, or from after it.
 #[derive(Clone, Copy)]
-struct Held {
+struct HeldRegister {
     is_before: bool,
     is_after: bool,
 }
 
-fn held_by(alloc: Global, image: &Image, story: &Story) -> Result<Held, Stop> {
+fn held_by_image(alloc: Global, image: &Image, story: &Story) -> Result<HeldRegister, Stop> {
     let rows = rows_in(alloc, image)?;
-    Ok(Held {
+    Ok(HeldRegister {
         is_before: rows.as_str() == story.before.as_str(),
         is_after: rows.as_str() == story.after.as_str(),
     })
 }
 
 /// Returns which register the files hold now.
-fn held_in(alloc: Global, files: &Disks, story: &Story) -> Result<Held, Stop> {
+fn held_by_files(alloc: Global, files: &Disks, story: &Story) -> Result<HeldRegister, Stop> {
     let image = Image::of(alloc, files)?;
-    held_by(alloc, &image, story)
+    held_by_image(alloc, &image, story)
 }
 
 /// Whether that register is allowed, by the outcome of the change.
-fn may_be_left(ending: Ending, held: Held) -> bool {
+fn is_allowed_after(ending: Ending, held: HeldRegister) -> bool {
     match ending {
         Ending::Unasked => held.is_before,
         Ending::Failed => held.is_before || held.is_after,
-        Ending::Done | Ending::Told => held.is_after,
-        Ending::Lacked | Ending::Other => false,
+        Ending::Done | Ending::ExpectedReply => held.is_after,
+        Ending::AllocFailed | Ending::Other => false,
     }
 }
 
-fn is_told(ending: Ending) -> bool {
+fn is_answered(ending: Ending) -> bool {
     match ending {
-        Ending::Told => true,
+        Ending::ExpectedReply => true,
         _ => false,
     }
 }
@@ -82,7 +82,7 @@ fn is_failed(ending: Ending) -> bool {
 
 /// A change, and the files on which it is requested.
 #[derive(Clone, Copy)]
-struct Trial<'a> {
+struct StopCase<'a> {
     story: &'a Story,
     asked: Asked<'a>,
     which: Which,
@@ -96,28 +96,28 @@ fn look_at_files(
     files: &mut Disks,
     calls: usize,
 ) -> Result<(), Stop> {
-    let written = held_in(alloc, files, story)?;
-    expect(may_be_left(ending, written), "what was written", calls)?;
+    let register_with_retries = held_by_files(alloc, files, story)?;
+    expect(is_allowed_after(ending, register_with_retries), "what was written", calls)?;
     lose_power(files);
-    let synced = held_in(alloc, files, story)?;
-    expect(may_be_left(ending, synced), "what was synced", calls)
+    let synced = held_by_files(alloc, files, story)?;
+    expect(is_allowed_after(ending, synced), "what was synced", calls)
 }
 
 /// Requests the change on files of which one stops after a number of calls. Returns the outcome, and whether
 /// the file stopped.
 fn run(
     alloc: Global,
-    trial: Trial<'_>,
+    trial: StopCase<'_>,
     calls: u64,
     told: &mut Sink,
 ) -> Result<(Ending, bool), Stop> {
     let files = trial
         .story
         .files
-        .disks(alloc, stopping(trial.which, calls))?;
+        .disks(alloc, fuses_for(trial.which, calls))?;
     let (ending, left) = ask_files(alloc, files, trial.asked, told);
     let mut files = left;
-    if let Ending::Lacked = ending {
+    if let Ending::AllocFailed = ending {
         return Err(Stop::Memory);
     }
     let is_stopped = have_stopped(&mut files);
@@ -127,25 +127,25 @@ fn run(
 
 /// Stops the file after each number of calls, until a run is not stopped, in which all requests get their
 /// replies. Returns the number of runs in which the store failed at the change.
-fn count_failed(alloc: Global, trial: Trial<'_>, told: &mut Sink) -> Result<u64, Stop> {
+fn count_failed(alloc: Global, trial: StopCase<'_>, told: &mut Sink) -> Result<u64, Stop> {
     let mut failed = 0u64;
-    for calls in 0..MOST {
+    for calls in 0..MAX_CALLS {
         let (ending, is_stopped) = run(alloc, trial, calls, told)?;
         if !is_stopped {
-            expect(is_told(ending), "a run with no stop", calls as usize)?;
+            expect(is_answered(ending), "a run with no stop", calls as usize)?;
             return Ok(failed);
         }
         if is_failed(ending) {
             failed = failed.saturating_add(1);
         }
     }
-    Err(Stop::Unlike("a run with no stop", 0))
+    Err(Stop::Mismatch("a run with no stop", 0))
 }
 
 /// Stops the log, and then the database file. The store fails at the change at least if the log stops.
 fn each_file_stops(alloc: Global, story: &Story, asked: Asked<'_>) -> Result<(), Stop> {
     let mut told = open_sink(alloc, 4096)?;
-    let mut trial = Trial {
+    let mut trial = StopCase {
         story,
         asked,
         which: Which::Log,

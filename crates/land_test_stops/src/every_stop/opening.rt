@@ -7,7 +7,7 @@ use land_tables::table_keeper::TableKeeper;
 use land_tables::tables::Tables;
 use land_test_scenario::doubles::Sink;
 use land_test_scenario::stop::Stop;
-use land_test_scenario::talk::Talk;
+use land_test_scenario::talk::Transcript;
 use sqlite::{Alter, Connection, Error, ErrorCode, FileStore, Options};
 use sqlite_disk::{Fuse, Memory};
 use std::alloc::Global;
@@ -51,13 +51,13 @@ pub fn options(room: Room) -> Options {
 pub struct Asked<'a> {
     pub way: Way,
     pub room: Room,
-    pub talk: &'a Talk,
+    pub talk: &'a Transcript,
 }
 
 fn by_tables<S: Alter>(
     alloc: Global,
     tables: Tables<S>,
-    talk: &Talk,
+    talk: &Transcript,
     told: &mut Sink,
 ) -> (Ending, Tables<S>) {
     let mut keeper = TableKeeper::new(tables);
@@ -68,7 +68,7 @@ fn by_tables<S: Alter>(
 fn by_joins<S: Alter>(
     alloc: Global,
     tables: Tables<S>,
-    talk: &Talk,
+    talk: &Transcript,
     told: &mut Sink,
 ) -> (Ending, Tables<S>) {
     let mut keeper = SqlKeeper::new(tables);
@@ -77,7 +77,7 @@ fn by_joins<S: Alter>(
 }
 
 /// Sends the requests to a keeper of the tables.
-fn over<S: Alter>(
+fn ask_over<S: Alter>(
     alloc: Global,
     tables: Tables<S>,
     asked: Asked<'_>,
@@ -95,19 +95,19 @@ pub fn files_of(conn: Connection<Store>) -> Disks {
 }
 
 /// Returns the outcome if the store cannot be opened.
-fn unopened(error: Error) -> Ending {
+fn ending_of_open_error(error: Error) -> Ending {
     match error {
         Error::SqliteFailure(ErrorCode::SystemIoFailure) => Ending::Unasked,
-        Error::SqliteFailure(ErrorCode::OutOfMemory) => Ending::Lacked,
+        Error::SqliteFailure(ErrorCode::OutOfMemory) => Ending::AllocFailed,
         _ => Ending::Other,
     }
 }
 
 /// Returns the outcome if the store is refused.
-fn untaken(fault: AdoptFault) -> Ending {
+fn ending_of_adopt_fault(fault: AdoptFault) -> Ending {
     match fault {
         AdoptFault::Store => Ending::Unasked,
-        AdoptFault::NoMemory => Ending::Lacked,
+        AdoptFault::NoMemory => Ending::AllocFailed,
         _ => Ending::Other,
     }
 }
@@ -120,10 +120,10 @@ fn ask_store<S: Alter>(
 ) -> (Ending, Connection<S>) {
     match Tables::adopt(alloc, conn) {
         Ok(tables) => {
-            let (ending, tables) = over(alloc, tables, asked, told);
+            let (ending, tables) = ask_over(alloc, tables, asked, told);
             (ending, tables.into_connection())
         }
-        Err((conn, fault)) => (untaken(fault), conn),
+        Err((conn, fault)) => (ending_of_adopt_fault(fault), conn),
     }
 }
 
@@ -142,12 +142,12 @@ pub fn ask_files(
             let (ending, conn) = ask_store(alloc, conn, asked, told);
             (ending, files_of(conn))
         }
-        Err((error, left)) => (unopened(error), left.into_files()),
+        Err((error, left)) => (ending_of_open_error(error), left.into_files()),
     }
 }
 
 /// Opens a store in files that do not stop.
-pub fn opened(alloc: Global, files: Disks, room: Room) -> Result<Connection<Store>, Stop> {
+pub fn open_or_stop(alloc: Global, files: Disks, room: Room) -> Result<Connection<Store>, Stop> {
     if !files.may_be_used() {
         return Err(Stop::Call);
     }

@@ -1,17 +1,17 @@
 //! Registers before a change, in files, and the rows before it and after it.
 use crate::every_stop::disks::{Disks, ENDLESS, Image};
-use crate::every_stop::opening::{Room, Store, files_of, opened};
+use crate::every_stop::opening::{Room, Store, files_of, open_or_stop};
 use crate::every_stop::rows::rows_at;
 use land_core::limits::LAST_MOMENT;
 use land_tables::table_keeper::TableKeeper;
 use land_tables::tables::Tables;
-use land_test_scenario::looks::{look_at_more, look_at_steps};
-use land_test_scenario::playing::{play, play_more};
+use land_test_scenario::looks::{expect_rows_after_more, expect_rows_after_steps};
+use land_test_scenario::run_scenario::{play, play_more};
 use land_test_scenario::scenario::{MORE, STEPS};
 use land_test_scenario::stop::Stop;
-use land_test_scenario::talk::{OFFICE, Row, Talk, Told};
-use land_test_tables::cases::playing::{created, played, taken};
-use land_test_tables::tables::migrating::TO_FIRST;
+use land_test_scenario::talk::{OFFICE, Row, Transcript, ExpectedReply};
+use land_test_tables::cases::run_scenario::{create_or_stop, tables_after_scenario, adopt_or_stop};
+use land_test_tables::tables::migrating::DOWNGRADE;
 use sqlite::{Alter, Connection, Error, MemStore};
 use std::alloc::{AllocError, Global};
 
@@ -61,7 +61,7 @@ const LOOK: Row = Row(
     "GET /parties",
     OFFICE,
     b"",
-    Told::Shown(r#"{"numbers":[1,2,3,4,5,6,7]}"#),
+    ExpectedReply::Shown(r#"{"numbers":[1,2,3,4,5,6,7]}"#),
 );
 
 /// Files that hold the register before a change, the rows before and after it, and requests for the change
@@ -71,7 +71,7 @@ pub struct Story {
     pub files: Image,
     pub before: String,
     pub after: String,
-    pub talk: Talk,
+    pub talk: Transcript,
 }
 
 /// Returns a step of the scenario, or of its sequel.
@@ -83,8 +83,8 @@ fn step(place: usize) -> Option<&'static Row> {
 }
 
 /// Returns the steps before a change, as requests.
-fn steps_before(alloc: Global, change: &Change) -> Result<Talk, AllocError> {
-    let mut talk = Talk::new(alloc)?;
+fn steps_before(alloc: Global, change: &Change) -> Result<Transcript, AllocError> {
+    let mut talk = Transcript::new(alloc)?;
     for place in 0..change.steps {
         if let Some(step) = step(place) {
             talk.ask("a step", place, step)?;
@@ -94,8 +94,8 @@ fn steps_before(alloc: Global, change: &Change) -> Result<Talk, AllocError> {
 }
 
 /// Returns a change and a read, as requests.
-fn asked(alloc: Global, change: &Change) -> Result<Talk, AllocError> {
-    let mut talk = Talk::new(alloc)?;
+fn asked(alloc: Global, change: &Change) -> Result<Transcript, AllocError> {
+    let mut talk = Transcript::new(alloc)?;
     if let Some(step) = step(change.steps) {
         talk.ask("a change", change.steps, step)?;
     }
@@ -106,14 +106,14 @@ fn asked(alloc: Global, change: &Change) -> Result<Talk, AllocError> {
 /// Opens a store in new files that do not stop.
 fn new_store(alloc: Global) -> Result<Connection<Store>, Stop> {
     let files = Image::empty(alloc).disks(alloc, ENDLESS)?;
-    opened(alloc, files, Room::Tight)
+    open_or_stop(alloc, files, Room::Tight)
 }
 
 /// Plays steps on tables, and returns their store.
 fn play_over<S: Alter>(
     alloc: Global,
     tables: Tables<S>,
-    steps: &Talk,
+    steps: &Transcript,
 ) -> (Result<(), Stop>, Connection<S>) {
     let mut keeper = TableKeeper::new(tables);
     let done = play(alloc, &mut keeper, &[], steps);
@@ -122,49 +122,49 @@ fn play_over<S: Alter>(
 
 /// Returns files in which the steps before a change were played. The log holds the last step, which is not
 /// yet in the database file.
-fn played_files(alloc: Global, change: &Change) -> Result<Disks, Stop> {
+fn files_after_steps(alloc: Global, change: &Change) -> Result<Disks, Stop> {
     let steps = steps_before(alloc, change)?;
-    let (done, conn) = play_over(alloc, created(new_store(alloc)?)?, &steps);
+    let (done, conn) = play_over(alloc, create_or_stop(new_store(alloc)?)?, &steps);
     let files = files_of(conn);
     done?;
     Ok(files)
 }
 
 fn image_before(alloc: Global, change: &Change) -> Result<Image, Stop> {
-    let files = played_files(alloc, change)?;
+    let files = files_after_steps(alloc, change)?;
     Ok(Image::of(alloc, &files)?)
 }
 
 /// Returns files of schema version 1 in which the scenario was played. The log holds the conversion to that
 /// version.
-pub fn first_files(alloc: Global) -> Result<Image, Stop> {
-    let files = played_files(alloc, &PLAYED)?;
-    let (done, conn) = lowered(opened(alloc, files, Room::Ample)?);
+pub fn version_1_files(alloc: Global) -> Result<Image, Stop> {
+    let files = files_after_steps(alloc, &PLAYED)?;
+    let (done, conn) = downgrade(open_or_stop(alloc, files, Room::Ample)?);
     let files = files_of(conn);
     done?;
     Ok(Image::of(alloc, &files)?)
 }
 
 /// Converts a store to schema version 1, and returns it.
-fn lowered<S: Alter>(conn: Connection<S>) -> (Result<(), Error>, Connection<S>) {
+fn downgrade<S: Alter>(conn: Connection<S>) -> (Result<(), Error>, Connection<S>) {
     let mut conn = conn;
-    let done = conn.execute_batch(TO_FIRST);
+    let done = conn.execute_batch(DOWNGRADE);
     (done, conn)
 }
 
 /// Returns a store in memory after the scenario, and checks its rows.
 fn known_steps(alloc: Global) -> Result<Connection<MemStore>, Stop> {
-    let mut conn = played(alloc)?.into_connection();
-    look_at_steps(alloc, &mut conn)?;
+    let mut conn = tables_after_scenario(alloc)?.into_connection();
+    expect_rows_after_steps(alloc, &mut conn)?;
     Ok(conn)
 }
 
 /// Returns a store in memory after the scenario's sequel, and checks its rows.
 fn known_rows(alloc: Global) -> Result<Connection<MemStore>, Stop> {
-    let mut keeper = TableKeeper::new(taken(alloc, known_steps(alloc)?)?);
+    let mut keeper = TableKeeper::new(adopt_or_stop(alloc, known_steps(alloc)?)?);
     play_more(alloc, &mut keeper)?;
     let mut conn = keeper.into_tables().into_connection();
-    look_at_more(alloc, &mut conn)?;
+    expect_rows_after_more(alloc, &mut conn)?;
     Ok(conn)
 }
 
@@ -185,12 +185,12 @@ pub fn story_of(alloc: Global, change: &Change) -> Result<Story, Stop> {
 
 /// Reads all rows of the register in files, which are opened.
 pub fn rows_in(alloc: Global, image: &Image) -> Result<String, Stop> {
-    let conn = opened(alloc, image.disks(alloc, ENDLESS)?, Room::Ample)?;
-    taken_rows(alloc, conn)
+    let conn = open_or_stop(alloc, image.disks(alloc, ENDLESS)?, Room::Ample)?;
+    adopted_rows(alloc, conn)
 }
 
 /// Reads all rows of the register in a store, which is opened.
-fn taken_rows<S: Alter + Drop>(alloc: Global, conn: Connection<S>) -> Result<String, Stop> {
-    let mut conn = taken(alloc, conn)?.into_connection();
+fn adopted_rows<S: Alter + Drop>(alloc: Global, conn: Connection<S>) -> Result<String, Stop> {
+    let mut conn = adopt_or_stop(alloc, conn)?.into_connection();
     rows_at(alloc, &mut conn, LAST_MOMENT)
 }

@@ -1,5 +1,5 @@
 //! The visible objects of a small register.
-ghost use Rattle.land_tables_schema.specs.Land.{IsLand};
+ghost use Rattle.land_tables_schema.specs.Schemas.{IsSchemaV2};
 ghost use Rattle.sqlite.specs.Held.{state};
 ghost use Rattle.sqlite.specs.State.{HasCleanDisk};
 
@@ -11,7 +11,7 @@ use land_select_joins::joins::sight::sight;
 use land_tables_rows::listing::fault::ReadFault;
 use land_tables_schema::rows::creation::make_register;
 use land_tables_schema::rows::openness::is_open;
-use land_tables_schema::schema::{is_empty, is_land};
+use land_tables_schema::schema::{is_empty, is_schema_v2};
 use land_test_scenario::stop::{Stop, expect};
 use sqlite::{Connection, Error, ErrorCode, MemStore};
 use std::alloc::Global;
@@ -88,7 +88,7 @@ const LOOKS: &[Look] = &[
 ];
 
 /// Returns the error for a store that is not as expected.
-fn unlike() -> Error {
+fn unexpected_store() -> Error {
     Error::SqliteFailure(ErrorCode::TransactionState)
 }
 
@@ -96,7 +96,7 @@ fn unlike() -> Error {
 fn small_register(alloc: Global) -> Result<Connection<MemStore>, Error> {
     let mut conn = Connection::open_in_memory(alloc)?;
     if !is_empty(conn.schema()) || !conn.is_autocommit() {
-        return Err(unlike());
+        return Err(unexpected_store());
     }
     make_register(&mut conn)?;
     conn.execute_batch(ROWS)?;
@@ -104,20 +104,20 @@ fn small_register(alloc: Global) -> Result<Connection<MemStore>, Error> {
 }
 
 /// Returns the numbers that a caller sees, if the store is open and has the tables.
-fn seen(
+fn sight_of_caller(
     alloc: Global,
     conn: &mut Connection<MemStore>,
     caller: Caller,
     kind: Kind,
     at: i64,
 ) -> Result<NumberList, Error> {
-    if !is_open(conn) || !is_land(conn.schema()) {
-        return Err(unlike());
+    if !is_open(conn) || !is_schema_v2(conn.schema()) {
+        return Err(unexpected_store());
     }
     match sight(alloc, conn, caller, kind, at) {
         Ok(numbers) => Ok(numbers),
         Err(ReadFault::NoMemory) => Err(Error::SqliteFailure(ErrorCode::OutOfMemory)),
-        Err(_) => Err(unlike()),
+        Err(_) => Err(unexpected_store()),
     }
 }
 
@@ -133,7 +133,7 @@ pub fn a_small_register_is_seen_by_role(alloc: Global) -> Result<(), Stop> {
             party: look.0,
             role: look.1,
         };
-        let numbers = seen(alloc, &mut conn, caller, look.2, look.3)?;
+        let numbers = sight_of_caller(alloc, &mut conn, caller, look.2, look.3)?;
         expect(are_numbers(&numbers, look.4), "look", place)?;
     }
     Ok(())

@@ -1,7 +1,7 @@
 //! A new register.
-use crate::rows::table::{Table, expect_tables, unlike};
+use crate::rows::table::{Table, expect_tables, unexpected_store};
 use land_tables_schema::rows::creation::make_register;
-use land_tables_schema::schema::{is_empty, is_land};
+use land_tables_schema::schema::{is_empty, is_schema_v2};
 use land_test_scenario::stop::{Stop, expect};
 use sqlite::{Connection, Error, MemStore};
 use std::alloc::Global;
@@ -10,7 +10,7 @@ use std::alloc::Global;
 pub fn new_register(alloc: Global) -> Result<Connection<MemStore>, Error> {
     let mut conn = Connection::open_in_memory(alloc)?;
     if !is_empty(conn.schema()) || !conn.is_autocommit() {
-        return Err(unlike());
+        return Err(unexpected_store());
     }
     make_register(&mut conn)?;
     Ok(conn)
@@ -38,6 +38,6 @@ const FIRST: &[(Table, &str)] = &[
 /// A new register has the tables of a register, and its first rows.
 pub fn a_new_register_has_its_first_rows(alloc: Global) -> Result<(), Stop> {
     let mut conn = new_register(alloc)?;
-    expect(is_land(conn.schema()) && conn.is_autocommit(), "tables", 0)?;
+    expect(is_schema_v2(conn.schema()) && conn.is_autocommit(), "tables", 0)?;
     expect_tables(alloc, &mut conn, FIRST)
 }

@@ -2,7 +2,7 @@
 use land_tables_schema::rows::tables::{
     edition, mandate, member, moments, mutation, names, parcel, party, role, rrr, source, unit,
 };
-use land_tables_schema::schema::is_land;
+use land_tables_schema::schema::is_schema_v2;
 use land_test_scenario::stop::{Stop, expect};
 use sqlite::types::ValueRef;
 use sqlite::{Alter, Connection, Error, ErrorCode, Row};
@@ -26,14 +26,14 @@ pub enum Table {
 }
 
 /// Returns the error for a store that is not as expected.
-pub fn unlike() -> Error {
+pub fn unexpected_store() -> Error {
     Error::SqliteFailure(ErrorCode::TransactionState)
 }
 
 /// Returns all rows of a table.
 fn rows<S: Alter>(conn: &mut Connection<S>, table: Table) -> Result<Vec<Row>, Error> {
-    if !is_land(conn.schema()) {
-        return Err(unlike());
+    if !is_schema_v2(conn.schema()) {
+        return Err(unexpected_store());
     }
     match table {
         Table::Edition => edition::all(conn),
@@ -58,9 +58,9 @@ fn write_cell(text: &mut String, cell: ValueRef<'_>) -> Result<(), Error> {
         ValueRef::Int(number) => write!(text, "{number}")?,
         ValueRef::Text(bytes) => match std::str::from_utf8(bytes) {
             Ok(words) => text.push_str(words)?,
-            Err(_) => return Err(unlike()),
+            Err(_) => return Err(unexpected_store()),
         },
-        ValueRef::Real(_) | ValueRef::Blob(_) => return Err(unlike()),
+        ValueRef::Real(_) | ValueRef::Blob(_) => return Err(unexpected_store()),
     }
     Ok(())
 }

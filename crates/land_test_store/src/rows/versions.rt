@@ -3,13 +3,13 @@ ghost use Rattle.land_tables_schema.specs.Connections.{HasRegisterTables};
 ghost use Rattle.sqlite.specs.Held.{state};
 
 use crate::rows::register::new_register;
-use crate::rows::table::{Table, expect_tables, unlike};
+use crate::rows::table::{Table, expect_tables, unexpected_store};
 use land_tables_schema::rows::tables::mutation::MutationCells;
 use land_tables_schema::rows::tables::rrr::RrrCells;
 use land_tables_schema::rows::tables::{
     mandate, member, moments, mutation, names, parcel, party, role, rrr, source, unit,
 };
-use land_tables_schema::schema::is_land;
+use land_tables_schema::schema::is_schema_v2;
 use land_test_scenario::stop::{Stop, expect};
 use sqlite::{Alter, Connection, Error, Transaction};
 use std::alloc::Global;
@@ -173,8 +173,8 @@ fn write_source<S: Alter>(tx: &mut Transaction<'_, S>, write: Write) -> Result<u
 
 /// Runs one write in its own transaction, and returns the number of rows written.
 fn write_one<S: Alter>(conn: &mut Connection<S>, write: Write) -> Result<usize, Error> {
-    if !is_land(conn.schema()) || !conn.is_autocommit() {
-        return Err(unlike());
+    if !is_schema_v2(conn.schema()) || !conn.is_autocommit() {
+        return Err(unexpected_store());
     }
     let mut tx = conn.transaction();
     let count = match write {
@@ -303,7 +303,7 @@ const FOUND: &[(Table, &str)] = &[
 ];
 
 /// Each statement inserts or closes versions, and then the tables have these rows.
-pub fn versions_begin_and_are_closed(alloc: Global) -> Result<(), Stop> {
+pub fn versions_are_inserted_and_closed(alloc: Global) -> Result<(), Stop> {
     let mut conn = new_register(alloc)?;
     for (place, (write, wanted)) in WRITES.iter().enumerate() {
         let count = write_one(&mut conn, *write)?;
@@ -319,7 +319,7 @@ const OFFICE_ALONE: &[(Table, &str)] = &[(
 )];
 
 /// A party of a transaction that is rolled back does not exist.
-pub fn what_is_not_committed_is_not_there(alloc: Global) -> Result<(), Stop> {
+pub fn uncommitted_rows_do_not_exist(alloc: Global) -> Result<(), Stop> {
     let mut conn = new_register(alloc)?;
     drop_a_party(&mut conn)?;
     expect_tables(alloc, &mut conn, OFFICE_ALONE)
@@ -327,8 +327,8 @@ pub fn what_is_not_committed_is_not_there(alloc: Global) -> Result<(), Stop> {
 
 /// Inserts a party, and rolls the transaction back.
 fn drop_a_party<S: Alter>(conn: &mut Connection<S>) -> Result<(), Error> {
-    if !is_land(conn.schema()) || !conn.is_autocommit() {
-        return Err(unlike());
+    if !is_schema_v2(conn.schema()) || !conn.is_autocommit() {
+        return Err(unexpected_store());
     }
     let mut tx = conn.transaction();
     write_party(&mut tx, Write::Party(2, "Ada", 1000))?;

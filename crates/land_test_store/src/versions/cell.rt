@@ -58,7 +58,7 @@ fn replaced(values: [ValueRef<'static>; 13], others: &[(usize, Cell)]) -> [Value
 }
 
 /// Returns a row of these cells, some of them replaced.
-pub fn row_but<S: Alter>(
+pub fn row_except<S: Alter>(
     conn: &mut Connection<S>,
     cells: &[Cell],
     others: &[(usize, Cell)],
@@ -74,5 +74,5 @@ pub fn row_with<S: Alter>(
     at: usize,
     cell: Cell,
 ) -> Result<Row, Error> {
-    row_but(conn, cells, &[(at, cell)], &[])
+    row_except(conn, cells, &[(at, cell)], &[])
 }

@@ -1,5 +1,5 @@
 //! Histories, built from rows.
-use crate::versions::cell::{Cell, row_but};
+use crate::versions::cell::{Cell, row_except};
 use crate::versions::sample::sample_of;
 use crate::versions::table::Table;
 use land_core::sequence::Sequence;
@@ -40,7 +40,7 @@ fn row_of<S: Alter>(conn: &mut Connection<S>, span: &Span) -> Result<Row, Error>
         (width.saturating_sub(2), Cell::Number(span.2)),
         (width.saturating_sub(1), Cell::Number(span.3)),
     ];
-    row_but(conn, cells, span.1, &lifespan)
+    row_except(conn, cells, span.1, &lifespan)
 }
 
 /// Adds a version.

@@ -167,7 +167,7 @@ const LIVES: &[Lives] = &[
 ];
 
 /// Returns whether a history may have these lifespans of the sample of a table.
-fn may_have<S: Alter>(
+fn may_have_lifespans<S: Alter>(
     alloc: Global,
     conn: &mut Connection<S>,
     table: Table,
@@ -185,8 +185,8 @@ pub fn lifespans_of_one_key_do_not_overlap(alloc: Global) -> Result<(), Stop> {
     let mut conn = Connection::open_in_memory(alloc)?;
     for table in VERSIONED {
         for (place, lives) in LIVES.iter().enumerate() {
-            let may_have = may_have(alloc, &mut conn, *table, lives.0)?;
-            expect(may_have == lives.1, "row", place)?;
+            let may_have_lifespans = may_have_lifespans(alloc, &mut conn, *table, lives.0)?;
+            expect(may_have_lifespans == lives.1, "row", place)?;
         }
     }
     Ok(())
@@ -221,7 +221,7 @@ const BESIDE: &[Beside] = &[
 ];
 
 /// Returns whether a sample and another version may be current together.
-fn may_stand<S: Alter>(
+fn may_be_current<S: Alter>(
     alloc: Global,
     conn: &mut Connection<S>,
     beside: &Beside,
@@ -235,11 +235,11 @@ fn may_stand<S: Alter>(
 }
 
 /// Other keys have lifespans of their own.
-pub fn other_keys_have_other_lifespans(alloc: Global) -> Result<(), Stop> {
+pub fn other_keys_have_their_own_lifespans(alloc: Global) -> Result<(), Stop> {
     let mut conn = Connection::open_in_memory(alloc)?;
     for (place, beside) in BESIDE.iter().enumerate() {
-        let may_stand = may_stand(alloc, &mut conn, beside)?;
-        expect(may_stand == beside.2, "row", place)?;
+        let may_be_current = may_be_current(alloc, &mut conn, beside)?;
+        expect(may_be_current == beside.2, "row", place)?;
     }
     Ok(())
 }

@@ -89,7 +89,7 @@ fn are_known<S: Alter>(conn: &mut Connection<S>) -> Result<bool, Error> {
 }
 
 /// Each word has one meaning, and no other word has it.
-pub fn each_word_stands_for_one_thing(alloc: Global) -> Result<(), Stop> {
+pub fn each_word_has_one_meaning(alloc: Global) -> Result<(), Stop> {
     let mut conn = Connection::open_in_memory(alloc)?;
     expect(are_known(&mut conn)?, "words", 0)
 }

@@ -5,7 +5,7 @@ use sqlite::{Connection, MemStore};
 use std::alloc::Global;
 
 /// Creates a register in a store. Returns the number of the fault, 0 if it was created, and the store.
-pub fn made(conn: Connection<MemStore>) -> (u16, Connection<MemStore>) {
+pub fn create_fault(conn: Connection<MemStore>) -> (u16, Connection<MemStore>) {
     match Tables::create(conn) {
         Ok(tables) => {
             let is_new = tables.last() == 0 && tables.next() == 2 && !tables.is_closed();
@@ -30,7 +30,7 @@ pub fn run_on(left: &mut Option<Connection<MemStore>>, text: &str) -> Result<(),
 }
 
 /// Returns a new store on which SQL statements were run.
-pub fn store(alloc: Global, text: &str) -> Result<Connection<MemStore>, Stop> {
+pub fn store_after_sql(alloc: Global, text: &str) -> Result<Connection<MemStore>, Stop> {
     let mut conn = Connection::open_in_memory(alloc)?;
     run(&mut conn, text)?;
     Ok(conn)

@@ -1,15 +1,15 @@
 //! Stores of schema version 1, which has no mandates: those that are migrated, and those that are left
 //! unchanged.
-use crate::cases::playing::played;
+use crate::cases::run_scenario::tables_after_scenario;
 use crate::cases::stores::{expect_fault, run, run_on};
 use land_tables::tables::Tables;
-use land_test_scenario::looks::{Look, look_at, look_at_steps};
+use land_test_scenario::looks::{Look, look_at, expect_rows_after_steps};
 use land_test_scenario::stop::Stop;
 use sqlite::{Connection, MemStore};
 use std::alloc::Global;
 
 /// SQL statements that turn a store of schema version 2 without mandates into one of version 1.
-pub const TO_FIRST: &str = "DROP TABLE mandate; UPDATE edition SET version = 1";
+pub const DOWNGRADE: &str = "DROP TABLE mandate; UPDATE edition SET version = 1";
 
 /// SQL statements on the tables of schema version 1, others that undo them, and the fault that `migrate`
 /// returns in between.
@@ -84,21 +84,21 @@ pub const AFTER: &[Look] = &[Look("SELECT * FROM mandate", "")];
 
 /// Migrates a store. Returns the number of the fault, 0 if it is migrated and has the register of the
 /// scenario, and the store.
-fn migrated(alloc: Global, conn: Connection<MemStore>) -> (u16, Connection<MemStore>) {
+fn migrate_fault(alloc: Global, conn: Connection<MemStore>) -> (u16, Connection<MemStore>) {
     match Tables::migrate(alloc, conn) {
         Ok(tables) => {
-            let is_last = tables.last() == 1017 && tables.next() == 30 && !tables.is_closed();
-            (if is_last { 0 } else { 1 }, tables.into_connection())
+            let has_scenario_end = tables.last() == 1017 && tables.next() == 30 && !tables.is_closed();
+            (if has_scenario_end { 0 } else { 1 }, tables.into_connection())
         }
         Err((conn, fault)) => (fault.number(), conn),
     }
 }
 
 /// Migrates the store in the option, and puts it back.
-fn migrate_back(alloc: Global, left: &mut Option<Connection<MemStore>>) -> Result<u16, Stop> {
+fn migrate_in_place(alloc: Global, left: &mut Option<Connection<MemStore>>) -> Result<u16, Stop> {
     match left.take() {
         Some(conn) => {
-            let (fault, back) = migrated(alloc, conn);
+            let (fault, back) = migrate_fault(alloc, conn);
             *left = Some(back);
             Ok(fault)
         }
@@ -107,13 +107,13 @@ fn migrate_back(alloc: Global, left: &mut Option<Connection<MemStore>>) -> Resul
 }
 
 /// Changes the store in the option, migrates it, and undoes the change. Returns the fault of migrating.
-fn undone(
+fn fault_between(
     alloc: Global,
     left: &mut Option<Connection<MemStore>>,
     change: &Change,
 ) -> Result<u16, Stop> {
     run_on(left, change.0)?;
-    let fault = migrate_back(alloc, left)?;
+    let fault = migrate_in_place(alloc, left)?;
     run_on(left, change.1)?;
     Ok(fault)
 }
@@ -121,13 +121,13 @@ fn undone(
 /// Fails if some change does not have its fault.
 fn are_refused(alloc: Global, left: &mut Option<Connection<MemStore>>) -> Result<(), Stop> {
     for (place, change) in CHANGES.iter().enumerate() {
-        expect_fault(undone(alloc, left, change)?, change.2, "change", place)?;
+        expect_fault(fault_between(alloc, left, change)?, change.2, "change", place)?;
     }
     Ok(())
 }
 
 /// Fails if the store in the option is not of schema version 1.
-fn look_before(alloc: Global, left: &mut Option<Connection<MemStore>>) -> Result<(), Stop> {
+fn check_version_1(alloc: Global, left: &mut Option<Connection<MemStore>>) -> Result<(), Stop> {
     match left.as_mut() {
         Some(conn) => look_at(alloc, conn, BEFORE),
         None => Err(Stop::Call),
@@ -135,11 +135,11 @@ fn look_before(alloc: Global, left: &mut Option<Connection<MemStore>>) -> Result
 }
 
 /// Fails if it is not of schema version 2, with the rows of the scenario and no mandates.
-fn look_after(alloc: Global, left: &mut Option<Connection<MemStore>>) -> Result<(), Stop> {
+fn check_version_2(alloc: Global, left: &mut Option<Connection<MemStore>>) -> Result<(), Stop> {
     match left.as_mut() {
         Some(conn) => {
             look_at(alloc, conn, AFTER)?;
-            look_at_steps(alloc, conn)
+            expect_rows_after_steps(alloc, conn)
         }
         None => Err(Stop::Call),
     }
@@ -147,37 +147,37 @@ fn look_after(alloc: Global, left: &mut Option<Connection<MemStore>>) -> Result<
 
 /// The store in the option is migrated, and not a second time.
 fn is_migrated(alloc: Global, left: &mut Option<Connection<MemStore>>) -> Result<(), Stop> {
-    expect_fault(migrate_back(alloc, left)?, 0, "migrated", 0)?;
-    look_after(alloc, left)?;
-    expect_fault(migrate_back(alloc, left)?, 523, "migrated again", 0)?;
-    look_after(alloc, left)
+    expect_fault(migrate_in_place(alloc, left)?, 0, "migrated", 0)?;
+    check_version_2(alloc, left)?;
+    expect_fault(migrate_in_place(alloc, left)?, 523, "migrated again", 0)?;
+    check_version_2(alloc, left)
 }
 
 /// Returns a store of schema version 1 after the scenario.
-fn old_store(alloc: Global) -> Result<Option<Connection<MemStore>>, Stop> {
-    let mut conn = played(alloc)?.into_connection();
-    run(&mut conn, TO_FIRST)?;
+fn version_1_store(alloc: Global) -> Result<Option<Connection<MemStore>>, Stop> {
+    let mut conn = tables_after_scenario(alloc)?.into_connection();
+    run(&mut conn, DOWNGRADE)?;
     Ok(Some(conn))
 }
 
 /// Each change is refused, and the store is unchanged.
-fn stays(alloc: Global, left: &mut Option<Connection<MemStore>>) -> Result<(), Stop> {
-    look_before(alloc, left)?;
+fn check_refusals_change_nothing(alloc: Global, left: &mut Option<Connection<MemStore>>) -> Result<(), Stop> {
+    check_version_1(alloc, left)?;
     are_refused(alloc, left)?;
-    look_before(alloc, left)
+    check_version_1(alloc, left)
 }
 
 /// Stores that are refused are unchanged, and one that is migrated has its old rows; it is not migrated
 /// again.
-pub fn a_register_of_the_first_version_is_migrated_once(alloc: Global) -> Result<(), Stop> {
-    let mut left = old_store(alloc)?;
-    stays(alloc, &mut left)?;
+pub fn a_v1_register_is_migrated_once(alloc: Global) -> Result<(), Stop> {
+    let mut left = version_1_store(alloc)?;
+    check_refusals_change_nothing(alloc, &mut left)?;
     is_migrated(alloc, &mut left)
 }
 
 /// A store that has lost indexes of schema version 1 is migrated like one that has them.
 pub fn a_register_without_its_indexes_is_migrated(alloc: Global) -> Result<(), Stop> {
-    let mut left = old_store(alloc)?;
+    let mut left = version_1_store(alloc)?;
     run_on(
         &mut left,
         "DROP INDEX rrr_party; DROP INDEX names_unit; DROP INDEX role_role",

@@ -1,5 +1,5 @@
 //! Replies from tables, compared with those of the plain keeper.
-use crate::cases::playing::played;
+use crate::cases::run_scenario::tables_after_scenario;
 use land_core::ask::{Ask, Request};
 use land_core::caller::Caller;
 use land_core::kind::Kind;
@@ -8,7 +8,7 @@ use land_keep::keeper::Keeper;
 use land_keep::machine::answer;
 use land_keep::reply::Reply;
 use land_tables::table_keeper::TableKeeper;
-use land_test_scenario::playing::plain;
+use land_test_scenario::run_scenario::plain;
 use land_test_scenario::stop::{Stop, expect};
 use std::alloc::Global;
 
@@ -37,7 +37,7 @@ const KINDS: &[Kind] = &[
 const MOMENTS: &[Option<i64>] = &[None, Some(1009), Some(1011), Some(1015), Some(5000)];
 
 /// Whether a reply is an out-of-memory error.
-fn wants_memory(reply: &Reply) -> bool {
+fn is_out_of_memory(reply: &Reply) -> bool {
     match reply {
         Reply::Store(number) => *number == 501,
         _ => false,
@@ -61,7 +61,7 @@ fn denies(reply: &Reply, rule: u8) -> bool {
 }
 
 /// Whether a reply is this fault of the request.
-fn tells_fault(reply: &Reply, number: u16) -> bool {
+fn has_fault(reply: &Reply, number: u16) -> bool {
     match reply {
         Reply::Fault(found) => *found == number,
         _ => false,
@@ -73,14 +73,14 @@ fn is_alike(reply: &Reply, other: &Reply) -> bool {
     match other {
         Reply::Numbers(numbers) => lists(reply, numbers.as_slice()),
         Reply::Denied(rule) => denies(reply, *rule),
-        Reply::Fault(number) => tells_fault(reply, *number),
+        Reply::Fault(number) => has_fault(reply, *number),
         _ => false,
     }
 }
 
 /// Whether two replies are equal. Running out of memory stops the test.
-fn is_one(reply: &Reply, other: &Reply) -> Result<bool, Stop> {
-    if wants_memory(reply) || wants_memory(other) {
+fn compare_or_stop(reply: &Reply, other: &Reply) -> Result<bool, Stop> {
+    if is_out_of_memory(reply) || is_out_of_memory(other) {
         Err(Stop::Memory)
     } else {
         Ok(is_alike(reply, other))
@@ -88,7 +88,7 @@ fn is_one(reply: &Reply, other: &Reply) -> Result<bool, Stop> {
 }
 
 /// Whether two keepers give a caller the same reply for a kind at a time.
-fn tell_one<K: Keeper, L: Keeper>(
+fn same_reply<K: Keeper, L: Keeper>(
     alloc: Global,
     keeper: &mut K,
     other: &mut L,
@@ -98,11 +98,11 @@ fn tell_one<K: Keeper, L: Keeper>(
         return Ok(false);
     }
     let reply = answer(alloc, keeper, 1000, request);
-    is_one(&reply, &answer(alloc, other, 1000, request))
+    compare_or_stop(&reply, &answer(alloc, other, 1000, request))
 }
 
 /// Whether two keepers give a caller the same replies for all kinds at a time.
-fn tell_kinds<K: Keeper, L: Keeper>(
+fn same_for_kinds<K: Keeper, L: Keeper>(
     alloc: Global,
     keeper: &mut K,
     other: &mut L,
@@ -111,7 +111,7 @@ fn tell_kinds<K: Keeper, L: Keeper>(
 ) -> Result<bool, Stop> {
     for kind in KINDS {
         let ask = Ask::List { kind: *kind, at };
-        if !tell_one(alloc, keeper, other, &Request { caller, ask })? {
+        if !same_reply(alloc, keeper, other, &Request { caller, ask })? {
             return Ok(false);
         }
     }
@@ -119,7 +119,7 @@ fn tell_kinds<K: Keeper, L: Keeper>(
 }
 
 /// Whether two keepers give a caller the same replies at all times.
-fn tell_same<K: Keeper, L: Keeper>(
+fn same_for_caller<K: Keeper, L: Keeper>(
     alloc: Global,
     keeper: &mut K,
     other: &mut L,
@@ -130,7 +130,7 @@ fn tell_same<K: Keeper, L: Keeper>(
         role: caller.1,
     };
     for at in MOMENTS {
-        if !tell_kinds(alloc, keeper, other, caller, *at)? {
+        if !same_for_kinds(alloc, keeper, other, caller, *at)? {
             return Ok(false);
         }
     }
@@ -138,13 +138,13 @@ fn tell_same<K: Keeper, L: Keeper>(
 }
 
 /// Fails if some caller gets different replies.
-fn tell_all<K: Keeper, L: Keeper>(
+fn check_same_for_callers<K: Keeper, L: Keeper>(
     alloc: Global,
     keeper: &mut K,
     other: &mut L,
 ) -> Result<(), Stop> {
     for (place, caller) in CALLERS.iter().enumerate() {
-        expect(tell_same(alloc, keeper, other, caller)?, "caller", place)?;
+        expect(same_for_caller(alloc, keeper, other, caller)?, "caller", place)?;
     }
     Ok(())
 }
@@ -152,6 +152,6 @@ fn tell_all<K: Keeper, L: Keeper>(
 /// Callers get the same replies from tables as from the plain keeper.
 pub fn callers_are_told_what_the_plain_keeper_tells(alloc: Global) -> Result<(), Stop> {
     let mut plain = plain(alloc)?;
-    let mut keeper = TableKeeper::new(played(alloc)?);
-    tell_all(alloc, &mut keeper, &mut plain)
+    let mut keeper = TableKeeper::new(tables_after_scenario(alloc)?);
+    check_same_for_callers(alloc, &mut keeper, &mut plain)
 }

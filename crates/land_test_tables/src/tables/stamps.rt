@@ -1,15 +1,15 @@
 //! The register at each stamp, compared with that of the plain keeper.
-use crate::cases::playing::played_more;
+use crate::cases::run_scenario::tables_after_more;
 use land_core::kind::Kind;
 use land_core::object::Object;
 use land_core::register::Register;
 use land_keep::keeper::Keeper;
 use land_keep::plain_keeper::PlainKeeper;
 use land_tables::tables::Tables;
-use land_test_scenario::playing::plain_more;
+use land_test_scenario::run_scenario::plain_more;
 use land_test_scenario::stop::{Stop, expect};
-use land_wire_json::texts::fields::{new_text, text_of};
-use land_wire_json::texts::object::write_as_shown;
+use land_wire_json::texts::fields::{new_writer, text_of};
+use land_wire_json::texts::object::write_object_json;
 use sqlite::Alter;
 use std::alloc::{AllocError, Global};
 
@@ -64,8 +64,8 @@ const AT: &[At] = &[
 fn text_shown(alloc: Global, object: &Option<Object>) -> Result<String, AllocError> {
     match object {
         Some(object) => {
-            let mut out = new_text(alloc)?;
-            write_as_shown(alloc, &mut out, object)?;
+            let mut out = new_writer(alloc)?;
+            write_object_json(alloc, &mut out, object)?;
             Ok(text_of(out))
         }
         None => Ok(String::new(alloc)),
@@ -118,7 +118,7 @@ fn are_same(
 }
 
 /// Whether all objects are equal.
-fn is_plain(
+fn equals_plain(
     alloc: Global,
     register: &Register,
     plain: &mut PlainKeeper,
@@ -146,7 +146,7 @@ fn count(register: &Register) -> usize {
 }
 
 /// Whether the register in tables at a time is the plain keeper's, and has the given number of objects.
-fn is_as_said<S: Alter>(
+fn matches_row<S: Alter>(
     alloc: Global,
     tables: &mut Tables<S>,
     plain: &mut PlainKeeper,
@@ -154,20 +154,20 @@ fn is_as_said<S: Alter>(
 ) -> Result<bool, Stop> {
     let register = tables.read_at(alloc, at.0)?;
     Ok(
-        is_plain(alloc, &register, plain, at.0)?
+        equals_plain(alloc, &register, plain, at.0)?
             && count(&register) == at.1
             && register.next == at.2,
     )
 }
 
 /// Fails if the tables do not have the plain keeper's register at some time.
-fn are_as_said<S: Alter>(
+fn check_rows<S: Alter>(
     alloc: Global,
     tables: &mut Tables<S>,
     plain: &mut PlainKeeper,
 ) -> Result<(), Stop> {
     for (place, at) in AT.iter().enumerate() {
-        expect(is_as_said(alloc, tables, plain, at)?, "moment", place)?;
+        expect(matches_row(alloc, tables, plain, at)?, "moment", place)?;
     }
     Ok(())
 }
@@ -175,6 +175,6 @@ fn are_as_said<S: Alter>(
 /// After the scenario and its sequel the tables have the registers of the plain keeper.
 pub fn tables_have_the_registers_of_the_plain_keeper(alloc: Global) -> Result<(), Stop> {
     let mut plain = plain_more(alloc)?;
-    let mut tables = played_more(alloc)?;
-    are_as_said(alloc, &mut tables, &mut plain)
+    let mut tables = tables_after_more(alloc)?;
+    check_rows(alloc, &mut tables, &mut plain)
 }

@@ -37,24 +37,24 @@ body_length (value ∷ again ∷ more) = Err fault.Head
 
 -- the length of the body after a whole head (RFC 9112, section 6), or the first of these faults: too many
 -- fields, any transfer encoding, a wrong length
-unfoldable pub frame : RequestHead → Result ℕ FrameFault
-frame h =
+unfoldable pub body_length_of : RequestHead → Result ℕ FrameFault
+body_length_of h =
     if nat_lt 64 (length h.fields) then Err fault.Head
     else if nat_lt 0 (length (values_named (codes "transfer-encoding") (fields_of h))) then Err fault.Encoding
     else body_length (values_named (codes "content-length") (fields_of h))
 
 -- the word is `close`, without case, with white space around it
-abbrev pub is_close : List ℕ → Bool
-is_close word = str_eq_ignore_ascii_case (trim_ows word) (codes "close")
+abbrev pub is_close_option : List ℕ → Bool
+is_close_option word = str_eq_ignore_ascii_case (trim_ows word) (codes "close")
 
 -- `close` is one of the words between commas
-abbrev pub says_close : List ℕ → Bool
-says_close value = list_any is_close (slice_split (λ b. b == 44) value)
+abbrev pub has_close_option : List ℕ → Bool
+has_close_option value = list_any is_close_option (slice_split (λ b. b == 44) value)
 
 -- the connection closes after the request (RFC 9112, section 9.3): the version is HTTP/1.0, or a `Connection`
 -- field has the option `close`
-unfoldable pub ends : RequestHead → Bool
-ends h = (h.minor == 0) || list_any says_close (values_named (codes "connection") (fields_of h))
+unfoldable pub wants_close : RequestHead → Bool
+wants_close h = (h.minor == 0) || list_any has_close_option (values_named (codes "connection") (fields_of h))
 
 -- the method is `HEAD`, whose response has no body (RFC 9110, section 9.3.2)
 unfoldable pub is_head : RequestHead → Bool

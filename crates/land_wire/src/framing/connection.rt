@@ -2,25 +2,25 @@
 ghost use Rattle.std.specs.Prelude.{◌≡◌};
 ghost use Rattle.httparse.specs.Grammar.{RequestHead, trim_ows};
 ghost use Rattle.httparse.specs.Spans.{IsRequestAt, IsRequestWithin};
-ghost use Rattle.land_wire.specs.Framing.Frame.{ends, is_head, says_close, is_close};
+ghost use Rattle.land_wire.specs.Framing.Frame.{wants_close, is_head, has_close_option, is_close_option};
 
-use crate::words::is_word_in_any_case;
+use crate::words::matches_ignoring_case;
 use httparse::is_space_or_tab;
 use httparse::spans::{HeaderSpan, RequestSpans};
 
 /// Checks whether the connection closes after the request (RFC 9112, section 9.3): the version is HTTP/1.0,
 /// or a `Connection` field has the option `close`, compared without case.
-#[tactic(auto, unfolding(crate::specs::Framing::Frame::ends))]
-pub fn ends(spans: &RequestSpans, head: &[u8], headers: &[HeaderSpan]) -> bool
+#[tactic(auto, unfolding(crate::specs::Framing::Frame::wants_close))]
+pub fn wants_close(spans: &RequestSpans, head: &[u8], headers: &[HeaderSpan]) -> bool
     requires { IsRequestWithin head.now headers.now spans.now }
-    ensures { (h : RequestHead) → IsRequestAt head.now headers.now spans.now h → result ≡ ends h }
+    ensures { (h : RequestHead) → IsRequestAt head.now headers.now spans.now h → result ≡ wants_close h }
 {
     if spans.version == 0 {
         return true;
     }
     for field in &headers[..spans.headers] {
-        if is_word_in_any_case(field.name.of(head), "connection")
-            && says_close(field.value.of(head))
+        if matches_ignoring_case(field.name.of(head), "connection")
+            && has_close_option(field.value.of(head))
         {
             return true;
         }
@@ -38,20 +38,20 @@ pub fn is_head(spans: &RequestSpans, head: &[u8], headers: &[HeaderSpan]) -> boo
 }
 
 /// Checks whether `close` is one of the words between commas.
-fn says_close(value: &[u8]) -> bool
-    ensures { result ≡ says_close value.now }
+fn has_close_option(value: &[u8]) -> bool
+    ensures { result ≡ has_close_option value.now }
 {
-    value.split(|byte| *byte == b',').any(is_close)
+    value.split(|byte| *byte == b',').any(is_close_option)
 }
 
-fn is_close(word: &[u8]) -> bool
-    ensures { result ≡ is_close word.now }
+fn is_close_option(word: &[u8]) -> bool
+    ensures { result ≡ is_close_option word.now }
 {
-    is_word_in_any_case(trimmed(word), "close")
+    matches_ignoring_case(trim_whitespace(word), "close")
 }
 
 /// Returns the bytes without the spaces and tabs around them.
-fn trimmed(bytes: &[u8]) -> &[u8]
+fn trim_whitespace(bytes: &[u8]) -> &[u8]
     ensures { result.now ≡ trim_ows bytes.now }
 {
     let mut start = 0;

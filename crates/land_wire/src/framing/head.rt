@@ -4,8 +4,8 @@ ghost use Rattle.std.specs.Io.KnownBytes.{IsAtEnd, prepend_known};
 ghost use Rattle.httparse.specs.Grammar.{RequestHead};
 ghost use Rattle.land_wire.specs.Framing.Reads.{FailsOnlyIfCalled, IsOutOfMemoryOnlyIfFull, LosesNoByte};
 ghost use Rattle.land_wire.specs.Framing.Reads.{ReadsChunks};
-ghost use Rattle.land_wire.specs.Framing.Stream.{HasHead, IsFoundFault, IsHeadIn, IsJustRead, IsLook};
-ghost use Rattle.land_wire.specs.Framing.Stream.{field_room, limit};
+ghost use Rattle.land_wire.specs.Framing.Stream.{HasHead, IsHeadFaultOf, IsHeadIn, LastReadWasNeeded, IsHeadParse};
+ghost use Rattle.land_wire.specs.Framing.Stream.{field_room, max_head_length};
 
 use crate::framing::frame_fault::FrameFault;
 use crate::framing::target::ends_in_target;
@@ -24,7 +24,7 @@ pub const FIELD_ROOM: usize = 2731;
 
 /// The result of parsing a window.
 #[derive(Clone, Copy, Debug, PartialEq, Eq)]
-pub enum Look {
+pub enum HeadParse {
     /// The window begins with a whole head.
     Whole(RequestSpans),
     /// The head is incomplete.
@@ -35,7 +35,7 @@ pub enum Look {
 
 /// The head at the front of a stream, or its fault.
 #[derive(Clone, Copy, Debug, PartialEq, Eq)]
-pub enum Found {
+pub enum HeadResult {
     /// A whole head.
     Whole(RequestSpans),
     /// The fault `Head`, `HeadLong` or `Cut`.
@@ -50,7 +50,7 @@ pub fn read_head<R: Read>(
     reader: &mut CountedReader<'_, R>,
     buffer: &mut Vec<u8>,
     headers: &mut [HeaderSpan],
-) -> Result<Found, StreamFault>
+) -> Result<HeadResult, StreamFault>
     requires { field_room ≤ length headers.old }
     ensures room { length headers.new ≡ length headers.old }
     ensures bound { ReadsChunks (length buffer.old.items) reader.old.left
@@ -58,16 +58,16 @@ pub fn read_head<R: Read>(
     ensures fewer { reader.new.left ≤ reader.old.left }
     ensures stream { LosesNoByte buffer.old.items (R.remaining reader.old.reader.now)
         buffer.new.items (R.remaining reader.new.reader.now) }
-    ensures end { IfOk result (λ f. f ≡ Found.Fault FrameFault.Cut
+    ensures end { IfOk result (λ f. f ≡ HeadResult.Fault FrameFault.Cut
         → IsAtEnd (R.remaining reader.new.reader.now)) }
     ensures unread { (h : RequestHead) (rest : List ℕ) → HasHead buffer.old.items h rest
         → (reader.new ≡ reader.old) × (buffer.new.items ≡ buffer.old.items) }
-    ensures ahead { length buffer.old.items ≤ 1024 → IfOk result (λ f. IsJustRead buffer.new.items) }
+    ensures ahead { length buffer.old.items ≤ 1024 → IfOk result (λ f. LastReadWasNeeded buffer.new.items) }
     ensures same_reference { reader.new.reader.ghost_name ≡ reader.old.reader.ghost_name }
     ensures whole { IfOk result (λ f. IsHeadIn buffer.new.items headers.new f) }
     ensures fault { IfOk result (λ f. IfSome
         (prepend_known buffer.new.items (R.remaining reader.new.reader.now))
-        (λ stream. IsFoundFault stream f)) }
+        (λ stream. IsHeadFaultOf stream f)) }
 
     // Returns `NoMemory` only if the buffer had no capacity for a chunk, and `Read` only if the reader was
     // called, or its budget was spent.
@@ -77,17 +77,17 @@ pub fn read_head<R: Read>(
 {
     loop {
         let end = buffer.len().min(HEAD_LIMIT);
-        match look_at(&buffer[..end], headers) {
-            Look::Whole(spans) => return Ok(Found::Whole(spans)),
-            Look::Never => return Ok(Found::Fault(FrameFault::Head)),
-            Look::More => {}
+        match parse_head(&buffer[..end], headers) {
+            HeadParse::Whole(spans) => return Ok(HeadResult::Whole(spans)),
+            HeadParse::Never => return Ok(HeadResult::Fault(FrameFault::Head)),
+            HeadParse::More => {}
         }
         if buffer.len() >= HEAD_LIMIT {
-            return Ok(Found::Fault(FrameFault::HeadLong));
+            return Ok(HeadResult::Fault(FrameFault::HeadLong));
         }
         match read_more(reader, buffer) {
             Err(fault) => return Err(fault),
-            Ok(0) => return Ok(Found::Fault(FrameFault::Cut)),
+            Ok(0) => return Ok(HeadResult::Fault(FrameFault::Cut)),
             Ok(_) => {}
         }
     }
@@ -95,16 +95,16 @@ pub fn read_head<R: Read>(
 
 /// Parses a window. `httparse` rejects a target that is not valid UTF-8 before the target's end was read, so
 /// a window that ends inside a target counts as incomplete.
-pub fn look_at(window: &[u8], headers: &mut [HeaderSpan]) -> Look
-    requires small { length window.now ≤ limit }
+pub fn parse_head(window: &[u8], headers: &mut [HeaderSpan]) -> HeadParse
+    requires small { length window.now ≤ max_head_length }
     requires room { field_room ≤ length headers.old }
-    ensures { IsLook window.now headers.new result }
+    ensures { IsHeadParse window.now headers.new result }
 {
     match parse_request(window, headers) {
-        Ok(Status::Complete(spans)) => Look::Whole(spans),
-        Ok(Status::Partial) => Look::More,
+        Ok(Status::Complete(spans)) => HeadParse::Whole(spans),
+        Ok(Status::Partial) => HeadParse::More,
         Err(Error::TooManyHeaders) => unreachable!(),
-        Err(_) if ends_in_target(window) => Look::More,
-        Err(_) => Look::Never,
+        Err(_) if ends_in_target(window) => HeadParse::More,
+        Err(_) => HeadParse::Never,
     }
 }

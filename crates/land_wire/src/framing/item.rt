@@ -2,15 +2,15 @@
 ghost use Rattle.std.specs.Prelude.{◌≡◌, ◌≤◌, ℕ, List, length, vec_len, vec_capacity, IfOk, IfSome};
 ghost use Rattle.std.specs.Io.KnownBytes.{prepend_known};
 ghost use Rattle.httparse.specs.Grammar.{RequestHead};
-ghost use Rattle.land_wire.specs.Framing.Items.{fault_front, request, IsItem, IsFrontIn, IsFrontOf};
-ghost use Rattle.land_wire.specs.Framing.Items.{IsReadFor};
+ghost use Rattle.land_wire.specs.Framing.Items.{next_of_fault, request, IsItem, IsNextIn, IsNextOf};
+ghost use Rattle.land_wire.specs.Framing.Items.{ReadsUpTo};
 ghost use Rattle.land_wire.specs.Framing.Reads.{FailsOnlyIfCalled, IsOutOfMemoryOnlyIfFull, LosesNoByte};
 ghost use Rattle.land_wire.specs.Framing.Reads.{ReadsChunks};
 ghost use Rattle.land_wire.specs.Framing.Stream.{field_room};
 
 use crate::framing::frame_fault::FrameFault;
-use crate::framing::framing::frame;
-use crate::framing::head::{Found, read_head};
+use crate::framing::framing::body_length_of;
+use crate::framing::head::{HeadResult, read_head};
 use httparse::spans::{HeaderSpan, RequestSpans};
 use land_streams::buffer::read_to;
 use land_streams::counted_reader::CountedReader;
@@ -19,7 +19,7 @@ use std::io::Read;
 
 /// The next item of a stream.
 #[derive(Clone, Copy, Debug, PartialEq, Eq)]
-pub enum Front {
+pub enum NextItem {
     /// The end of the input.
     End,
     /// A framing fault, after which the rest is ignored.
@@ -37,7 +37,7 @@ pub fn read_item<R: Read>(
     reader: &mut CountedReader<'_, R>,
     buffer: &mut Vec<u8>,
     headers: &mut [HeaderSpan],
-) -> Result<Front, StreamFault>
+) -> Result<NextItem, StreamFault>
     requires { field_room ≤ length headers.old }
     ensures room { length headers.new ≡ length headers.old }
     ensures bound { ReadsChunks (length buffer.old.items) reader.old.left
@@ -47,12 +47,12 @@ pub fn read_item<R: Read>(
         buffer.new.items (R.remaining reader.new.reader.now) }
     ensures unread { (h : RequestHead) (body rest : List ℕ)
         → IsItem buffer.old.items (request h body) rest → reader.new ≡ reader.old }
-    ensures ahead { length buffer.old.items ≤ 1024 → IfOk result (λ f. IsReadFor buffer.new.items f) }
+    ensures ahead { length buffer.old.items ≤ 1024 → IfOk result (λ f. ReadsUpTo buffer.new.items f) }
     ensures same_reference { reader.new.reader.ghost_name ≡ reader.old.reader.ghost_name }
-    ensures front { IfOk result (λ f. IsFrontIn buffer.new.items headers.new f) }
+    ensures front { IfOk result (λ f. IsNextIn buffer.new.items headers.new f) }
     ensures item { IfOk result (λ f. IfSome
         (prepend_known buffer.new.items (R.remaining reader.new.reader.now))
-        (λ stream. IsFrontOf stream f)) }
+        (λ stream. IsNextOf stream f)) }
 
     // Returns `NoMemory` only if the buffer had no capacity for a chunk, and `Read` only if the reader was
     // called, or its budget was spent.
@@ -62,26 +62,26 @@ pub fn read_item<R: Read>(
 {
     let spans = match read_head(reader, buffer, headers) {
         Err(fault) => return Err(fault),
-        Ok(Found::Fault(fault)) => return Ok(fault_front(fault, buffer.is_empty())),
-        Ok(Found::Whole(spans)) => spans,
+        Ok(HeadResult::Fault(fault)) => return Ok(next_of_fault(fault, buffer.is_empty())),
+        Ok(HeadResult::Whole(spans)) => spans,
     };
-    let length = match frame(&spans, buffer, headers) {
-        Err(fault) => return Ok(Front::Fault(fault)),
+    let length = match body_length_of(&spans, buffer, headers) {
+        Err(fault) => return Ok(NextItem::Fault(fault)),
         Ok(length) => length,
     };
     match read_to(reader, buffer, spans.len + length) {
         Err(fault) => Err(fault),
-        Ok(false) => Ok(Front::Fault(FrameFault::Cut)),
-        Ok(true) => Ok(Front::Request(spans, length)),
+        Ok(false) => Ok(NextItem::Fault(FrameFault::Cut)),
+        Ok(true) => Ok(NextItem::Request(spans, length)),
     }
 }
 
 /// Returns the item of a fault before the end of a head: the end, if the input is empty.
-fn fault_front(fault: FrameFault, empty: bool) -> Front
-    ensures { result ≡ fault_front fault empty }
+fn next_of_fault(fault: FrameFault, empty: bool) -> NextItem
+    ensures { result ≡ next_of_fault fault empty }
 {
     match fault {
-        FrameFault::Cut if empty => Front::End,
-        _ => Front::Fault(fault),
+        FrameFault::Cut if empty => NextItem::End,
+        _ => NextItem::Fault(fault),
     }
 }

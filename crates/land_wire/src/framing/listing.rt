@@ -1,13 +1,13 @@
 //! Counts the items of bytes that are a complete stream.
 ghost use Rattle.std.specs.Prelude.{◌≡◌, ◌≤◌, List, length};
-ghost use Rattle.land_wire.specs.Framing.Items.{Item, AreItems, IsFrontIn, IsFrontOf};
+ghost use Rattle.land_wire.specs.Framing.Items.{Item, AreItems, IsNextIn, IsNextOf};
 ghost use Rattle.land_wire.specs.Framing.Stream.{field_room};
 
-use crate::framing::connection::ends;
+use crate::framing::connection::wants_close;
 use crate::framing::frame_fault::FrameFault;
-use crate::framing::framing::frame;
-use crate::framing::head::{HEAD_LIMIT, Look, look_at};
-use crate::framing::item::Front;
+use crate::framing::framing::body_length_of;
+use crate::framing::head::{HEAD_LIMIT, HeadParse, parse_head};
+use crate::framing::item::NextItem;
 use httparse::spans::HeaderSpan;
 
 /// Returns the number of items of a stream. This also proves that each stream has a list of items.
@@ -18,11 +18,11 @@ pub fn item_count(bytes: &[u8], headers: &mut [HeaderSpan]) -> usize
     let mut rest = bytes;
     let mut count = 0;
     loop {
-        match front_of(rest, headers) {
-            Front::End => return count,
-            Front::Fault(_) => return count + 1,
-            Front::Request(spans, length) => {
-                if ends(&spans, rest, headers) {
+        match next_item_of(rest, headers) {
+            NextItem::End => return count,
+            NextItem::Fault(_) => return count + 1,
+            NextItem::Request(spans, length) => {
+                if wants_close(&spans, rest, headers) {
                     return count + 1;
                 }
                 count += 1;
@@ -33,23 +33,23 @@ pub fn item_count(bytes: &[u8], headers: &mut [HeaderSpan]) -> usize
 }
 
 /// Returns the first item of a complete stream.
-pub fn front_of(bytes: &[u8], headers: &mut [HeaderSpan]) -> Front
+pub fn next_item_of(bytes: &[u8], headers: &mut [HeaderSpan]) -> NextItem
     requires { field_room ≤ length headers.old }
     ensures room { length headers.new ≡ length headers.old }
-    ensures front { IsFrontIn bytes.now headers.new result }
-    ensures item { IsFrontOf bytes.now result }
+    ensures front { IsNextIn bytes.now headers.new result }
+    ensures item { IsNextOf bytes.now result }
 {
     let end = bytes.len().min(HEAD_LIMIT);
-    let spans = match look_at(&bytes[..end], headers) {
-        Look::Whole(spans) => spans,
-        Look::Never => return Front::Fault(FrameFault::Head),
-        Look::More if bytes.is_empty() => return Front::End,
-        Look::More if bytes.len() >= HEAD_LIMIT => return Front::Fault(FrameFault::HeadLong),
-        Look::More => return Front::Fault(FrameFault::Cut),
+    let spans = match parse_head(&bytes[..end], headers) {
+        HeadParse::Whole(spans) => spans,
+        HeadParse::Never => return NextItem::Fault(FrameFault::Head),
+        HeadParse::More if bytes.is_empty() => return NextItem::End,
+        HeadParse::More if bytes.len() >= HEAD_LIMIT => return NextItem::Fault(FrameFault::HeadLong),
+        HeadParse::More => return NextItem::Fault(FrameFault::Cut),
     };
-    match frame(&spans, bytes, headers) {
-        Err(fault) => Front::Fault(fault),
-        Ok(length) if bytes.len() - spans.len < length => Front::Fault(FrameFault::Cut),
-        Ok(length) => Front::Request(spans, length),
+    match body_length_of(&spans, bytes, headers) {
+        Err(fault) => NextItem::Fault(fault),
+        Ok(length) if bytes.len() - spans.len < length => NextItem::Fault(FrameFault::Cut),
+        Ok(length) => NextItem::Request(spans, length),
     }
 }

@@ -4,7 +4,7 @@ ghost use Rattle.httparse.specs.Spans.{header_bytes};
 ghost use Rattle.land_wire.specs.Fields.{AreWithin, values_named};
 ghost use Rattle.land_wire.specs.Framing.Frame.{IsOccurrence};
 
-use crate::words::is_word_in_any_case;
+use crate::words::matches_ignoring_case;
 use httparse::spans::{HeaderSpan, Span};
 
 /// The number of fields with a name.
@@ -19,13 +19,13 @@ pub enum Occurrence {
 }
 
 /// Finds the fields with a name, compared without case.
-pub fn look_up(head: &[u8], fields: &[HeaderSpan], name: &str) -> Occurrence
+pub fn find_field(head: &[u8], fields: &[HeaderSpan], name: &str) -> Occurrence
     requires { AreWithin head.now fields.now }
     ensures { IsOccurrence head.now (values_named name.now (map (header_bytes head.now) fields.now)) result }
 {
     let mut found = Occurrence::Absent;
     for field in fields {
-        if is_word_in_any_case(field.name.of(head), name) {
+        if matches_ignoring_case(field.name.of(head), name) {
             found = match found {
                 Occurrence::Absent => Occurrence::Once(field.value),
                 _ => Occurrence::Repeated,

@@ -1,13 +1,13 @@
 //! Checks whether bytes end inside a request target.
 ghost use Rattle.std.specs.Prelude.{◌≡◌, ◌↔◌, IsTrue};
 ghost use Rattle.httparse.specs.Grammar.{EndsInTarget};
-ghost use Rattle.land_wire.specs.Framing.Target.{next_place, place_after};
+ghost use Rattle.land_wire.specs.Framing.Target.{next_scan_state, scan_state_after};
 
 use httparse::{is_method_token, is_uri_token};
 
 /// The state of a scan from the front of a head.
 #[derive(Clone, Copy, Debug, PartialEq, Eq)]
-pub enum Place {
+pub enum ScanState {
     /// At the start of a line, after empty lines only.
     Blank,
     /// After a carriage return on such a line.
@@ -25,30 +25,30 @@ pub enum Place {
 pub fn ends_in_target(bytes: &[u8]) -> bool
     ensures { IsTrue result ↔ EndsInTarget bytes.now }
 {
-    matches!(place_after(bytes), Place::Target)
+    matches!(scan_state_after(bytes), ScanState::Target)
 }
 
-fn place_after(bytes: &[u8]) -> Place
-    ensures { result ≡ place_after Place.Blank bytes.now }
+fn scan_state_after(bytes: &[u8]) -> ScanState
+    ensures { result ≡ scan_state_after ScanState.Blank bytes.now }
 {
-    let mut place = Place::Blank;
+    let mut place = ScanState::Blank;
     for byte in bytes {
-        place = next_place(place, *byte);
+        place = next_scan_state(place, *byte);
     }
     place
 }
 
-fn next_place(place: Place, byte: u8) -> Place
-    ensures { result ≡ next_place place byte }
+fn next_scan_state(place: ScanState, byte: u8) -> ScanState
+    ensures { result ≡ next_scan_state place byte }
 {
     match place {
-        Place::Blank if byte == b'\r' => Place::Return,
-        Place::Blank if byte == b'\n' => Place::Blank,
-        Place::Blank if is_method_token(byte) => Place::Method,
-        Place::Return if byte == b'\n' => Place::Blank,
-        Place::Method if byte == b' ' => Place::Target,
-        Place::Method if is_method_token(byte) => Place::Method,
-        Place::Target if is_uri_token(byte) => Place::Target,
-        _ => Place::Elsewhere,
+        ScanState::Blank if byte == b'\r' => ScanState::Return,
+        ScanState::Blank if byte == b'\n' => ScanState::Blank,
+        ScanState::Blank if is_method_token(byte) => ScanState::Method,
+        ScanState::Return if byte == b'\n' => ScanState::Blank,
+        ScanState::Method if byte == b' ' => ScanState::Target,
+        ScanState::Method if is_method_token(byte) => ScanState::Method,
+        ScanState::Target if is_uri_token(byte) => ScanState::Target,
+        _ => ScanState::Elsewhere,
     }
 }

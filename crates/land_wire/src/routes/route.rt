@@ -1,10 +1,10 @@
 //! Routes: the resource of a path, and its method.
 ghost use Rattle.std.specs.Prelude.{◌≡◌, ◌+◌, ◌≤◌, length, drop, option_map};
 ghost use Rattle.land_wire.specs.Routes.{allows, before_slash, list_path, method_of, resource, route_of};
-ghost use Rattle.land_wire.specs.Routes.Table.{FindsRoutes, named_by};
+ghost use Rattle.land_wire.specs.Routes.Table.{RoutesCorrectly, resource_of_endpoint};
 
 use crate::routes::act_word::ActWord;
-use crate::routes::table::Goal;
+use crate::routes::table::Endpoint;
 use land_core::kind::Kind;
 use matchit::Router;
 
@@ -41,8 +41,8 @@ pub fn allows(route: &Route<'_>, method: &[u8]) -> bool
 }
 
 /// Returns the route of a path, or `None` if it has none. `router` comes from `routes`.
-pub fn find_route<'a>(router: &Router<Goal>, path: &'a str) -> Option<Route<'a>>
-    requires { FindsRoutes router.now }
+pub fn find_route<'a>(router: &Router<Endpoint>, path: &'a str) -> Option<Route<'a>>
+    requires { RoutesCorrectly router.now }
     ensures { option_map resource result ≡ route_of path.now }
 {
     match router.at(path) {
@@ -51,17 +51,17 @@ pub fn find_route<'a>(router: &Router<Goal>, path: &'a str) -> Option<Route<'a>>
     }
 }
 
-fn route_at(goal: Goal, path: &[u8]) -> Option<Route<'_>>
-    ensures { option_map resource result ≡ named_by path.now goal }
+fn route_at(goal: Endpoint, path: &[u8]) -> Option<Route<'_>>
+    ensures { option_map resource result ≡ resource_of_endpoint path.now goal }
 {
     match goal {
-        Goal::List(kind) => Some(Route::List(kind)),
-        Goal::View(kind) => {
-            let part = behind(path, list_path_length(kind) + 1);
+        Endpoint::List(kind) => Some(Route::List(kind)),
+        Endpoint::View(kind) => {
+            let part = skip_bytes(path, list_path_length(kind) + 1);
             Some(Route::View(kind, part))
         }
-        Goal::Sheet => Some(Route::Sheet(first_part(behind(path, 7)))),
-        Goal::Act => Some(Route::Act(ActWord::of(behind(path, 6))?)),
+        Endpoint::Sheet => Some(Route::Sheet(first_segment(skip_bytes(path, 7)))),
+        Endpoint::Act => Some(Route::Act(ActWord::of(skip_bytes(path, 6))?)),
     }
 }
 
@@ -78,7 +78,7 @@ fn list_path_length(kind: Kind) -> usize
     }
 }
 
-fn behind(path: &[u8], count: usize) -> &[u8]
+fn skip_bytes(path: &[u8], count: usize) -> &[u8]
     ensures { result.now ≡ drop count path.now }
 {
     if count <= path.len() {
@@ -88,14 +88,14 @@ fn behind(path: &[u8], count: usize) -> &[u8]
     }
 }
 
-fn first_part(path: &[u8]) -> &[u8]
+fn first_segment(path: &[u8]) -> &[u8]
     ensures { result.now ≡ before_slash path.now }
 {
-    let at = slash_at(path);
+    let at = find_slash(path);
     if at < path.len() { &path[..at] } else { path }
 }
 
-fn slash_at(path: &[u8]) -> usize
+fn find_slash(path: &[u8]) -> usize
     ensures count { result ≡ length (before_slash path.now) }
     ensures within { result ≤ length path.now }
 {

@@ -50,32 +50,32 @@ unfoldable pub text_at : (key : List ℕ) → Data → Result (List ℕ) WireFau
 text_at key value = field_at key value >>= λ found. or_fault (as_str found) fault.Field
 
 -- the boolean of a key; fault 131 if it is missing or not a boolean
-unfoldable pub truth_at : (key : List ℕ) → Data → Result Bool WireFault
-truth_at key value = field_at key value >>= λ found. or_fault (as_bool found) fault.Field
+unfoldable pub bool_at : (key : List ℕ) → Data → Result Bool WireFault
+bool_at key value = field_at key value >>= λ found. or_fault (as_bool found) fault.Field
 
 -- the text, if it is within the limits of its field; otherwise fault 133
-abbrev pub limited : (List ℕ → Bool) → List ℕ → Result (List ℕ) WireFault
-limited is_allowed text = if is_allowed text then Ok text else Err fault.Text
+abbrev pub require_text : (List ℕ → Bool) → List ℕ → Result (List ℕ) WireFault
+require_text is_allowed text = if is_allowed text then Ok text else Err fault.Text
 
-abbrev pub limited_at : (List ℕ → Bool) → (key : List ℕ) → Data → Result (List ℕ) WireFault
-limited_at is_allowed key value = text_at key value >>= limited is_allowed
+abbrev pub require_text_at : (List ℕ → Bool) → (key : List ℕ) → Data → Result (List ℕ) WireFault
+require_text_at is_allowed key value = text_at key value >>= require_text is_allowed
 
 -- ---- numbers
 
 -- a number in plain digits and in range; fault 132 if it has a sign, a point or an exponent, or is out of
 -- range
-abbrev pub ranged : (ℕ → Bool) → Num → Result ℕ WireFault
-ranged is_allowed (unsigned n) = if is_allowed n then Ok n else Err fault.Number
-ranged is_allowed (negative z) = Err fault.Number
-ranged is_allowed (float x) = Err fault.Number
+abbrev pub require_in_range : (ℕ → Bool) → Num → Result ℕ WireFault
+require_in_range is_allowed (unsigned n) = if is_allowed n then Ok n else Err fault.Number
+require_in_range is_allowed (negative z) = Err fault.Number
+require_in_range is_allowed (float x) = Err fault.Number
 
 -- a number in range; fault 131 if the value is not a number
-abbrev pub ranged_in : (ℕ → Bool) → Data → Result ℕ WireFault
-ranged_in is_allowed value = or_fault (as_number value) fault.Field >>= ranged is_allowed
+abbrev pub require_number : (ℕ → Bool) → Data → Result ℕ WireFault
+require_number is_allowed value = or_fault (as_number value) fault.Field >>= require_in_range is_allowed
 
 -- the number of an object, 1 to 1_000_000_000
 unfoldable pub number_in : Data → Result ℕ WireFault
-number_in value = ranged_in is_number value
+number_in value = require_number is_number value
 
 unfoldable pub number_at : (key : List ℕ) → Data → Result ℕ WireFault
 number_at key value = field_at key value >>= number_in

@@ -7,7 +7,7 @@ use Rattle.land_core.specs.declared.act.Act.TheVariants as act
 use Rattle.land_core.specs.declared.content.Content.{Content}
 use Rattle.land_shape.specs.Faults.{IsOutlineAnswer}
 use Rattle.land_wire_json.specs.Bodies.Mutations.{content_in, decision_of, lodging_of}
-use Rattle.land_wire_json.specs.Bodies.Outlines.{answer_of}
+use Rattle.land_wire_json.specs.Bodies.Outlines.{outline_answer}
 use Rattle.land_wire_json.specs.Bodies.Parties.{enrol_of, group_of, regroup_of, grant_of, mandate_of}
 use Rattle.land_wire_json.specs.Bodies.Parties.{withdrawal_of}
 use Rattle.land_wire_json.specs.Bodies.Stored.{IsStorable}
@@ -17,8 +17,8 @@ use Rattle.land_wire_json.specs.declared.bodies.content_kind.ContentKind.{Conten
 use Rattle.serde_json.specs.Data.{Data}
 
 -- the answer for an outline's text is a ring that the text denotes, or the text's first fault
-abbrev pub OutlinesHaveTheirAnswers : Type 0
-OutlinesHaveTheirAnswers = (text : List ℕ) → IsOutlineAnswer text (answer_of text)
+abbrev pub OutlinesAreAnswered : Type 0
+OutlinesAreAnswered = (text : List ℕ) → IsOutlineAnswer text (outline_answer text)
 
 -- the value read from a body is within the limits of its act
 pub record BodiesAreWellFormed : Type 0 where
@@ -43,5 +43,5 @@ ContentsAreWellFormed =
     (word text : List ℕ) → IfOk (content_in word text) (λ it. is_well_formed_content it ≡ true)
 
 -- reading the text of a content returns that content
-abbrev pub ContentsAreRead : Type 0
-ContentsAreRead = (it : Content) → IsStorable it → content_in (act_word it) (content_text it) ≡ Ok it
+abbrev pub ContentsRoundTrip : Type 0
+ContentsRoundTrip = (it : Content) → IsStorable it → content_in (act_word it) (content_text it) ≡ Ok it

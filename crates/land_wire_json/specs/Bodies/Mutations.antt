@@ -2,7 +2,7 @@
 use Rattle.std.specs.Prelude.{ℕ, List, [], ◌∷◌, codes, bytes_eq, Option, Some, None, Result, Ok, Err}
 use Rattle.std.specs.Prelude.{if◌then◌else◌}
 use Rattle.land_core.specs.Contents.{is_amount, is_currency}
-use Rattle.land_core.specs.Mergers.{rise_above, lists_number}
+use Rattle.land_core.specs.Mergers.{all_above, lists_number}
 use Rattle.land_core.specs.Texts.{is_name, is_title, is_label, is_reference}
 use Rattle.land_core.specs.declared.act.Decision.{Decision}
 use Rattle.land_core.specs.declared.act.Lodging.{Lodging}
@@ -14,8 +14,8 @@ use Rattle.land_core.specs.declared.content.Transfer.{Transfer}
 use Rattle.land_core.specs.declared.merger.Merger.{Merger}
 use Rattle.land_core.specs.declared.subdivision.Part.{Part}
 use Rattle.land_core.specs.declared.subdivision.Subdivision.{Subdivision}
-use Rattle.land_wire_json.specs.Bodies.Fields.{text_value, object_with, field_at, limited, limited_at}
-use Rattle.land_wire_json.specs.Bodies.Fields.{number_in, number_at, ranged_in, items_at, each_of}
+use Rattle.land_wire_json.specs.Bodies.Fields.{text_value, object_with, field_at, require_text, require_text_at}
+use Rattle.land_wire_json.specs.Bodies.Fields.{number_in, number_at, require_number, items_at, each_of}
 use Rattle.land_wire_json.specs.Bodies.Outlines.{outline_in}
 use Rattle.land_wire_json.specs.Bodies.Shares.{share_at}
 use Rattle.land_wire_json.specs.Bodies.Units.{parcel_of}
@@ -48,13 +48,13 @@ subdivision_fields = codes "unit" ∷ codes "parcel" ∷ codes "first" ∷ codes
 -- the name of a new unit is optional
 abbrev pub new_name_of : Option Data → Result (Option (List ℕ)) WireFault
 new_name_of None = Ok None
-new_name_of (Some value) = or_fault (as_str value) fault.Field >>= limited is_name >>= λ name. Ok (Some name)
+new_name_of (Some value) = or_fault (as_str value) fault.Field >>= require_text is_name >>= λ name. Ok (Some name)
 
 -- a part: `label`, `outline`, and `unit` if it goes to a new unit
 unfoldable pub part_of : Data → Result Part WireFault
 part_of value = do
   whole ← object_with (codes "label" ∷ codes "outline" ∷ codes "unit" ∷ []) value
-  label ← limited_at is_label (codes "label") value
+  label ← require_text_at is_label (codes "label") value
   outline ← outline_in value
   unit ← new_name_of (get (codes "unit") value)
   Ok (record { label = label; outline = outline; unit = unit })
@@ -78,10 +78,10 @@ abbrev pub merger_fields : List (List ℕ)
 merger_fields = codes "unit" ∷ codes "others" ∷ codes "parcels" ∷ codes "label" ∷ codes "outline" ∷ []
 
 -- `least` to `most` increasing numbers; fault 131 in another order, after each number was read
-unfoldable pub rising_at : (least most : ℕ) → (key : List ℕ) → Data → Result (List ℕ) WireFault
-rising_at least most key value =
+unfoldable pub increasing_at : (least most : ℕ) → (key : List ℕ) → Data → Result (List ℕ) WireFault
+increasing_at least most key value =
     items_at least most key value >>= each_of number_in
-    >>= λ numbers. if rise_above 0 numbers then Ok numbers else Err fault.Field
+    >>= λ numbers. if all_above 0 numbers then Ok numbers else Err fault.Field
 
 -- fault 131 if the unit itself is among the others
 abbrev pub without : (unit : ℕ) → List ℕ → Result (List ℕ) WireFault
@@ -90,10 +90,10 @@ without unit others = if lists_number others unit then Err fault.Field else Ok o
 unfoldable pub merger_of : Data → Result Merger WireFault
 merger_of value = do
   unit ← number_at (codes "unit") value
-  listed ← rising_at 0 15 (codes "others") value
+  listed ← increasing_at 0 15 (codes "others") value
   others ← without unit listed
-  parcels ← rising_at 2 16 (codes "parcels") value
-  label ← limited_at is_label (codes "label") value
+  parcels ← increasing_at 2 16 (codes "parcels") value
+  label ← require_text_at is_label (codes "label") value
   outline ← outline_in value
   Ok (record { unit = unit; others = others; parcels = parcels; label = label; outline = outline })
 
@@ -107,8 +107,8 @@ mortgage_of value = do
   unit ← number_at (codes "unit") value
   creditor ← number_at (codes "creditor") value
   found ← field_at (codes "amount") value
-  amount ← ranged_in is_amount found
-  currency ← limited_at is_currency (codes "currency") value
+  amount ← require_number is_amount found
+  currency ← require_text_at is_currency (codes "currency") value
   Ok (record { unit = unit; creditor = creditor; amount = amount; currency = currency })
 
 abbrev pub discharge_fields : List (List ℕ)
@@ -164,8 +164,8 @@ content_in word text = do
 unfoldable pub lodging_of : ContentKind → Data → Result Lodging WireFault
 lodging_of which value = do
   whole ← object_with (codes "reference" ∷ codes "document" ∷ fields_of which) value
-  reference ← limited_at is_reference (codes "reference") value
-  document ← limited_at is_title (codes "document") value
+  reference ← require_text_at is_reference (codes "reference") value
+  document ← require_text_at is_title (codes "document") value
   content ← content_by which value
   Ok (record { reference = reference; document = document; content = content })
 

@@ -11,9 +11,9 @@ use Rattle.serde_json.specs.Data.{Data}
 
 -- The answer for a text, a ring or the text's first fault, as a function of the text. It comes from the proof
 -- that each text has an answer. Two laws characterize it: it is a ring that the text denotes or the first
--- fault (`outlines_have_their_answers`), and no text has two answers (`one_answer` of the outlines).
-unfoldable pub answer_of : List ℕ → Result (List Place) ShapeFault
-answer_of text = (answer text).0
+-- fault (`outlines_are_answered`), and no text has two answers (`one_answer` of the outlines).
+unfoldable pub outline_answer : List ℕ → Result (List Place) ShapeFault
+outline_answer text = (answer text).0
 
 -- the ring, or one of faults 110 to 120
 abbrev pub ring_or_fault : Result (List Place) ShapeFault → Result (List Place) WireFault
@@ -22,7 +22,7 @@ ring_or_fault (Err f) = Err (fault.Outline f)
 
 -- the ring that a text denotes, or the text's first fault
 unfoldable pub outline_of : List ℕ → Result (List Place) WireFault
-outline_of text = ring_or_fault (answer_of text)
+outline_of text = ring_or_fault (outline_answer text)
 
 -- the outline of the key `outline`
 unfoldable pub outline_in : Data → Result (List Place) WireFault

@@ -8,7 +8,7 @@ use Rattle.land_core.specs.declared.act.Regroup.{Regroup}
 use Rattle.land_core.specs.declared.mandates.Mandate.{Mandate}
 use Rattle.land_core.specs.declared.member.Member.{Member}
 use Rattle.land_core.specs.declared.roles.Grant.{Grant}
-use Rattle.land_wire_json.specs.Bodies.Fields.{object_with, limited_at, number_at, items_at, each_of}
+use Rattle.land_wire_json.specs.Bodies.Fields.{object_with, require_text_at, number_at, items_at, each_of}
 use Rattle.land_wire_json.specs.Bodies.Shares.{share_at}
 use Rattle.land_wire_json.specs.Bodies.WireFaults.{◌>>=◌}
 use Rattle.land_wire_json.specs.Bodies.Words.{kind_in, role_in}
@@ -20,7 +20,7 @@ unfoldable pub enrol_of : Data → Result Enrol WireFault
 enrol_of value = do
   whole ← object_with (codes "kind" ∷ codes "name" ∷ []) value
   kind ← kind_in value
-  name ← limited_at is_name (codes "name") value
+  name ← require_text_at is_name (codes "name") value
   Ok (record { kind = kind; name = name })
 
 -- a member: `party`, `share`
@@ -39,7 +39,7 @@ members_of value = items_at 2 64 (codes "members") value >>= each_of member_of
 unfoldable pub group_of : Data → Result NewGroup WireFault
 group_of value = do
   whole ← object_with (codes "name" ∷ codes "members" ∷ []) value
-  name ← limited_at is_name (codes "name") value
+  name ← require_text_at is_name (codes "name") value
   members ← members_of value
   Ok (record { name = name; members = members })
 

@@ -15,15 +15,15 @@ abbrev pub is_slash : ℕ → Bool
 is_slash byte = byte == 47
 
 -- the fraction of two numbers, or one of faults 101 to 103
-abbrev pub share_answer : Result Ratio FractionFault → Result Ratio WireFault
-share_answer (Ok share) = Ok share
-share_answer (Err f) = Err (fault.Share f)
+abbrev pub share_or_fault : Result Ratio FractionFault → Result Ratio WireFault
+share_or_fault (Ok share) = Ok share
+share_or_fault (Err f) = Err (fault.Share f)
 
 -- fault 132 if either number is missing
 abbrev pub share_from : (numerator denominator : Option ℕ) → Result Ratio WireFault
 share_from None d = Err fault.Number
 share_from (Some n) None = Err fault.Number
-share_from (Some n) (Some d) = share_answer (fraction_of (over n d))
+share_from (Some n) (Some d) = share_or_fault (fraction_of (over n d))
 
 -- the numbers before and after the first `/`
 unfoldable pub share_of : List ℕ → Result Ratio WireFault

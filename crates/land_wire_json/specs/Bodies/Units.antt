@@ -7,7 +7,7 @@ use Rattle.land_core.specs.declared.act.Lift.{Lift}
 use Rattle.land_core.specs.declared.act.NewParcel.{NewParcel}
 use Rattle.land_core.specs.declared.act.NewRight.{NewRight}
 use Rattle.land_core.specs.declared.act.NewUnit.{NewUnit}
-use Rattle.land_wire_json.specs.Bodies.Fields.{object_with, truth_at, limited_at, number_at, items_at}
+use Rattle.land_wire_json.specs.Bodies.Fields.{object_with, bool_at, require_text_at, number_at, items_at}
 use Rattle.land_wire_json.specs.Bodies.Fields.{each_of}
 use Rattle.land_wire_json.specs.Bodies.Outlines.{outline_in}
 use Rattle.land_wire_json.specs.Bodies.Shares.{share_at}
@@ -21,7 +21,7 @@ use Rattle.serde_json.specs.Data.{Data}
 unfoldable pub parcel_of : Data → Result NewParcel WireFault
 parcel_of value = do
   whole ← object_with (codes "label" ∷ codes "outline" ∷ []) value
-  label ← limited_at is_label (codes "label") value
+  label ← require_text_at is_label (codes "label") value
   outline ← outline_in value
   Ok (record { label = label; outline = outline })
 
@@ -35,12 +35,12 @@ right_of value = do
   Ok (record { party = party; right_type = type; share = share })
 
 -- fault 131 if none of the rights is an ownership, after each right was read
-abbrev pub owned : List NewRight → Result (List NewRight) WireFault
-owned rights = if have_owner rights then Ok rights else Err fault.Field
+abbrev pub require_owner : List NewRight → Result (List NewRight) WireFault
+require_owner rights = if have_owner rights then Ok rights else Err fault.Field
 
 -- `rights`: 1 to 64 rights, one of them an ownership
 unfoldable pub rights_of : Data → Result (List NewRight) WireFault
-rights_of value = items_at 1 64 (codes "rights") value >>= each_of right_of >>= owned
+rights_of value = items_at 1 64 (codes "rights") value >>= each_of right_of >>= require_owner
 
 -- `parcels`: 1 to 64 parcels
 unfoldable pub parcels_of : Data → Result (List NewParcel) WireFault
@@ -52,9 +52,9 @@ unit_fields = codes "name" ∷ codes "checked" ∷ codes "document" ∷ codes "p
 
 unfoldable pub unit_by : Data → Result NewUnit WireFault
 unit_by value = do
-  name ← limited_at is_name (codes "name") value
-  checked ← truth_at (codes "checked") value
-  document ← limited_at is_title (codes "document") value
+  name ← require_text_at is_name (codes "name") value
+  checked ← bool_at (codes "checked") value
+  document ← require_text_at is_title (codes "document") value
   parcels ← parcels_of value
   rights ← rights_of value
   Ok (record { name = name; checked = checked; document = document; parcels = parcels; rights = rights })
@@ -71,8 +71,8 @@ burden_by value = do
   unit ← number_at (codes "unit") value
   party ← number_at (codes "party") value
   class ← class_in value
-  words ← limited_at are_words (codes "words") value
-  document ← limited_at is_title (codes "document") value
+  words ← require_text_at are_words (codes "words") value
+  document ← require_text_at is_title (codes "document") value
   Ok (record { unit = unit; party = party; class = class; words = words; document = document })
 
 unfoldable pub burden_of : Data → Result Burden WireFault

@@ -32,11 +32,11 @@ or_fault None fault = Err fault
 or_fault (Some value) fault = Ok value
 
 -- the result with `view` applied to its value
-abbrev pub seen_by : {A B : Type 0} → (A → B) → Result A WireFault → Result B WireFault
-seen_by view (Ok value) = Ok (view value)
-seen_by view (Err fault) = Err fault
+abbrev pub map_ok : {A B : Type 0} → (A → B) → Result A WireFault → Result B WireFault
+map_ok view (Ok value) = Ok (view value)
+map_ok view (Err fault) = Err fault
 
 -- the result, with `view` applied to its value, is the wanted one, if it is not out of memory
-abbrev pub Gives : {A B : Type 0} → (A → B) → Result A WireFault → Result B WireFault → Type 0
-Gives view (Ok value) wanted = wanted ≡ Ok (view value)
-Gives view (Err fault) wanted = fault ≢ NoMemory → wanted ≡ Err fault
+abbrev pub Returns : {A B : Type 0} → (A → B) → Result A WireFault → Result B WireFault → Type 0
+Returns view (Ok value) wanted = wanted ≡ Ok (view value)
+Returns view (Err fault) wanted = fault ≢ NoMemory → wanted ≡ Err fault

@@ -7,8 +7,8 @@ use Rattle.json.specs.Written.{Written}
 use Rattle.land_shape.specs.Place.{Place}
 use Rattle.land_shape.specs.Printed.{printed}
 use Rattle.land_wire_json.specs.declared.texts.fields.Field.{Field}
-use Rattle.land_wire_json.specs.declared.texts.fields.Shown.{Shown}
-use Rattle.land_wire_json.specs.declared.texts.fields.Shown.TheVariants as shown
+use Rattle.land_wire_json.specs.declared.texts.fields.MemberValue.{MemberValue}
+use Rattle.land_wire_json.specs.declared.texts.fields.MemberValue.TheVariants as shown
 use Rattle.land_wire_json.specs.Texts.Parties.{members_data, roles_data}
 use Rattle.land_wire_json.specs.Texts.Subdivisions.{first_data, parts_data}
 use Rattle.land_wire_json.specs.Texts.Values.{number_data, numbers_data, share_data}
@@ -17,18 +17,18 @@ use Rattle.serde_json.specs.Find.{of_integer}
 use Rattle.serde_json.specs.Written.{outline}
 
 -- the JSON value of a field
-abbrev pub shown_data : Shown → Data
-shown_data (shown.Number n) = number_data n
-shown_data (shown.Moment stamp) = number (of_integer stamp)
-shown_data (shown.Truth it) = boolean it
-shown_data (shown.Text text) = string text.now
-shown_data (shown.Share share) = share_data share
-shown_data (shown.Outline ring) = string (printed ring.now)
-shown_data (shown.Numbers numbers) = numbers_data numbers.now
-shown_data (shown.Members members) = members_data members.now
-shown_data (shown.Roles roles) = roles_data roles.now
-shown_data (shown.First part) = first_data part.now
-shown_data (shown.Parts parts) = parts_data parts.now
+abbrev pub value_data : MemberValue → Data
+value_data (shown.Number n) = number_data n
+value_data (shown.Moment stamp) = number (of_integer stamp)
+value_data (shown.Truth it) = boolean it
+value_data (shown.Text text) = string text.now
+value_data (shown.Share share) = share_data share
+value_data (shown.Outline ring) = string (printed ring.now)
+value_data (shown.Numbers numbers) = numbers_data numbers.now
+value_data (shown.Members members) = members_data members.now
+value_data (shown.Roles roles) = roles_data roles.now
+value_data (shown.First part) = first_data part.now
+value_data (shown.Parts parts) = parts_data parts.now
 
 -- a name, and a value after it
 abbrev pub member_tokens : List ℕ → Data → List Token
@@ -37,13 +37,13 @@ member_tokens name value = token.key name ∷ json_tokens (outline value)
 -- the fields in order, without the braces of an object
 abbrev pub fields_tokens : List Field → List Token
 fields_tokens [] = []
-fields_tokens (field ∷ fields) = member_tokens field.0.now (shown_data field.1) ++ fields_tokens fields
+fields_tokens (field ∷ fields) = member_tokens field.0.now (value_data field.1) ++ fields_tokens fields
 
 -- the tokens of the fields, before the rest
 abbrev pub fields_before : List Field → List Token → List Token
 fields_before [] rest = rest
 fields_before (field ∷ fields) rest =
-    member_tokens field.0.now (shown_data field.1) ++ fields_before fields rest
+    member_tokens field.0.now (value_data field.1) ++ fields_before fields rest
 
 -- an object with these fields
 abbrev pub object_tokens : List Field → List Token

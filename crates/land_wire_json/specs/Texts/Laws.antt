@@ -19,7 +19,7 @@ use Rattle.land_shape.specs.Place.{Place}
 use Rattle.land_shape.specs.Printed.{printed}
 use Rattle.land_wire_json.specs.Texts.Exact.{is_exact}
 use Rattle.land_wire_json.specs.Texts.Limits.{IsContentWithin, IsObjectWithin}
-use Rattle.land_wire_json.specs.Texts.Mutations.{content_text, spelled_content, mutation_text}
+use Rattle.land_wire_json.specs.Texts.Mutations.{content_text, content_text_by_kind, mutation_text}
 use Rattle.land_wire_json.specs.Texts.Objects.{object_text}
 use Rattle.land_wire_json.specs.Texts.Parcels.{parcel_text}
 use Rattle.land_wire_json.specs.Texts.Parties.{party_text}
@@ -70,7 +70,7 @@ SourceTexts = (source : Source) → object_text (shown.Source source) ≡ source
 
 -- the texts of the contents of each kind
 abbrev pub ContentTexts : Type 0
-ContentTexts = (it : Content) → content_text it ≡ spelled_content it
+ContentTexts = (it : Content) → content_text it ≡ content_text_by_kind it
 
 -- the text of a mutation whose time of lodging is not negative
 abbrev pub MutationTexts : Type 0
@@ -93,10 +93,10 @@ CompactLaw =
     (value : Data) → is_exact value ≡ true → depth value ≤ max_depth → read (compact_text value) ≡ Some value
 
 -- a text determines its object, if the object is within its limits
-abbrev pub ObjectsAreTold : Type 0
-ObjectsAreTold = (a b : Object) → IsObjectWithin a → IsObjectWithin b → object_text a ≡ object_text b → a ≡ b
+abbrev pub TextsDetermineObjects : Type 0
+TextsDetermineObjects = (a b : Object) → IsObjectWithin a → IsObjectWithin b → object_text a ≡ object_text b → a ≡ b
 
 -- a text determines its content, if the content is within its limits; the word of the act is not part of it
-abbrev pub ContentsAreTold : Type 0
-ContentsAreTold =
+abbrev pub TextsDetermineContents : Type 0
+TextsDetermineContents =
     (a b : Content) → IsContentWithin a → IsContentWithin b → content_text a ≡ content_text b → a ≡ b

@@ -23,45 +23,45 @@ use Rattle.land_fraction.specs.Ratio.{IsFraction}
 use Rattle.land_shape.specs.Outline.{IsOutline}
 
 -- below 2^64
-abbrev pub IsShort : ℕ → Type 0
-IsShort n = n < 2 ^ 64
+abbrev pub FitsU64 : ℕ → Type 0
+FitsU64 n = n < 2 ^ 64
 
 -- a moment that is not negative and below 2^64
-abbrev pub IsShortMoment : ℤ → Type 0
-IsShortMoment (pos n) = IsShort n
-IsShortMoment (negsuc n) = ⊥
+abbrev pub FitsU64Moment : ℤ → Type 0
+FitsU64Moment (pos n) = FitsU64 n
+FitsU64Moment (negsuc n) = ⊥
 
 -- ---- contents of mutations
 
 pub record IsTransferWithin (it : Transfer) : Type 0 where
-  pub unit : IsShort it.unit
-  pub right : IsShort it.right
-  pub receiver : IsShort it.receiver
+  pub unit : FitsU64 it.unit
+  pub right : FitsU64 it.right
+  pub receiver : FitsU64 it.receiver
   pub share : IsFraction it.share
 
 abbrev pub IsPartWithin : Part → Type 0
 IsPartWithin part = IsOutline part.outline
 
 pub record IsSubdivisionWithin (it : Subdivision) : Type 0 where
-  pub unit : IsShort it.unit
-  pub parcel : IsShort it.parcel
+  pub unit : FitsU64 it.unit
+  pub parcel : FitsU64 it.parcel
   pub first : IsOutline it.first.outline
   pub rest : AllByRecursion IsPartWithin it.rest
 
 pub record IsMergerWithin (it : Merger) : Type 0 where
-  pub unit : IsShort it.unit
-  pub others : AllByRecursion IsShort it.others
-  pub parcels : AllByRecursion IsShort it.parcels
+  pub unit : FitsU64 it.unit
+  pub others : AllByRecursion FitsU64 it.others
+  pub parcels : AllByRecursion FitsU64 it.parcels
   pub outline : IsOutline it.outline
 
 pub record IsMortgageWithin (it : wanted.Mortgage) : Type 0 where
-  pub unit : IsShort it.unit
-  pub creditor : IsShort it.creditor
-  pub amount : IsShort it.amount
+  pub unit : FitsU64 it.unit
+  pub creditor : FitsU64 it.creditor
+  pub amount : FitsU64 it.amount
 
 pub record IsDischargeWithin (it : Discharge) : Type 0 where
-  pub unit : IsShort it.unit
-  pub mortgage : IsShort it.mortgage
+  pub unit : FitsU64 it.unit
+  pub mortgage : FitsU64 it.mortgage
 
 abbrev pub IsContentWithin : Content → Type 0
 IsContentWithin (content.Transfer it) = IsTransferWithin it
@@ -73,43 +73,43 @@ IsContentWithin (content.Discharge it) = IsDischargeWithin it
 -- ---- objects
 
 pub record IsMemberWithin (m : Member) : Type 0 where
-  pub party : IsShort m.party
+  pub party : FitsU64 m.party
   pub share : IsFraction m.share
 
 pub record IsPartyWithin (party : Party) : Type 0 where
-  pub number : IsShort party.number
+  pub number : FitsU64 party.number
   pub members : AllByRecursion IsMemberWithin party.members
 
 pub record IsParcelWithin (parcel : Parcel) : Type 0 where
-  pub number : IsShort parcel.number
-  pub unit : IsShort parcel.unit
+  pub number : FitsU64 parcel.number
+  pub unit : FitsU64 parcel.unit
   pub outline : IsOutline parcel.outline
-  pub source : IsShort parcel.source
+  pub source : FitsU64 parcel.source
 
 abbrev pub IsClassWithin : Class → Type 0
 IsClassWithin (Right type share) = IsFraction share
 IsClassWithin (Restriction words) = ⊤
 IsClassWithin (Responsibility words) = ⊤
-IsClassWithin (Mortgage amount currency rank) = IsShort amount × IsShort rank
+IsClassWithin (Mortgage amount currency rank) = FitsU64 amount × FitsU64 rank
 
 pub record IsRrrWithin (entry : Rrr) : Type 0 where
-  pub number : IsShort entry.number
-  pub unit : IsShort entry.unit
-  pub party : IsShort entry.party
+  pub number : FitsU64 entry.number
+  pub unit : FitsU64 entry.unit
+  pub party : FitsU64 entry.party
   pub class : IsClassWithin entry.class
-  pub source : IsShort entry.source
+  pub source : FitsU64 entry.source
 
 pub record IsMutationWithin (mutation : Mutation) : Type 0 where
-  pub number : IsShort mutation.number
-  pub lodger : IsShort mutation.lodger
-  pub source : IsShort mutation.source
-  pub lodged : IsShortMoment mutation.lodged
+  pub number : FitsU64 mutation.number
+  pub lodger : FitsU64 mutation.lodger
+  pub source : FitsU64 mutation.source
+  pub lodged : FitsU64Moment mutation.lodged
   pub content : IsContentWithin mutation.content
 
 abbrev pub IsObjectWithin : Object → Type 0
 IsObjectWithin (shown.Party party) = IsPartyWithin party
-IsObjectWithin (shown.Unit unit) = IsShort unit.number
+IsObjectWithin (shown.Unit unit) = FitsU64 unit.number
 IsObjectWithin (shown.Parcel parcel) = IsParcelWithin parcel
 IsObjectWithin (shown.Rrr entry) = IsRrrWithin entry
-IsObjectWithin (shown.Source source) = IsShort source.number
+IsObjectWithin (shown.Source source) = FitsU64 source.number
 IsObjectWithin (shown.Mutation mutation) = IsMutationWithin mutation

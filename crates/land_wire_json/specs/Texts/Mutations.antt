@@ -84,12 +84,12 @@ discharge_text it =
     codes "{\"mortgage\":" ++ (decimal it.mortgage ++ (codes ",\"unit\":" ++ (decimal it.unit ++ codes "}")))
 
 -- the text of a content, by its kind
-abbrev pub spelled_content : Content → List ℕ
-spelled_content (content.Transfer it) = transfer_text it
-spelled_content (content.Subdivision it) = subdivision_text it
-spelled_content (content.Merger it) = merger_text it
-spelled_content (content.Mortgage it) = mortgage_text it
-spelled_content (content.Discharge it) = discharge_text it
+abbrev pub content_text_by_kind : Content → List ℕ
+content_text_by_kind (content.Transfer it) = transfer_text it
+content_text_by_kind (content.Subdivision it) = subdivision_text it
+content_text_by_kind (content.Merger it) = merger_text it
+content_text_by_kind (content.Mortgage it) = mortgage_text it
+content_text_by_kind (content.Discharge it) = discharge_text it
 
 -- `lodged` is the time of lodging, `reference` a JSON string
 abbrev pub mutation_text : Content → (lodged lodger n : ℕ) → (reference : List ℕ) → (source : ℕ)

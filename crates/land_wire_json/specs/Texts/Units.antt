@@ -1,7 +1,7 @@
 -- Units in JSON.
 use Rattle.std.specs.Prelude.{ℕ, List, ◌++◌, codes, decimal}
 use Rattle.land_core.specs.declared.unit.Unit.{Unit}
-use Rattle.land_wire_json.specs.Texts.Values.{number_data, string_text, truth_text}
+use Rattle.land_wire_json.specs.Texts.Values.{number_data, string_text, bool_text}
 use Rattle.serde_json.specs.Data.{Data, boolean, string, object, no_members, member}
 
 abbrev pub unit_data : Unit → Data
@@ -15,5 +15,5 @@ unit_data unit =
 -- the keys in order: whether shares are checked, the name, the number
 abbrev pub unit_text : Unit → List ℕ
 unit_text unit =
-    codes "{\"checked\":" ++ (truth_text unit.checked ++ (codes ",\"name\":" ++ (string_text unit.name
+    codes "{\"checked\":" ++ (bool_text unit.checked ++ (codes ",\"name\":" ++ (string_text unit.name
     ++ (codes ",\"number\":" ++ (decimal unit.number ++ codes "}")))))

@@ -49,6 +49,6 @@ abbrev pub string_text : List ℕ → List ℕ
 string_text s = compact_text (string s)
 
 -- `true` or `false`
-abbrev pub truth_text : Bool → List ℕ
-truth_text true = codes "true"
-truth_text false = codes "false"
+abbrev pub bool_text : Bool → List ℕ
+bool_text true = codes "true"
+bool_text false = codes "false"

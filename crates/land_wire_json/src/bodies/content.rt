@@ -3,11 +3,11 @@ ghost use Rattle.std.specs.Prelude.{◌≡◌, Ok, codes, map};
 ghost use Rattle.land_core.specs.Contents.{is_amount, is_currency};
 ghost use Rattle.land_core.specs.Words.{act_word};
 ghost use Rattle.land_core.specs.declared.content.Content.{Content};
-ghost use Rattle.land_wire_json.specs.Bodies.Fields.{limited, limited_at, ranged_in};
+ghost use Rattle.land_wire_json.specs.Bodies.Fields.{require_text, require_text_at, require_number};
 ghost use Rattle.land_wire_json.specs.Bodies.Mutations.{content_by, content_in, content_of, discharge_of};
 ghost use Rattle.land_wire_json.specs.Bodies.Mutations.{fields_of, mortgage_of, transfer_of};
 ghost use Rattle.land_wire_json.specs.Bodies.Stored.{IsStorable};
-ghost use Rattle.land_wire_json.specs.Bodies.WireFaults.{Gives};
+ghost use Rattle.land_wire_json.specs.Bodies.WireFaults.{Returns};
 ghost use Rattle.land_wire_json.specs.Texts.Mutations.{content_text};
 ghost use Rattle.serde_json.specs.View.{view};
 
@@ -29,17 +29,17 @@ use std::alloc::Global;
 /// Errors: 133 for an unknown word, then 130 if the text is not JSON, 131 for another key, then the faults of
 /// the fields in their order; 501 if out of memory. Reading the text of a content returns that content.
 pub fn read_content(alloc: Global, word: &str, text: &str) -> Result<Content, WireFault>
-    ensures reading { Gives (λ it. it) result (content_in word.now text.now) }
+    ensures reading { Returns (λ it. it) result (content_in word.now text.now) }
     ensures back { (it : Content) → IsStorable it → word.now ≡ act_word it → text.now ≡ content_text it
-        → Gives (λ it. it) result (Ok it) }
+        → Returns (λ it. it) result (Ok it) }
 {
-    laws::contents_are_read();
+    laws::contents_round_trip();
     content_in(alloc, word, text)
 }
 
 #[tactic(auto, unfolding(crate::specs::Bodies::Mutations::content_in))]
 fn content_in(alloc: Global, word: &str, text: &str) -> Result<Content, WireFault>
-    ensures { Gives (λ it. it) result (content_in word.now text.now) }
+    ensures { Returns (λ it. it) result (content_in word.now text.now) }
 {
     let kind = ContentKind::of(word)?;
     let value = read_text(alloc, text)?;
@@ -48,7 +48,7 @@ fn content_in(alloc: Global, word: &str, text: &str) -> Result<Content, WireFaul
 
 #[tactic(auto, unfolding(crate::specs::Bodies::Mutations::content_of))]
 fn content_of(alloc: Global, kind: ContentKind, value: &Value) -> Result<Content, WireFault>
-    ensures { Gives (λ it. it) result (content_of kind (view value.now)) }
+    ensures { Returns (λ it. it) result (content_of kind (view value.now)) }
 {
     check_keys(value, fields_of(kind))?;
     content_by(alloc, kind, value)
@@ -72,7 +72,7 @@ pub(crate) fn content_by(
     kind: ContentKind,
     value: &Value,
 ) -> Result<Content, WireFault>
-    ensures { Gives (λ it. it) result (content_by kind (view value.now)) }
+    ensures { Returns (λ it. it) result (content_by kind (view value.now)) }
 {
     match kind {
         ContentKind::Transfer => Ok(Content::Transfer(transfer_of(value)?)),
@@ -101,7 +101,7 @@ fn transfer_of(value: &Value) -> Result<Transfer, WireFault>
 
 #[tactic(auto, unfolding(crate::specs::Bodies::Mutations::mortgage_of))]
 fn mortgage_of(alloc: Global, value: &Value) -> Result<Mortgage, WireFault>
-    ensures { Gives (λ it. it) result (mortgage_of (view value.now)) }
+    ensures { Returns (λ it. it) result (mortgage_of (view value.now)) }
 {
     let unit = number_at(value, "unit")?;
     let creditor = number_at(value, "creditor")?;
@@ -116,7 +116,7 @@ fn mortgage_of(alloc: Global, value: &Value) -> Result<Mortgage, WireFault>
 }
 
 fn amount_in(value: &Value) -> Result<u64, WireFault>
-    ensures { result ≡ ranged_in is_amount (view value.now) }
+    ensures { result ≡ require_number is_amount (view value.now) }
 {
     match value.as_number() {
         Some(number) => match number.as_u64() {
@@ -128,7 +128,7 @@ fn amount_in(value: &Value) -> Result<u64, WireFault>
 }
 
 fn currency_at(alloc: Global, value: &Value) -> Result<Text, WireFault>
-    ensures { Gives (λ text. text) result (limited_at is_currency (codes "currency") (view value.now)) }
+    ensures { Returns (λ text. text) result (require_text_at is_currency (codes "currency") (view value.now)) }
 {
     currency_of(alloc, text_at(value, "currency")?)
 }
@@ -136,7 +136,7 @@ fn currency_at(alloc: Global, value: &Value) -> Result<Text, WireFault>
 /// Reads a currency, three letters from A to Z (ISO 4217). Errors: 133 for any other text; 501 if out of
 /// memory.
 pub fn currency_of(alloc: Global, text: &str) -> Result<Text, WireFault>
-    ensures { Gives (λ text. text) result (limited is_currency text.now) }
+    ensures { Returns (λ text. text) result (require_text is_currency text.now) }
 {
     if is_currency(text) {
         Ok(Text::new(String::from_str(alloc, text)?))

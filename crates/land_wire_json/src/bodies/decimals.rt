@@ -21,10 +21,10 @@ fn are_digits(text: &[u8], most: usize) -> bool
     ensures { result ≡ are_digits most text.now }
 {
     let count = text.len();
-    1 <= count && count <= most && has_digits_alone(text)
+    1 <= count && count <= most && has_only_digits(text)
 }
 
-fn has_digits_alone(text: &[u8]) -> bool
+fn has_only_digits(text: &[u8]) -> bool
     ensures { result ≡ list_all is_ascii_digit text.now }
 {
     text.iter().all(|byte| byte.is_ascii_digit())

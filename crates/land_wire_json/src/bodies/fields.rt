@@ -5,9 +5,9 @@ ghost use Rattle.std.specs.BTreeMap.{keys};
 ghost use Rattle.land_core.specs.Numbers.{is_number};
 ghost use Rattle.land_core.specs.Texts.{are_words, is_label, is_name, is_reference, is_title};
 ghost use Rattle.land_wire_json.specs.Bodies.Fields.{field_at, has_only, is_among, item_count, items_at};
-ghost use Rattle.land_wire_json.specs.Bodies.Fields.{limited, limited_at, number_at, number_in, object_with};
-ghost use Rattle.land_wire_json.specs.Bodies.Fields.{text_at, text_value, truth_at, value_in};
-ghost use Rattle.land_wire_json.specs.Bodies.WireFaults.{Gives, seen_by};
+ghost use Rattle.land_wire_json.specs.Bodies.Fields.{require_text, require_text_at, number_at, number_in, object_with};
+ghost use Rattle.land_wire_json.specs.Bodies.Fields.{text_at, text_value, bool_at, value_in};
+ghost use Rattle.land_wire_json.specs.Bodies.WireFaults.{Returns, map_ok};
 ghost use Rattle.serde_json.specs.Find.{get};
 ghost use Rattle.serde_json.specs.View.{view, members_view, items_view};
 
@@ -19,7 +19,7 @@ use std::alloc::Global;
 
 /// Parses bytes as JSON. Errors: 130 if they are not JSON; 501 if out of memory.
 pub fn read_value(alloc: Global, bytes: &[u8]) -> Result<Value, WireFault>
-    ensures { Gives (λ value. view value) result (value_in bytes.now) }
+    ensures { Returns (λ value. view value) result (value_in bytes.now) }
 {
     match Value::from_slice(alloc, bytes) {
         Ok(value) => Ok(value),
@@ -35,7 +35,7 @@ pub fn read_value(alloc: Global, bytes: &[u8]) -> Result<Value, WireFault>
 
 /// Parses a text as JSON. Errors: 130 if it is not JSON; 501 if out of memory.
 pub fn read_text(alloc: Global, text: &str) -> Result<Value, WireFault>
-    ensures { Gives (λ value. view value) result (text_value text.now) }
+    ensures { Returns (λ value. view value) result (text_value text.now) }
 {
     match Value::from_str(alloc, text) {
         Ok(value) => Ok(value),
@@ -88,7 +88,7 @@ fn is_one_of(key: &str, names: &[&str]) -> bool
 /// Returns the value of a key. Errors: 131 if the key is missing.
 #[tactic(auto, unfolding(crate::specs::Bodies::Fields::field_at))]
 pub fn field_at<'v>(value: &'v Value, key: &str) -> Result<&'v Value, WireFault>
-    ensures { seen_by (λ found. view found.now) result ≡ field_at key.now (view value.now) }
+    ensures { map_ok (λ found. view found.now) result ≡ field_at key.now (view value.now) }
 {
     match value.get(key) {
         Some(found) => Ok(found),
@@ -99,7 +99,7 @@ pub fn field_at<'v>(value: &'v Value, key: &str) -> Result<&'v Value, WireFault>
 /// Returns the text of a key. Errors: 131 if it is missing or not a string.
 #[tactic(auto, unfolding(crate::specs::Bodies::Fields::text_at))]
 pub fn text_at<'v>(value: &'v Value, key: &str) -> Result<&'v str, WireFault>
-    ensures { seen_by (λ text. text.now) result ≡ text_at key.now (view value.now) }
+    ensures { map_ok (λ text. text.now) result ≡ text_at key.now (view value.now) }
 {
     match field_at(value, key)?.as_str() {
         Some(text) => Ok(text),
@@ -108,9 +108,9 @@ pub fn text_at<'v>(value: &'v Value, key: &str) -> Result<&'v str, WireFault>
 }
 
 /// Returns the boolean of a key. Errors: 131 if it is missing or not a boolean.
-#[tactic(auto, unfolding(crate::specs::Bodies::Fields::truth_at))]
-pub fn truth_at(value: &Value, key: &str) -> Result<bool, WireFault>
-    ensures { result ≡ truth_at key.now (view value.now) }
+#[tactic(auto, unfolding(crate::specs::Bodies::Fields::bool_at))]
+pub fn bool_at(value: &Value, key: &str) -> Result<bool, WireFault>
+    ensures { result ≡ bool_at key.now (view value.now) }
 {
     match field_at(value, key)?.as_bool() {
         Some(truth) => Ok(truth),
@@ -122,14 +122,14 @@ pub fn truth_at(value: &Value, key: &str) -> Result<bool, WireFault>
 ///
 /// Errors: 131 if it is missing or not a string; 133 if it is not within these limits; 501 if out of memory.
 pub fn name_at(alloc: Global, value: &Value, key: &str) -> Result<Text, WireFault>
-    ensures { Gives (λ text. text) result (limited_at is_name key.now (view value.now)) }
+    ensures { Returns (λ text. text) result (require_text_at is_name key.now (view value.now)) }
 {
     name_of(alloc, text_at(value, key)?)
 }
 
 /// Copies a text of 1 to 200 characters. Errors: 133 for any other text; 501 if out of memory.
 pub fn name_of(alloc: Global, text: &str) -> Result<Text, WireFault>
-    ensures { Gives (λ text. text) result (limited is_name text.now) }
+    ensures { Returns (λ text. text) result (require_text is_name text.now) }
 {
     if is_name(text) {
         Ok(Text::new(String::from_str(alloc, text)?))
@@ -140,35 +140,35 @@ pub fn name_of(alloc: Global, text: &str) -> Result<Text, WireFault>
 
 /// Reads the title of a document, with the limits and errors of a name.
 pub fn title_at(alloc: Global, value: &Value, key: &str) -> Result<Text, WireFault>
-    ensures { Gives (λ text. text) result (limited_at is_title key.now (view value.now)) }
+    ensures { Returns (λ text. text) result (require_text_at is_title key.now (view value.now)) }
 {
     name_at(alloc, value, key)
 }
 
 /// Reads the words of a burden, with the limits and errors of a name.
 pub fn words_at(alloc: Global, value: &Value, key: &str) -> Result<Text, WireFault>
-    ensures { Gives (λ text. text) result (limited_at are_words key.now (view value.now)) }
+    ensures { Returns (λ text. text) result (require_text_at are_words key.now (view value.now)) }
 {
     name_at(alloc, value, key)
 }
 
 /// Reads a label: 1 to 40 characters without ASCII control characters. Errors: as for a name.
 pub fn label_at(alloc: Global, value: &Value, key: &str) -> Result<Text, WireFault>
-    ensures { Gives (λ text. text) result (limited_at is_label key.now (view value.now)) }
+    ensures { Returns (λ text. text) result (require_text_at is_label key.now (view value.now)) }
 {
     label_of(alloc, text_at(value, key)?)
 }
 
 /// Reads the reference of a lodging, with the limits and errors of a label.
 pub fn reference_at(alloc: Global, value: &Value, key: &str) -> Result<Text, WireFault>
-    ensures { Gives (λ text. text) result (limited_at is_reference key.now (view value.now)) }
+    ensures { Returns (λ text. text) result (require_text_at is_reference key.now (view value.now)) }
 {
     label_at(alloc, value, key)
 }
 
 /// Copies a text of 1 to 40 characters. Errors: 133 for any other text; 501 if out of memory.
 pub fn label_of(alloc: Global, text: &str) -> Result<Text, WireFault>
-    ensures { Gives (λ text. text) result (limited is_label text.now) }
+    ensures { Returns (λ text. text) result (require_text is_label text.now) }
 {
     if is_label(text) {
         Ok(Text::new(String::from_str(alloc, text)?))
@@ -211,7 +211,7 @@ pub fn items_at<'v>(
     least: usize,
     most: usize,
 ) -> Result<&'v Vec<Value>, WireFault>
-    ensures { seen_by (λ found. items_view found.now.items) result
+    ensures { map_ok (λ found. items_view found.now.items) result
         ≡ items_at least most key.now (view value.now) }
 {
     match field_at(value, key)?.as_array() {

@@ -1,10 +1,10 @@
 //! Laws, each stated with definitions only.
-ghost use Rattle.land_wire_json.specs.Bodies.Laws.{BodiesAreWellFormed, ContentsAreRead};
-ghost use Rattle.land_wire_json.specs.Bodies.Laws.{ContentsAreWellFormed, OutlinesHaveTheirAnswers};
+ghost use Rattle.land_wire_json.specs.Bodies.Laws.{BodiesAreWellFormed, ContentsRoundTrip};
+ghost use Rattle.land_wire_json.specs.Bodies.Laws.{ContentsAreWellFormed, OutlinesAreAnswered};
 
 /// The answer for an outline's text is a ring that the text denotes, or the text's first fault.
-pub fn outlines_have_their_answers()
-    ensures { OutlinesHaveTheirAnswers }
+pub fn outlines_are_answered()
+    ensures { OutlinesAreAnswered }
 {}
 
 /// The value read from a body is within the limits of its act, and a content that was read is within its
@@ -15,10 +15,10 @@ pub fn readings_are_well_formed()
 {}
 
 /// Reading the text of a content with the word of its act returns that content.
-pub fn contents_are_read()
-    ensures { ContentsAreRead }
+pub fn contents_round_trip()
+    ensures { ContentsRoundTrip }
 {
-    outlines_have_their_answers();
+    outlines_are_answered();
     land_fraction::laws::fractions_stay();
     land_shape::laws::printed_rings();
     land_shape::laws::one_answer();

@@ -1,7 +1,7 @@
 //! Reads the bodies of lodgings, approvals and refusals.
 ghost use Rattle.std.specs.Prelude.{◌≡◌, ◌∷◌, codes, map};
 ghost use Rattle.land_wire_json.specs.Bodies.Mutations.{decision_of, fields_of, lodging_of};
-ghost use Rattle.land_wire_json.specs.Bodies.WireFaults.{Gives};
+ghost use Rattle.land_wire_json.specs.Bodies.WireFaults.{Returns};
 ghost use Rattle.serde_json.specs.View.{view};
 
 use crate::bodies::content::content_by;
@@ -15,7 +15,7 @@ use std::alloc::Global;
 /// Reads a lodging: `reference`, `document`, then the fields of its content.
 #[tactic(auto, unfolding(crate::specs::Bodies::Mutations::lodging_of))]
 pub fn lodging_of(alloc: Global, kind: ContentKind, value: &Value) -> Result<Lodging, WireFault>
-    ensures { Gives (λ it. it) result (lodging_of kind (view value.now)) }
+    ensures { Returns (λ it. it) result (lodging_of kind (view value.now)) }
 {
     check_keys(value, lodged_fields(kind))?;
     let reference = reference_at(alloc, value, "reference")?;

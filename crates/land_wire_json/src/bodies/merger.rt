@@ -1,14 +1,14 @@
 //! Reads the contents of mergers.
 ghost use Rattle.std.specs.Prelude.{◌≡◌};
 ghost use Rattle.land_wire_json.specs.Bodies.Fields.{each_of, number_in};
-ghost use Rattle.land_wire_json.specs.Bodies.Mutations.{merger_of, rising_at, without};
-ghost use Rattle.land_wire_json.specs.Bodies.WireFaults.{Gives};
+ghost use Rattle.land_wire_json.specs.Bodies.Mutations.{merger_of, increasing_at, without};
+ghost use Rattle.land_wire_json.specs.Bodies.WireFaults.{Returns};
 ghost use Rattle.serde_json.specs.View.{view, items_view};
 
 use crate::bodies::fields::{items_at, label_at, number_at, number_in};
 use crate::bodies::outline::outline_in;
 use crate::bodies::wire_fault::WireFault;
-use land_core::merger::{Merger, lists_number, rise_above};
+use land_core::merger::{Merger, lists_number, all_above};
 use land_core::sequence::{NumberList, Sequence};
 use serde_json::Value;
 use std::alloc::Global;
@@ -17,11 +17,11 @@ use std::alloc::Global;
 /// 16 numbers), both strictly increasing, `label`, `outline`.
 #[tactic(auto, unfolding(crate::specs::Bodies::Mutations::merger_of))]
 pub(crate) fn merger_of(alloc: Global, value: &Value) -> Result<Merger, WireFault>
-    ensures { Gives (λ it. it) result (merger_of (view value.now)) }
+    ensures { Returns (λ it. it) result (merger_of (view value.now)) }
 {
     let unit = number_at(value, "unit")?;
-    let others = without(unit, rising_at(alloc, value, "others", 0, 15)?)?;
-    let parcels = rising_at(alloc, value, "parcels", 2, 16)?;
+    let others = without(unit, increasing_at(alloc, value, "others", 0, 15)?)?;
+    let parcels = increasing_at(alloc, value, "parcels", 2, 16)?;
     let label = label_at(alloc, value, "label")?;
     let outline = outline_in(alloc, value)?;
     Ok(Merger {
@@ -45,18 +45,18 @@ fn without(unit: u64, others: NumberList) -> Result<NumberList, WireFault>
 
 /// Reads an array of `least` to `most` strictly increasing numbers of objects. Errors: 131 in another order,
 /// after each number was read.
-#[tactic(auto, unfolding(crate::specs::Bodies::Mutations::rising_at))]
-fn rising_at(
+#[tactic(auto, unfolding(crate::specs::Bodies::Mutations::increasing_at))]
+fn increasing_at(
     alloc: Global,
     value: &Value,
     key: &str,
     least: usize,
     most: usize,
 ) -> Result<NumberList, WireFault>
-    ensures { Gives (λ it. it) result (rising_at least most key.now (view value.now)) }
+    ensures { Returns (λ it. it) result (increasing_at least most key.now (view value.now)) }
 {
     let numbers = each_number(alloc, items_at(value, key, least, most)?)?;
-    if rise_above(0, numbers.as_slice()) {
+    if all_above(0, numbers.as_slice()) {
         Ok(numbers)
     } else {
         Err(WireFault::Field)
@@ -64,7 +64,7 @@ fn rising_at(
 }
 
 fn each_number(alloc: Global, items: &[Value]) -> Result<NumberList, WireFault>
-    ensures { Gives (λ it. it) result (each_of number_in (items_view items.now)) }
+    ensures { Returns (λ it. it) result (each_of number_in (items_view items.now)) }
 {
     let mut numbers = Sequence::new(alloc);
     for value in items {

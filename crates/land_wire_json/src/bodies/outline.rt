@@ -1,7 +1,7 @@
 //! Reads outlines in request bodies.
 ghost use Rattle.std.specs.Prelude.{◌≡◌};
 ghost use Rattle.land_wire_json.specs.Bodies.Outlines.{outline_in, outline_of};
-ghost use Rattle.land_wire_json.specs.Bodies.WireFaults.{Gives};
+ghost use Rattle.land_wire_json.specs.Bodies.WireFaults.{Returns};
 ghost use Rattle.serde_json.specs.View.{view};
 
 use crate::bodies::fields::text_at;
@@ -17,16 +17,16 @@ use std::alloc::Global;
 /// memory.
 #[tactic(auto, unfolding(crate::specs::Bodies::Outlines::outline_in))]
 pub fn outline_in(alloc: Global, value: &Value) -> Result<Ring, WireFault>
-    ensures { Gives (λ ring. ring) result (outline_in (view value.now)) }
+    ensures { Returns (λ ring. ring) result (outline_in (view value.now)) }
 {
     outline_of(alloc, text_at(value, "outline")?)
 }
 
 /// Reads the ring that a text denotes, in millimetres. Errors: 110 to 120; 501 if out of memory.
 pub fn outline_of(alloc: Global, text: &str) -> Result<Ring, WireFault>
-    ensures { Gives (λ ring. ring) result (outline_of text.now) }
+    ensures { Returns (λ ring. ring) result (outline_of text.now) }
 {
-    laws::outlines_have_their_answers();
+    laws::outlines_are_answered();
     land_shape::laws::one_answer();
     match read_wkt(alloc, text) {
         Ok(ring) => Ok(ring),

@@ -3,7 +3,7 @@ ghost use Rattle.std.specs.Prelude.{◌≡◌};
 ghost use Rattle.land_wire_json.specs.Bodies.Fields.{each_of};
 ghost use Rattle.land_wire_json.specs.Bodies.Parties.{enrol_of, grant_of, group_of, mandate_of, member_of};
 ghost use Rattle.land_wire_json.specs.Bodies.Parties.{members_of, regroup_of, withdrawal_of};
-ghost use Rattle.land_wire_json.specs.Bodies.WireFaults.{Gives};
+ghost use Rattle.land_wire_json.specs.Bodies.WireFaults.{Returns};
 ghost use Rattle.serde_json.specs.View.{view, items_view};
 
 use crate::bodies::fields::{check_keys, items_at, name_at, number_at};
@@ -21,7 +21,7 @@ use std::alloc::Global;
 /// Reads an enrolment: `kind` (naturalPerson or nonNaturalPerson), `name`.
 #[tactic(auto, unfolding(crate::specs::Bodies::Parties::enrol_of))]
 pub fn enrol_of(alloc: Global, value: &Value) -> Result<Enrol, WireFault>
-    ensures { Gives (λ it. it) result (enrol_of (view value.now)) }
+    ensures { Returns (λ it. it) result (enrol_of (view value.now)) }
 {
     check_keys(value, &["kind", "name"])?;
     let kind = kind_in(value)?;
@@ -32,7 +32,7 @@ pub fn enrol_of(alloc: Global, value: &Value) -> Result<Enrol, WireFault>
 /// Reads a group: `name`, `members` (2 to 64 of `party`, `share`).
 #[tactic(auto, unfolding(crate::specs::Bodies::Parties::group_of))]
 pub fn group_of(alloc: Global, value: &Value) -> Result<NewGroup, WireFault>
-    ensures { Gives (λ it. it) result (group_of (view value.now)) }
+    ensures { Returns (λ it. it) result (group_of (view value.now)) }
 {
     check_keys(value, &["name", "members"])?;
     let name = name_at(alloc, value, "name")?;
@@ -43,7 +43,7 @@ pub fn group_of(alloc: Global, value: &Value) -> Result<NewGroup, WireFault>
 /// Reads the new members of a group: `group`, `members` (2 to 64 of `party`, `share`).
 #[tactic(auto, unfolding(crate::specs::Bodies::Parties::regroup_of))]
 pub fn regroup_of(alloc: Global, value: &Value) -> Result<Regroup, WireFault>
-    ensures { Gives (λ it. it) result (regroup_of (view value.now)) }
+    ensures { Returns (λ it. it) result (regroup_of (view value.now)) }
 {
     check_keys(value, &["group", "members"])?;
     let group = number_at(value, "group")?;
@@ -85,13 +85,13 @@ pub fn withdrawal_of(value: &Value) -> Result<Mandate, WireFault>
 
 #[tactic(auto, unfolding(crate::specs::Bodies::Parties::members_of))]
 fn members_of(alloc: Global, value: &Value) -> Result<Sequence<Member>, WireFault>
-    ensures { Gives (λ it. it) result (members_of (view value.now)) }
+    ensures { Returns (λ it. it) result (members_of (view value.now)) }
 {
     each_member(alloc, items_at(value, "members", 2, 64)?)
 }
 
 fn each_member(alloc: Global, items: &[Value]) -> Result<Sequence<Member>, WireFault>
-    ensures { Gives (λ it. it) result (each_of member_of (items_view items.now)) }
+    ensures { Returns (λ it. it) result (each_of member_of (items_view items.now)) }
 {
     let mut members = Sequence::new(alloc);
     for value in items {

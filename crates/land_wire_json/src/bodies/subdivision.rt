@@ -2,7 +2,7 @@
 ghost use Rattle.std.specs.Prelude.{◌≡◌, option_map};
 ghost use Rattle.land_wire_json.specs.Bodies.Fields.{each_of};
 ghost use Rattle.land_wire_json.specs.Bodies.Mutations.{new_name_of, part_of, rest_of, subdivision_of};
-ghost use Rattle.land_wire_json.specs.Bodies.WireFaults.{Gives};
+ghost use Rattle.land_wire_json.specs.Bodies.WireFaults.{Returns};
 ghost use Rattle.serde_json.specs.View.{view, items_view};
 
 use crate::bodies::fields::{check_keys, field_at, items_at, label_at, name_of, number_at};
@@ -19,7 +19,7 @@ use std::alloc::Global;
 /// `label`, `outline` and, if the part goes to a new unit, its name `unit`).
 #[tactic(auto, unfolding(crate::specs::Bodies::Mutations::subdivision_of))]
 pub(crate) fn subdivision_of(alloc: Global, value: &Value) -> Result<Subdivision, WireFault>
-    ensures { Gives (λ it. it) result (subdivision_of (view value.now)) }
+    ensures { Returns (λ it. it) result (subdivision_of (view value.now)) }
 {
     let unit = number_at(value, "unit")?;
     let parcel = number_at(value, "parcel")?;
@@ -35,13 +35,13 @@ pub(crate) fn subdivision_of(alloc: Global, value: &Value) -> Result<Subdivision
 
 #[tactic(auto, unfolding(crate::specs::Bodies::Mutations::rest_of))]
 fn rest_of(alloc: Global, value: &Value) -> Result<Sequence<Part>, WireFault>
-    ensures { Gives (λ it. it) result (rest_of (view value.now)) }
+    ensures { Returns (λ it. it) result (rest_of (view value.now)) }
 {
     each_part(alloc, items_at(value, "rest", 1, 15)?)
 }
 
 fn each_part(alloc: Global, items: &[Value]) -> Result<Sequence<Part>, WireFault>
-    ensures { Gives (λ it. it) result (each_of part_of (items_view items.now)) }
+    ensures { Returns (λ it. it) result (each_of part_of (items_view items.now)) }
 {
     let mut parts = Sequence::new(alloc);
     for value in items {
@@ -52,7 +52,7 @@ fn each_part(alloc: Global, items: &[Value]) -> Result<Sequence<Part>, WireFault
 
 #[tactic(auto, unfolding(crate::specs::Bodies::Mutations::part_of))]
 fn part_of(alloc: Global, value: &Value) -> Result<Part, WireFault>
-    ensures { Gives (λ it. it) result (part_of (view value.now)) }
+    ensures { Returns (λ it. it) result (part_of (view value.now)) }
 {
     check_keys(value, &["label", "outline", "unit"])?;
     let label = label_at(alloc, value, "label")?;
@@ -66,7 +66,7 @@ fn part_of(alloc: Global, value: &Value) -> Result<Part, WireFault>
 }
 
 fn new_name_of(alloc: Global, value: Option<&Value>) -> Result<Option<Text>, WireFault>
-    ensures { Gives (λ it. it) result (new_name_of (option_map (λ value. view value.now) value.entry)) }
+    ensures { Returns (λ it. it) result (new_name_of (option_map (λ value. view value.now) value.entry)) }
 {
     match value {
         None => Ok(None),

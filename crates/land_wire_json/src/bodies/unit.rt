@@ -1,14 +1,14 @@
 //! Reads the bodies of acts on units and their entries.
 ghost use Rattle.std.specs.Prelude.{◌≡◌, map};
 ghost use Rattle.land_wire_json.specs.Bodies.Fields.{each_of};
-ghost use Rattle.land_wire_json.specs.Bodies.Units.{burden_by, burden_fields, burden_of, lift_of, owned};
+ghost use Rattle.land_wire_json.specs.Bodies.Units.{burden_by, burden_fields, burden_of, lift_of, require_owner};
 ghost use Rattle.land_wire_json.specs.Bodies.Units.{parcel_of, parcels_of, right_of, rights_of, unit_by};
 ghost use Rattle.land_wire_json.specs.Bodies.Units.{unit_fields, unit_of};
-ghost use Rattle.land_wire_json.specs.Bodies.WireFaults.{Gives};
+ghost use Rattle.land_wire_json.specs.Bodies.WireFaults.{Returns};
 ghost use Rattle.serde_json.specs.View.{view, items_view};
 
 use crate::bodies::fields::{
-    check_keys, items_at, label_at, name_at, number_at, title_at, truth_at, words_at,
+    check_keys, items_at, label_at, name_at, number_at, title_at, bool_at, words_at,
 };
 use crate::bodies::outline::outline_in;
 use crate::bodies::share::share_at;
@@ -24,7 +24,7 @@ use std::alloc::Global;
 /// all were read.
 #[tactic(auto, unfolding(crate::specs::Bodies::Units::unit_of))]
 pub fn unit_of(alloc: Global, value: &Value) -> Result<NewUnit, WireFault>
-    ensures { Gives (λ it. it) result (unit_of (view value.now)) }
+    ensures { Returns (λ it. it) result (unit_of (view value.now)) }
 {
     check_keys(value, unit_fields())?;
     unit_by(alloc, value)
@@ -38,10 +38,10 @@ fn unit_fields() -> &'static [&'static str]
 
 #[tactic(auto, unfolding(crate::specs::Bodies::Units::unit_by))]
 fn unit_by(alloc: Global, value: &Value) -> Result<NewUnit, WireFault>
-    ensures { Gives (λ it. it) result (unit_by (view value.now)) }
+    ensures { Returns (λ it. it) result (unit_by (view value.now)) }
 {
     let name = name_at(alloc, value, "name")?;
-    let checked = truth_at(value, "checked")?;
+    let checked = bool_at(value, "checked")?;
     let document = title_at(alloc, value, "document")?;
     let parcels = parcels_of(alloc, value)?;
     let rights = rights_of(alloc, value)?;
@@ -57,7 +57,7 @@ fn unit_by(alloc: Global, value: &Value) -> Result<NewUnit, WireFault>
 /// Reads a burden: `unit`, `party`, `class` (restriction or responsibility), `words`, `document`.
 #[tactic(auto, unfolding(crate::specs::Bodies::Units::burden_of))]
 pub fn burden_of(alloc: Global, value: &Value) -> Result<Burden, WireFault>
-    ensures { Gives (λ it. it) result (burden_of (view value.now)) }
+    ensures { Returns (λ it. it) result (burden_of (view value.now)) }
 {
     check_keys(value, burden_fields())?;
     burden_by(alloc, value)
@@ -71,7 +71,7 @@ fn burden_fields() -> &'static [&'static str]
 
 #[tactic(auto, unfolding(crate::specs::Bodies::Units::burden_by))]
 fn burden_by(alloc: Global, value: &Value) -> Result<Burden, WireFault>
-    ensures { Gives (λ it. it) result (burden_by (view value.now)) }
+    ensures { Returns (λ it. it) result (burden_by (view value.now)) }
 {
     let unit = number_at(value, "unit")?;
     let party = number_at(value, "party")?;
@@ -100,7 +100,7 @@ pub fn lift_of(value: &Value) -> Result<Lift, WireFault>
 /// Reads a parcel: `label`, `outline`.
 #[tactic(auto, unfolding(crate::specs::Bodies::Units::parcel_of))]
 pub fn parcel_of(alloc: Global, value: &Value) -> Result<NewParcel, WireFault>
-    ensures { Gives (λ it. it) result (parcel_of (view value.now)) }
+    ensures { Returns (λ it. it) result (parcel_of (view value.now)) }
 {
     check_keys(value, &["label", "outline"])?;
     let label = label_at(alloc, value, "label")?;
@@ -110,13 +110,13 @@ pub fn parcel_of(alloc: Global, value: &Value) -> Result<NewParcel, WireFault>
 
 #[tactic(auto, unfolding(crate::specs::Bodies::Units::parcels_of))]
 fn parcels_of(alloc: Global, value: &Value) -> Result<Sequence<NewParcel>, WireFault>
-    ensures { Gives (λ it. it) result (parcels_of (view value.now)) }
+    ensures { Returns (λ it. it) result (parcels_of (view value.now)) }
 {
     each_parcel(alloc, items_at(value, "parcels", 1, 64)?)
 }
 
 fn each_parcel(alloc: Global, items: &[Value]) -> Result<Sequence<NewParcel>, WireFault>
-    ensures { Gives (λ it. it) result (each_of parcel_of (items_view items.now)) }
+    ensures { Returns (λ it. it) result (each_of parcel_of (items_view items.now)) }
 {
     let mut parcels = Sequence::new(alloc);
     for value in items {
@@ -127,13 +127,13 @@ fn each_parcel(alloc: Global, items: &[Value]) -> Result<Sequence<NewParcel>, Wi
 
 #[tactic(auto, unfolding(crate::specs::Bodies::Units::rights_of))]
 fn rights_of(alloc: Global, value: &Value) -> Result<Sequence<NewRight>, WireFault>
-    ensures { Gives (λ it. it) result (rights_of (view value.now)) }
+    ensures { Returns (λ it. it) result (rights_of (view value.now)) }
 {
-    owned(each_right(alloc, items_at(value, "rights", 1, 64)?)?)
+    require_owner(each_right(alloc, items_at(value, "rights", 1, 64)?)?)
 }
 
-fn owned(rights: Sequence<NewRight>) -> Result<Sequence<NewRight>, WireFault>
-    ensures { result ≡ owned rights }
+fn require_owner(rights: Sequence<NewRight>) -> Result<Sequence<NewRight>, WireFault>
+    ensures { result ≡ require_owner rights }
 {
     if have_owner(rights.as_slice()) {
         Ok(rights)
@@ -143,7 +143,7 @@ fn owned(rights: Sequence<NewRight>) -> Result<Sequence<NewRight>, WireFault>
 }
 
 fn each_right(alloc: Global, items: &[Value]) -> Result<Sequence<NewRight>, WireFault>
-    ensures { Gives (λ it. it) result (each_of right_of (items_view items.now)) }
+    ensures { Returns (λ it. it) result (each_of right_of (items_view items.now)) }
 {
     let mut rights = Sequence::new(alloc);
     for value in items {

@@ -2,7 +2,7 @@
 ghost use Rattle.std.specs.Prelude.{◌≡◌, [], string_bytes, IfOk};
 ghost use Rattle.json.specs.Print.{print};
 ghost use Rattle.land_wire_json.specs.Texts.Fields.{Adds, AddsValue, fields_tokens, member_tokens};
-ghost use Rattle.land_wire_json.specs.Texts.Fields.{object_tokens, shown_data};
+ghost use Rattle.land_wire_json.specs.Texts.Fields.{object_tokens, value_data};
 
 use crate::texts::members::{
     write_first, write_members, write_numbers, write_outline, write_parts, write_roles, write_share,
@@ -18,7 +18,7 @@ use std::alloc::{AllocError, Global};
 
 /// The value of a field.
 #[derive(Clone, Copy)]
-pub enum Shown<'a> {
+pub enum MemberValue<'a> {
     /// A number of the register, an amount in minor units, or an area in square millimetres.
     Number(u64),
     /// A moment, in Unix milliseconds.
@@ -45,7 +45,7 @@ pub enum Shown<'a> {
 
 /// A field of an object: its name and its value.
 #[derive(Clone, Copy)]
-pub struct Field<'a>(pub &'a str, pub Shown<'a>);
+pub struct Field<'a>(pub &'a str, pub MemberValue<'a>);
 
 /// Writes an object with these fields in their order. The only error is out of memory.
 pub fn write_object(alloc: Global, out: &mut Writer, fields: &[Field<'_>]) -> Result<(), AllocError>
@@ -71,32 +71,32 @@ pub(crate) fn write_fields(
 }
 
 fn write_field(alloc: Global, out: &mut Writer, field: &Field<'_>) -> Result<(), AllocError>
-    ensures { Adds result out.old out.new (member_tokens field.now.0.now (shown_data field.now.1)) }
+    ensures { Adds result out.old out.new (member_tokens field.now.0.now (value_data field.now.1)) }
 {
     out.key(field.0)?;
-    write_shown(alloc, out, &field.1)
+    write_value(alloc, out, &field.1)
 }
 
-fn write_shown(alloc: Global, out: &mut Writer, shown: &Shown<'_>) -> Result<(), AllocError>
-    ensures { AddsValue result out.old out.new (shown_data shown.now) }
+fn write_value(alloc: Global, out: &mut Writer, shown: &MemberValue<'_>) -> Result<(), AllocError>
+    ensures { AddsValue result out.old out.new (value_data shown.now) }
 {
     match shown {
-        Shown::Number(number) => out.u64(*number),
-        Shown::Moment(moment) => out.i64(*moment),
-        Shown::Truth(it) => out.boolean(*it),
-        Shown::Text(text) => out.string(text),
-        Shown::Share(share) => write_share(alloc, out, *share),
-        Shown::Outline(outline) => write_outline(out, outline),
-        Shown::Numbers(numbers) => write_numbers(out, numbers),
-        Shown::Members(members) => write_members(alloc, out, members),
-        Shown::Roles(roles) => write_roles(out, roles),
-        Shown::First(part) => write_first(out, part),
-        Shown::Parts(parts) => write_parts(out, parts),
+        MemberValue::Number(number) => out.u64(*number),
+        MemberValue::Moment(moment) => out.i64(*moment),
+        MemberValue::Truth(it) => out.boolean(*it),
+        MemberValue::Text(text) => out.string(text),
+        MemberValue::Share(share) => write_share(alloc, out, *share),
+        MemberValue::Outline(outline) => write_outline(out, outline),
+        MemberValue::Numbers(numbers) => write_numbers(out, numbers),
+        MemberValue::Members(members) => write_members(alloc, out, members),
+        MemberValue::Roles(roles) => write_roles(out, roles),
+        MemberValue::First(part) => write_first(out, part),
+        MemberValue::Parts(parts) => write_parts(out, parts),
     }
 }
 
 /// Returns a writer with enough capacity for most replies. The only error is out of memory.
-pub fn new_text(alloc: Global) -> Result<Writer, AllocError>
+pub fn new_writer(alloc: Global) -> Result<Writer, AllocError>
     ensures tokens { IfOk result (λ out. out.tokens ≡ []) }
     ensures before { IfOk result (λ out. out.before ≡ []) }
 {

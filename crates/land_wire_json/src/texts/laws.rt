@@ -1,8 +1,8 @@
 //! Laws, each stated with definitions only.
 ghost use Rattle.land_wire_json.specs.Texts.Laws.{PartyTexts, UnitTexts, ParcelTexts, RrrTexts, SourceTexts};
 ghost use Rattle.land_wire_json.specs.Texts.Laws.{MutationTexts, ContentTexts};
-ghost use Rattle.land_wire_json.specs.Texts.Laws.{ShareTexts, OutlineTexts, CompactLaw, ObjectsAreTold};
-ghost use Rattle.land_wire_json.specs.Texts.Laws.{ContentsAreTold};
+ghost use Rattle.land_wire_json.specs.Texts.Laws.{ShareTexts, OutlineTexts, CompactLaw, TextsDetermineObjects};
+ghost use Rattle.land_wire_json.specs.Texts.Laws.{TextsDetermineContents};
 
 /// The texts of parties in replies.
 pub fn parties_have_plain_texts()
@@ -56,15 +56,15 @@ pub fn compact_texts_are_read()
 {}
 
 /// A text determines its object, if the object is within its limits.
-pub fn texts_tell_objects()
-    ensures { ObjectsAreTold }
+pub fn texts_determine_objects()
+    ensures { TextsDetermineObjects }
 {
     land_shape::laws::printed_rings();
 }
 
 /// A text determines its content, if the content is within its limits.
-pub fn texts_tell_contents()
-    ensures { ContentsAreTold }
+pub fn texts_determine_contents()
+    ensures { TextsDetermineContents }
 {
     land_shape::laws::printed_rings();
 }

@@ -2,7 +2,7 @@
 ghost use Rattle.land_wire_json.specs.Texts.Fields.{AddsValue};
 ghost use Rattle.land_wire_json.specs.Texts.Mergers.{merger_data};
 
-use crate::texts::fields::{Field, Shown, write_object};
+use crate::texts::fields::{Field, MemberValue, write_object};
 use json::Writer;
 use land_core::merger::Merger;
 use std::alloc::{AllocError, Global};
@@ -16,11 +16,11 @@ pub(crate) fn write_merger(
     ensures { AddsValue result out.old out.new (merger_data merger.now) }
 {
     let fields = [
-        Field("label", Shown::Text(merger.label.as_str())),
-        Field("others", Shown::Numbers(merger.others.as_slice())),
-        Field("outline", Shown::Outline(&merger.outline)),
-        Field("parcels", Shown::Numbers(merger.parcels.as_slice())),
-        Field("unit", Shown::Number(merger.unit)),
+        Field("label", MemberValue::Text(merger.label.as_str())),
+        Field("others", MemberValue::Numbers(merger.others.as_slice())),
+        Field("outline", MemberValue::Outline(&merger.outline)),
+        Field("parcels", MemberValue::Numbers(merger.parcels.as_slice())),
+        Field("unit", MemberValue::Number(merger.unit)),
     ];
     write_object(alloc, out, &fields)
 }

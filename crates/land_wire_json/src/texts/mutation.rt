@@ -4,7 +4,7 @@ ghost use Rattle.land_wire_json.specs.Texts.Fields.{AddsValue};
 ghost use Rattle.land_wire_json.specs.Texts.Mutations.{content_data, content_text, discharge_data};
 ghost use Rattle.land_wire_json.specs.Texts.Mutations.{mortgage_data, mutation_data, transfer_data};
 
-use crate::texts::fields::{Field, Shown, new_text, text_of, write_fields, write_object};
+use crate::texts::fields::{Field, MemberValue, new_writer, text_of, write_fields, write_object};
 use crate::texts::members::write_text;
 use crate::texts::merger::write_merger;
 use crate::texts::subdivision::write_subdivision;
@@ -23,12 +23,12 @@ pub(crate) fn write_mutation(
     ensures { AddsValue result out.old out.new (mutation_data mutation.now) }
 {
     let lodging = [
-        Field("lodged", Shown::Moment(mutation.lodged)),
-        Field("lodger", Shown::Number(mutation.lodger)),
-        Field("number", Shown::Number(mutation.number)),
-        Field("reference", Shown::Text(mutation.reference.as_str())),
-        Field("source", Shown::Number(mutation.source)),
-        Field("state", Shown::Text(state_word(mutation.state))),
+        Field("lodged", MemberValue::Moment(mutation.lodged)),
+        Field("lodger", MemberValue::Number(mutation.lodger)),
+        Field("number", MemberValue::Number(mutation.number)),
+        Field("reference", MemberValue::Text(mutation.reference.as_str())),
+        Field("source", MemberValue::Number(mutation.source)),
+        Field("state", MemberValue::Text(state_word(mutation.state))),
     ];
     out.begin_object()?;
     write_text(out, "act", act_word(&mutation.content))?;
@@ -43,7 +43,7 @@ pub(crate) fn write_mutation(
 pub fn content_text(alloc: Global, content: &Content) -> Result<String, AllocError>
     ensures { IfOk result (λ text. string_bytes text ≡ content_text content.now) }
 {
-    let mut out = new_text(alloc)?;
+    let mut out = new_writer(alloc)?;
     write_content(alloc, &mut out, content)?;
     Ok(text_of(out))
 }
@@ -65,10 +65,10 @@ fn write_transfer(alloc: Global, out: &mut Writer, transfer: &Transfer) -> Resul
     ensures { AddsValue result out.old out.new (transfer_data transfer.now) }
 {
     let fields = [
-        Field("receiver", Shown::Number(transfer.receiver)),
-        Field("right", Shown::Number(transfer.right)),
-        Field("share", Shown::Share(transfer.share)),
-        Field("unit", Shown::Number(transfer.unit)),
+        Field("receiver", MemberValue::Number(transfer.receiver)),
+        Field("right", MemberValue::Number(transfer.right)),
+        Field("share", MemberValue::Share(transfer.share)),
+        Field("unit", MemberValue::Number(transfer.unit)),
     ];
     write_object(alloc, out, &fields)
 }
@@ -77,10 +77,10 @@ fn write_mortgage(alloc: Global, out: &mut Writer, mortgage: &Mortgage) -> Resul
     ensures { AddsValue result out.old out.new (mortgage_data mortgage.now) }
 {
     let fields = [
-        Field("amount", Shown::Number(mortgage.amount)),
-        Field("creditor", Shown::Number(mortgage.creditor)),
-        Field("currency", Shown::Text(mortgage.currency.as_str())),
-        Field("unit", Shown::Number(mortgage.unit)),
+        Field("amount", MemberValue::Number(mortgage.amount)),
+        Field("creditor", MemberValue::Number(mortgage.creditor)),
+        Field("currency", MemberValue::Text(mortgage.currency.as_str())),
+        Field("unit", MemberValue::Number(mortgage.unit)),
     ];
     write_object(alloc, out, &fields)
 }
@@ -89,8 +89,8 @@ fn write_discharge(alloc: Global, out: &mut Writer, discharge: &Discharge) -> Re
     ensures { AddsValue result out.old out.new (discharge_data discharge.now) }
 {
     let fields = [
-        Field("mortgage", Shown::Number(discharge.mortgage)),
-        Field("unit", Shown::Number(discharge.unit)),
+        Field("mortgage", MemberValue::Number(discharge.mortgage)),
+        Field("unit", MemberValue::Number(discharge.unit)),
     ];
     write_object(alloc, out, &fields)
 }

@@ -13,7 +13,7 @@ use land_core::object::Object;
 use std::alloc::{AllocError, Global};
 
 /// Writes an object of a reply. The only error is out of memory.
-pub fn write_as_shown(alloc: Global, out: &mut Writer, object: &Object) -> Result<(), AllocError>
+pub fn write_object_json(alloc: Global, out: &mut Writer, object: &Object) -> Result<(), AllocError>
     ensures { AddsValue result out.old out.new (object_data object.now) }
 {
     match object {

@@ -2,7 +2,7 @@
 ghost use Rattle.land_wire_json.specs.Texts.Fields.{AddsValue};
 ghost use Rattle.land_wire_json.specs.Texts.Parcels.{parcel_data};
 
-use crate::texts::fields::{Field, Shown, write_object};
+use crate::texts::fields::{Field, MemberValue, write_object};
 use json::Writer;
 use land_core::parcel::Parcel;
 use std::alloc::{AllocError, Global};
@@ -16,12 +16,12 @@ pub(crate) fn write_parcel(
     ensures { AddsValue result out.old out.new (parcel_data parcel.now) }
 {
     let fields = [
-        Field("doubled", Shown::Number(parcel.outline.doubled_area())),
-        Field("label", Shown::Text(parcel.label.as_str())),
-        Field("number", Shown::Number(parcel.number)),
-        Field("outline", Shown::Outline(&parcel.outline)),
-        Field("source", Shown::Number(parcel.source)),
-        Field("unit", Shown::Number(parcel.unit)),
+        Field("doubled", MemberValue::Number(parcel.outline.doubled_area())),
+        Field("label", MemberValue::Text(parcel.label.as_str())),
+        Field("number", MemberValue::Number(parcel.number)),
+        Field("outline", MemberValue::Outline(&parcel.outline)),
+        Field("source", MemberValue::Number(parcel.source)),
+        Field("unit", MemberValue::Number(parcel.unit)),
     ];
     write_object(alloc, out, &fields)
 }

@@ -2,7 +2,7 @@
 ghost use Rattle.land_wire_json.specs.Texts.Fields.{AddsValue};
 ghost use Rattle.land_wire_json.specs.Texts.Rrrs.{burden_data, mortgage_data, right_data, rrr_data};
 
-use crate::texts::fields::{Field, Shown, write_object};
+use crate::texts::fields::{Field, MemberValue, write_object};
 use json::Writer;
 use land_core::rrr::{Class, RightType, Rrr};
 use land_core::words::right_word;
@@ -39,12 +39,12 @@ fn write_right(
     ensures { AddsValue result out.old out.new (right_data entry.now right_type share) }
 {
     let fields = [
-        Field("class", Shown::Text(right_word(right_type))),
-        Field("number", Shown::Number(entry.number)),
-        Field("party", Shown::Number(entry.party)),
-        Field("share", Shown::Share(share)),
-        Field("source", Shown::Number(entry.source)),
-        Field("unit", Shown::Number(entry.unit)),
+        Field("class", MemberValue::Text(right_word(right_type))),
+        Field("number", MemberValue::Number(entry.number)),
+        Field("party", MemberValue::Number(entry.party)),
+        Field("share", MemberValue::Share(share)),
+        Field("source", MemberValue::Number(entry.source)),
+        Field("unit", MemberValue::Number(entry.unit)),
     ];
     write_object(alloc, out, &fields)
 }
@@ -60,12 +60,12 @@ fn write_burden<'a>(
     ensures { AddsValue result out.old out.new (burden_data entry.now class.now words.now) }
 {
     let fields = [
-        Field("class", Shown::Text(class)),
-        Field("number", Shown::Number(entry.number)),
-        Field("party", Shown::Number(entry.party)),
-        Field("source", Shown::Number(entry.source)),
-        Field("unit", Shown::Number(entry.unit)),
-        Field("words", Shown::Text(words)),
+        Field("class", MemberValue::Text(class)),
+        Field("number", MemberValue::Number(entry.number)),
+        Field("party", MemberValue::Number(entry.party)),
+        Field("source", MemberValue::Number(entry.source)),
+        Field("unit", MemberValue::Number(entry.unit)),
+        Field("words", MemberValue::Text(words)),
     ];
     write_object(alloc, out, &fields)
 }
@@ -81,14 +81,14 @@ fn write_mortgage(
     ensures { AddsValue result out.old out.new (mortgage_data entry.now amount currency.now rank) }
 {
     let fields = [
-        Field("amount", Shown::Number(amount)),
-        Field("class", Shown::Text("mortgage")),
-        Field("currency", Shown::Text(currency)),
-        Field("number", Shown::Number(entry.number)),
-        Field("party", Shown::Number(entry.party)),
-        Field("rank", Shown::Number(rank)),
-        Field("source", Shown::Number(entry.source)),
-        Field("unit", Shown::Number(entry.unit)),
+        Field("amount", MemberValue::Number(amount)),
+        Field("class", MemberValue::Text("mortgage")),
+        Field("currency", MemberValue::Text(currency)),
+        Field("number", MemberValue::Number(entry.number)),
+        Field("party", MemberValue::Number(entry.party)),
+        Field("rank", MemberValue::Number(rank)),
+        Field("source", MemberValue::Number(entry.source)),
+        Field("unit", MemberValue::Number(entry.unit)),
     ];
     write_object(alloc, out, &fields)
 }

@@ -2,7 +2,7 @@
 ghost use Rattle.land_wire_json.specs.Texts.Fields.{AddsValue};
 ghost use Rattle.land_wire_json.specs.Texts.Sources.{source_data};
 
-use crate::texts::fields::{Field, Shown, write_object};
+use crate::texts::fields::{Field, MemberValue, write_object};
 use json::Writer;
 use land_core::source::Source;
 use land_core::words::source_word;
@@ -17,9 +17,9 @@ pub(crate) fn write_source(
     ensures { AddsValue result out.old out.new (source_data source.now) }
 {
     let fields = [
-        Field("kind", Shown::Text(source_word(source.kind))),
-        Field("number", Shown::Number(source.number)),
-        Field("title", Shown::Text(source.title.as_str())),
+        Field("kind", MemberValue::Text(source_word(source.kind))),
+        Field("number", MemberValue::Number(source.number)),
+        Field("title", MemberValue::Text(source.title.as_str())),
     ];
     write_object(alloc, out, &fields)
 }

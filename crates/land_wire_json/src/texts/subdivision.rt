@@ -2,7 +2,7 @@
 ghost use Rattle.land_wire_json.specs.Texts.Fields.{AddsValue};
 ghost use Rattle.land_wire_json.specs.Texts.Subdivisions.{subdivision_data};
 
-use crate::texts::fields::{Field, Shown, write_object};
+use crate::texts::fields::{Field, MemberValue, write_object};
 use json::Writer;
 use land_core::subdivision::Subdivision;
 use std::alloc::{AllocError, Global};
@@ -16,10 +16,10 @@ pub(crate) fn write_subdivision(
     ensures { AddsValue result out.old out.new (subdivision_data subdivision.now) }
 {
     let fields = [
-        Field("first", Shown::First(&subdivision.first)),
-        Field("parcel", Shown::Number(subdivision.parcel)),
-        Field("rest", Shown::Parts(subdivision.rest.as_slice())),
-        Field("unit", Shown::Number(subdivision.unit)),
+        Field("first", MemberValue::First(&subdivision.first)),
+        Field("parcel", MemberValue::Number(subdivision.parcel)),
+        Field("rest", MemberValue::Parts(subdivision.rest.as_slice())),
+        Field("unit", MemberValue::Number(subdivision.unit)),
     ];
     write_object(alloc, out, &fields)
 }

@@ -2,7 +2,7 @@
 ghost use Rattle.land_wire_json.specs.Texts.Fields.{AddsValue};
 ghost use Rattle.land_wire_json.specs.Texts.Units.{unit_data};
 
-use crate::texts::fields::{Field, Shown, write_object};
+use crate::texts::fields::{Field, MemberValue, write_object};
 use json::Writer;
 use land_core::unit::Unit;
 use std::alloc::{AllocError, Global};
@@ -12,9 +12,9 @@ pub(crate) fn write_unit(alloc: Global, out: &mut Writer, unit: &Unit) -> Result
     ensures { AddsValue result out.old out.new (unit_data unit.now) }
 {
     let fields = [
-        Field("checked", Shown::Truth(unit.checked)),
-        Field("name", Shown::Text(unit.name.as_str())),
-        Field("number", Shown::Number(unit.number)),
+        Field("checked", MemberValue::Truth(unit.checked)),
+        Field("name", MemberValue::Text(unit.name.as_str())),
+        Field("number", MemberValue::Number(unit.number)),
     ];
     write_object(alloc, out, &fields)
 }

@@ -4,7 +4,7 @@ use Rattle.land_acts.proofs.SlicedDecisions.{approve_same, refuse_same}
 use Rattle.land_acts.proofs.SlicedMutations.{other_same, repeat_same}
 use Rattle.land_acts.proofs.SlicedWords.{single_same, same_mandate, mandated_same, group_same, holds_same, stranger_same, beside_same, names_group, names_members, stands_same, absent_same, unit_same, count_same, burden_same}
 use Rattle.land_acts.specs.Laws.{SlicesSuffice}
-use Rattle.land_acts.specs.Mandating.{given}
+use Rattle.land_acts.specs.Mandating.{mandate_of_caller}
 use Rattle.land_core.specs.declared.act.Act.TheVariants.{Enrol, Group, Regroup, Grant, Revoke, Mandate, Withdraw, Register as RegisterUnit, Burden, Lift, Lodge, Approve, Refuse}
 use Rattle.land_acts.proofs.laws.slices_suffice.Goals as goal
 
@@ -18,7 +18,7 @@ same_outcome r caller (Grant it) stamp =
 same_outcome r caller (Revoke it) stamp =
     rw (single_same r caller (Revoke it) it.party (nat_eq_equiv.refl it.party), holds_same r caller (Revoke it) it.party it.role (nat_eq_equiv.refl it.party), beside_same r caller (Revoke it) it.party) refl
 same_outcome r caller (Mandate it) stamp =
-    rw (single_same r caller (Mandate it) it.agent (nat_eq_equiv.refl it.agent), mandated_same r caller (Mandate it) (given caller it) (same_mandate (given caller it))) refl
+    rw (single_same r caller (Mandate it) it.agent (nat_eq_equiv.refl it.agent), mandated_same r caller (Mandate it) (mandate_of_caller caller it) (same_mandate (mandate_of_caller caller it))) refl
 same_outcome r caller (Withdraw it) stamp = rw (mandated_same r caller (Withdraw it) it (same_mandate it)) refl
 same_outcome r caller (RegisterUnit it) stamp = rw (absent_same r caller (RegisterUnit it) it.rights (λ n listed. listed)) refl
 same_outcome r caller (Burden it) stamp =

@@ -2,20 +2,20 @@ use Rattle.std.proofs.Common.{◌*◌, ◌∙◌, refl, rules}
 use Rattle.land_desk.proofs.Asking.{none_taken, not_begun, taken_at_most}
 use Rattle.land_desk.proofs.Honesty.{comes_to_nothing}
 use Rattle.land_desk.proofs.Moving.{reach_self}
-use Rattle.land_desk.specs.Serving.{HearsIf}
+use Rattle.land_desk.specs.Serving.{StepIfHonest}
 use Rattle.land_desk.specs.declared.serve.DeskFault.TheVariants as desk
-use Rattle.land_keep.specs.Keeping.{IsAt}
+use Rattle.land_keep.specs.Keeping.{IsStateOf}
 use Rattle.land_desk.proofs.serve.serve.Goals as goal
 
 pub returns-in_default-clause-served : goal.returns-in_default-clause-served
-returns-in_default-clause-served g c = comes_to_nothing (HearsIf (g.K.Keeper.honest c.args.keeper.now) g.C.Clock.reads)
-    (λ s. IsAt (g.K.Keeper.honest c.args.keeper.now) (g.K.Keeper.closed c.args.keeper.now) (g.K.Keeper.timeline c.args.keeper.now) c.args.clock.now s)
+returns-in_default-clause-served g c = comes_to_nothing (StepIfHonest (g.K.Keeper.honest c.args.keeper.now) g.C.Clock.reads)
+    (λ s. IsStateOf (g.K.Keeper.honest c.args.keeper.now) (g.K.Keeper.closed c.args.keeper.now) (g.K.Keeper.timeline c.args.keeper.now) c.args.clock.now s)
     (record { closed = g.K.Keeper.closed c.args.keeper.now; timeline = g.K.Keeper.timeline c.args.keeper.now; clock = c.args.clock.now })
     (g.R.Read.remaining c.args.reader.now) (g.W.Write.contents c.args.writer.now) (refl, refl, λ live. refl)
 
 pub returns-in_default-vec-clause-served : goal.returns-in_default-vec-clause-served
-returns-in_default-vec-clause-served g c = comes_to_nothing (HearsIf (g.K.Keeper.honest c.args.keeper.now) g.C.Clock.reads)
-    (λ s. IsAt (g.K.Keeper.honest c.args.keeper.now) (g.K.Keeper.closed c.args.keeper.now) (g.K.Keeper.timeline c.args.keeper.now) c.args.clock.now s)
+returns-in_default-vec-clause-served g c = comes_to_nothing (StepIfHonest (g.K.Keeper.honest c.args.keeper.now) g.C.Clock.reads)
+    (λ s. IsStateOf (g.K.Keeper.honest c.args.keeper.now) (g.K.Keeper.closed c.args.keeper.now) (g.K.Keeper.timeline c.args.keeper.now) c.args.clock.now s)
     (record { closed = g.K.Keeper.closed c.args.keeper.now; timeline = g.K.Keeper.timeline c.args.keeper.now; clock = c.args.clock.now })
     (g.R.Read.remaining c.args.reader.now) (g.W.Write.contents c.args.writer.now) (refl, refl, λ live. refl)
 
@@ -23,10 +23,10 @@ pub returns-clause-served : goal.returns-clause-served
 returns-clause-served g c = simp c.new-counted.ensures.same at c.serve_items.ensures.served
 
 pub returns-in_default-clause-reached : goal.returns-in_default-clause-reached
-returns-in_default-clause-reached g c = (_, reach_self (HearsIf (g.K.Keeper.honest c.args.keeper.now) g.C.Clock.reads) _, (refl, refl, λ live. refl))
+returns-in_default-clause-reached g c = (_, reach_self (StepIfHonest (g.K.Keeper.honest c.args.keeper.now) g.C.Clock.reads) _, (refl, refl, λ live. refl))
 
 pub returns-in_default-vec-clause-reached : goal.returns-in_default-vec-clause-reached
-returns-in_default-vec-clause-reached g c = (_, reach_self (HearsIf (g.K.Keeper.honest c.args.keeper.now) g.C.Clock.reads) _, (refl, refl, λ live. refl))
+returns-in_default-vec-clause-reached g c = (_, reach_self (StepIfHonest (g.K.Keeper.honest c.args.keeper.now) g.C.Clock.reads) _, (refl, refl, λ live. refl))
 
 pub returns-in_default-clause-reads : goal.returns-in_default-clause-reads
 returns-in_default-clause-reads g c = not_begun (g.R.Read.remaining c.args.reader.now) desk.NoMemory

@@ -7,18 +7,18 @@ use Rattle.land_fraction.proofs.lists.common.Goals as goal
 pub loop-share-init : goal.loop-share-init
 loop-share-init c = (least_of_none, omega arith)
 
-pub returns-then-multiple-gt-FINEST-clause-meaning :
-    goal.returns-then-multiple-gt-FINEST-clause-meaning
-returns-then-multiple-gt-FINEST-clause-meaning c =
+pub returns-then-multiple-gt-MAX_DENOMINATOR-clause-meaning :
+    goal.returns-then-multiple-gt-MAX_DENOMINATOR-clause-meaning
+returns-then-multiple-gt-MAX_DENOMINATOR-clause-meaning c =
     let step : IsLeastMultiple c.loop-share.multiple c.share-item.result.denominator c.least_multiple-multiple.result =
     subst (λ (d : ℕ). IsLeastMultiple c.loop-share.multiple d c.least_multiple-multiple.result) c.denominator.ensures.value c.least_multiple-multiple.ensures in
     too_fine_from c.least_multiple-multiple.result (c.loop-share.share-index + 1) c.args.shares.now
     (least_of_more c.loop-share.multiple _ _ c.args.shares.now c.share-item.result c.loop-share-test.true c.share-item.is c.denominator.ensures.lowest.lowest.positive step c.loop-share.invariant.0)
     (omega arith)
 
-pub returns-then-multiple-gt-FINEST-clause-value :
-    goal.returns-then-multiple-gt-FINEST-clause-value
-returns-then-multiple-gt-FINEST-clause-value c = the_common c.args.shares.now None (returns-then-multiple-gt-FINEST-clause-meaning c)
+pub returns-then-multiple-gt-MAX_DENOMINATOR-clause-value :
+    goal.returns-then-multiple-gt-MAX_DENOMINATOR-clause-value
+returns-then-multiple-gt-MAX_DENOMINATOR-clause-value c = the_common c.args.shares.now None (returns-then-multiple-gt-MAX_DENOMINATOR-clause-meaning c)
 
 pub loop-share-preserved : goal.loop-share-preserved
 loop-share-preserved c =

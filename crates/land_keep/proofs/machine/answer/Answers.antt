@@ -3,7 +3,7 @@ use Rattle.std.specs.Prelude.{FitsSigned}
 use Rattle.std.specs.Int.{w64}
 use Rattle.std.proofs.lemmas.Int.{to_z-of_z}
 use Rattle.land_keep.proofs.Steps.{fault_element, finished_element, opens}
-use Rattle.land_keep.specs.Keeping.{after_writing}
+use Rattle.land_keep.specs.Keeping.{apply_pending}
 use Rattle.land_keep.specs.declared.prepared.Prepared.{Prepared}
 use Rattle.land_keep.specs.declared.reply.Reply.{Reply}
 use Rattle.land_keep.proofs.machine.answer.Goals as goal
@@ -41,7 +41,7 @@ returns-in-Ok-finish-clause-answered g c honest =
     let trust = c.in-Ok-finish.ensures.was honest in
     let fit : FitsSigned w64 c.args.clock = search rules in
     let same = c.in-Ok.ensures.same (trust, open_mid.1) in (
-      after_writing c.in-Ok.prepared.writing tl,
+      apply_pending c.in-Ok.prepared.writing tl,
       rw c.in-Ok-finish.ensures.reply (finished_element before closed c.args.clock c.args.request.now tl c.in-Ok.prepared open_mid.0 open_after.1 (simp to_z-of_z at (c.in-Ok.ensures.prepared trust))),
-      λ is_open. c.in-Ok-finish.ensures.ok (honest, is_open) ∙ ap (after_writing c.in-Ok.prepared.writing) same,
+      λ is_open. c.in-Ok-finish.ensures.ok (honest, is_open) ∙ ap (apply_pending c.in-Ok.prepared.writing) same,
     )

@@ -4,7 +4,7 @@ use Rattle.std.specs.Int.{w64}
 use Rattle.std.proofs.lemmas.Int.{to_z-of_z}
 use Rattle.std.proofs.lemmas.Result.{IfOk-weaker}
 use Rattle.land_keep.proofs.Steps.{now_is_moment, opens, role_is_held, shows_asked, step_allowed, step_denied, step_late, without_change_leads}
-use Rattle.land_keep.specs.Keeping.{ShowsAsked, ShowsAt}
+use Rattle.land_keep.specs.Keeping.{SheetHasRequestedMoment, SheetHasMoment}
 use Rattle.land_keep.specs.Machine.{at_of, now_of, moment_of, verdict_at}
 use Rattle.land_keep.specs.Moments.{IsMoment, now_after}
 use Rattle.land_keep.specs.declared.prepared.Prepared.{Prepared}
@@ -25,7 +25,7 @@ returns-in-Allowed-clause-prepared g c honest =
     let fit_at : FitsSigned w64 c.unwrap_or-at.result = search rules in
     let last_is = c.last.ensures.last (trust, opened.0) in
     let now_is : c.now_at-now.result ≡ now_of c.args.clock tl = rw (← last_is) (simp to_z-of_z at c.now_at-now.ensures) in
-    let at_is : c.unwrap_or-at.result ≡ moment_of c.args.request.now.ask (now_of c.args.clock tl) = rw (← now_is, ← c.named_moment.ensures) (simp to_z-of_z at c.unwrap_or-at.ensures) in
+    let at_is : c.unwrap_or-at.result ≡ moment_of c.args.request.now.ask (now_of c.args.clock tl) = rw (← now_is, ← c.explicit_moment.ensures) (simp to_z-of_z at c.unwrap_or-at.ensures) in
     let late : int_lt (now_of c.args.clock tl) (moment_of c.args.request.now.ask (now_of c.args.clock tl)) ≡ false = rw (← at_is, ← now_is) (simp to_z-of_z at c.if-now-at.false) in
     let free : verdict_at tl c.args.request.now.caller c.args.request.now.ask (now_of c.args.clock tl) ≡ Allowed = rw (← now_is) (sym (simp to_z-of_z at (c.in_ok-rule.ensures.value asked)) ∙ c.in-Allowed.is) in
     rw (step_allowed c.args.clock c.args.request.now tl late free, ← at_is)
@@ -41,7 +41,7 @@ returns-in-Denied-clause-prepared g c honest =
     let fit_at : FitsSigned w64 c.unwrap_or-at.result = search rules in
     let last_is = c.last.ensures.last (trust, sym c.is_closed.ensures ∙ c.if-is_closed.false) in
     let now_is : c.now_at-now.result ≡ now_of c.args.clock tl = rw (← last_is) (simp to_z-of_z at c.now_at-now.ensures) in
-    let at_is : c.unwrap_or-at.result ≡ moment_of c.args.request.now.ask (now_of c.args.clock tl) = rw (← now_is, ← c.named_moment.ensures) (simp to_z-of_z at c.unwrap_or-at.ensures) in
+    let at_is : c.unwrap_or-at.result ≡ moment_of c.args.request.now.ask (now_of c.args.clock tl) = rw (← now_is, ← c.explicit_moment.ensures) (simp to_z-of_z at c.unwrap_or-at.ensures) in
     let late : int_lt (now_of c.args.clock tl) (moment_of c.args.request.now.ask (now_of c.args.clock tl)) ≡ false = rw (← at_is, ← now_is) (simp to_z-of_z at c.if-now-at.false) in
     let denied : verdict_at tl c.args.request.now.caller c.args.request.now.ask (now_of c.args.clock tl) ≡ Denied c.in-Denied.rule = rw (← now_is) (sym (simp to_z-of_z at (c.in_ok-rule.ensures.value honest)) ∙ c.in-Denied.is) in
     without_change_leads c.without_change-in-Denied.result (reply.Denied c.in-Denied.rule) _ tl c.without_change-in-Denied.ensures.reply c.without_change-in-Denied.ensures.writing
@@ -56,7 +56,7 @@ returns-then-now-at-clause-prepared g c honest =
     let fit_at : FitsSigned w64 c.unwrap_or-at.result = search rules in
     let last_is = c.last.ensures.last (honest, sym c.is_closed.ensures ∙ c.if-is_closed.false) in
     let now_is : c.now_at-now.result ≡ now_of c.args.clock tl = rw (← last_is) (simp to_z-of_z at c.now_at-now.ensures) in
-    let at_is : c.unwrap_or-at.result ≡ moment_of c.args.request.now.ask (now_of c.args.clock tl) = rw (← now_is, ← c.named_moment.ensures) (simp to_z-of_z at c.unwrap_or-at.ensures) in
+    let at_is : c.unwrap_or-at.result ≡ moment_of c.args.request.now.ask (now_of c.args.clock tl) = rw (← now_is, ← c.explicit_moment.ensures) (simp to_z-of_z at c.unwrap_or-at.ensures) in
     let late : int_lt (now_of c.args.clock tl) (moment_of c.args.request.now.ask (now_of c.args.clock tl)) ≡ true = rw (← at_is, ← now_is) (simp to_z-of_z at c.if-now-at.true) in
     without_change_leads c.without_change.result (reply.Fault 135) _ tl c.without_change.ensures.reply c.without_change.ensures.writing (step_late c.args.clock c.args.request.now tl late)
 
@@ -69,7 +69,7 @@ prepare_allowed-requires-clause-role_held g c honest =
     rw (c.in_ok-rule.ensures.same (honest, opened.1)) (role_is_held tl c.args.request.now.caller c.args.request.now.ask c.now_at-now.result free)
 
 pub returns-in-Denied-clause-moment : goal.returns-in-Denied-clause-moment
-returns-in-Denied-clause-moment g c = subst (λ (r : Reply). ShowsAsked c.args.request.now.ask r) (sym c.without_change-in-Denied.ensures.reply) tt
+returns-in-Denied-clause-moment g c = subst (λ (r : Reply). SheetHasRequestedMoment c.args.request.now.ask r) (sym c.without_change-in-Denied.ensures.reply) tt
 
 pub returns-in-Allowed-clause-moment : goal.returns-in-Allowed-clause-moment
 returns-in-Allowed-clause-moment g c =
@@ -79,9 +79,9 @@ returns-in-Allowed-clause-moment g c =
     let fit_at : FitsSigned w64 c.unwrap_or-at.result = search rules in
     let a = c.args.request.now.ask in
     let now_is : c.now_at-now.result ≡ now_after c.args.clock c.last.result = simp to_z-of_z at c.now_at-now.ensures in
-    let at_is : c.unwrap_or-at.result ≡ unwrap_or (at_of a) c.now_at-now.result = rw (← c.named_moment.ensures) (simp to_z-of_z at c.unwrap_or-at.ensures) in
+    let at_is : c.unwrap_or-at.result ≡ unwrap_or (at_of a) c.now_at-now.result = rw (← c.explicit_moment.ensures) (simp to_z-of_z at c.unwrap_or-at.ensures) in
     let is : IsMoment c.now_at-now.result = rw now_is (now_is_moment c.args.clock c.last.result c.last.ensures.moment) in
-    let Shown : Prepared → Type 0 = λ it. ShowsAt c.unwrap_or-at.result it.reply in
-    let Asked : Prepared → Type 0 = λ it. ShowsAsked a it.reply in
+    let Shown : Prepared → Type 0 = λ it. SheetHasMoment c.unwrap_or-at.result it.reply in
+    let Asked : Prepared → Type 0 = λ it. SheetHasRequestedMoment a it.reply in
     IfOk-weaker c.prepare_allowed.result Shown Asked (λ it h. shows_asked a c.unwrap_or-at.result c.now_at-now.result it.reply at_is is h)
     (simp to_z-of_z at c.prepare_allowed.ensures.moment)

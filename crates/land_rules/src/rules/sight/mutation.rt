@@ -16,7 +16,7 @@ use land_core::role::Role;
 pub(crate) fn verdict(at: &Register, caller: Caller, number: u64) -> Verdict
     ensures { result ≡ first_denial (mutation_rules at.now caller number) }
 {
-    if caller.role == Role::Citizen && !is_about_a_holding(at, caller.party, number) {
+    if caller.role == Role::Citizen && !names_held_unit(at, caller.party, number) {
         Verdict::Denied(14)
     } else if caller.role == Role::Bank && !has_lodged(at, caller.party, number) {
         Verdict::Denied(18)
@@ -33,7 +33,7 @@ pub(crate) fn verdict(at: &Register, caller: Caller, number: u64) -> Verdict
 
 /// Returns whether a mutation exists and refers to a unit in which a member of the circle of a party is a
 /// holder.
-fn is_about_a_holding(at: &Register, party: u64, number: u64) -> bool
+fn names_held_unit(at: &Register, party: u64, number: u64) -> bool
     ensures { result ≡ is_mutation_where (names_held_by at.now (circle_of at.now party)) at.now number }
 {
     at.mutations

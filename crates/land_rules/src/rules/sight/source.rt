@@ -1,6 +1,6 @@
 //! The sight rules on sources: 26 and 27.
 ghost use Rattle.std.specs.Prelude.{◌≡◌};
-ghost use Rattle.land_rules.specs.Rules.{first_denial, is_told_sources, source_rules};
+ghost use Rattle.land_rules.specs.Rules.{first_denial, sees_sources, source_rules};
 
 use crate::verdict::Verdict;
 use land_core::caller::Caller;
@@ -12,7 +12,7 @@ use land_core::role::Role;
 pub(crate) fn verdict(at: &Register, caller: Caller, number: u64) -> Verdict
     ensures { result ≡ first_denial (source_rules at.now caller number) }
 {
-    if !is_told_sources(caller) {
+    if !sees_sources(caller) {
         Verdict::Denied(26)
     } else if !at.stands(Kind::Source, number) {
         Verdict::Denied(27)
@@ -22,8 +22,8 @@ pub(crate) fn verdict(at: &Register, caller: Caller, number: u64) -> Verdict
 }
 
 /// Returns whether the caller's role sees sources.
-fn is_told_sources(caller: Caller) -> bool
-    ensures { result ≡ is_told_sources caller }
+fn sees_sources(caller: Caller) -> bool
+    ensures { result ≡ sees_sources caller }
 {
     caller.role == Role::Notary || caller.role == Role::StateAdministrator
 }

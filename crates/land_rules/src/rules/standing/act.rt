@@ -1,8 +1,8 @@
 //! Standing rules on acts, by the register now: 4 to 10, 28 and 29.
 ghost use Rattle.std.specs.Prelude.{◌≡◌};
 ghost use Rattle.land_rules.specs.Acts.{decides, is_between_others, is_discharge_of_another, is_mortgage_of};
-ghost use Rattle.land_rules.specs.Acts.{is_mortgage_of_another, is_of_a_mortgage, is_of_mandates};
-ghost use Rattle.land_rules.specs.Acts.{is_of_mortgages, is_of_outlines, is_of_transfers, is_office_act};
+ghost use Rattle.land_rules.specs.Acts.{is_mortgage_of_another, changes_mortgages, is_mandate_act};
+ghost use Rattle.land_rules.specs.Acts.{may_lodge_mortgages, changes_outlines, may_lodge_transfers, is_office_act};
 ghost use Rattle.land_rules.specs.Acts.{is_transfer, lodges, withdraws};
 ghost use Rattle.land_rules.specs.Relations.{has_lodged, is_rrr_where};
 ghost use Rattle.land_rules.specs.Rules.{first_denial, act_rules};
@@ -22,11 +22,11 @@ pub(crate) fn verdict(now: &Register, caller: Caller, act: &Act) -> Verdict
 {
     if is_office_act(act) && caller.role != Role::StateAdministrator {
         Verdict::Denied(4)
-    } else if lodges_transfer(act) && !is_of_transfers(caller) {
+    } else if lodges_transfer(act) && !may_lodge_transfers(caller) {
         Verdict::Denied(5)
-    } else if lodges_outlines(act) && caller.role != Role::CertifiedSurveyor {
+    } else if lodges_outline_change(act) && caller.role != Role::CertifiedSurveyor {
         Verdict::Denied(6)
-    } else if lodges_of_a_mortgage(act) && !is_of_mortgages(caller) {
+    } else if lodges_mortgage_change(act) && !may_lodge_mortgages(caller) {
         Verdict::Denied(7)
     } else if caller.role == Role::Bank && lodges_mortgage_of_another(caller.party, act) {
         Verdict::Denied(8)
@@ -34,7 +34,7 @@ pub(crate) fn verdict(now: &Register, caller: Caller, act: &Act) -> Verdict
         Verdict::Denied(9)
     } else if decides_own(now, caller.party, act) {
         Verdict::Denied(10)
-    } else if is_of_mandates(act) && caller.role != Role::Citizen {
+    } else if is_mandate_act(act) && caller.role != Role::Citizen {
         Verdict::Denied(28)
     } else if withdraws_between_others(caller.party, act) {
         Verdict::Denied(29)
@@ -62,8 +62,8 @@ fn is_office_act(act: &Act) -> bool
 }
 
 /// Returns whether an act gives or withdraws a mandate.
-fn is_of_mandates(act: &Act) -> bool
-    ensures { result ≡ is_of_mandates act.now }
+fn is_mandate_act(act: &Act) -> bool
+    ensures { result ≡ is_mandate_act act.now }
 {
     matches!(act, Act::Mandate(_) | Act::Withdraw(_))
 }
@@ -85,15 +85,15 @@ fn is_between_others(party: u64, mandate: Mandate) -> bool
 }
 
 /// Returns whether the caller's role may lodge transfers.
-fn is_of_transfers(caller: Caller) -> bool
-    ensures { result ≡ is_of_transfers caller }
+fn may_lodge_transfers(caller: Caller) -> bool
+    ensures { result ≡ may_lodge_transfers caller }
 {
     caller.role == Role::Conveyancer || caller.role == Role::Notary
 }
 
 /// Returns whether the caller's role may lodge mortgages and discharges.
-fn is_of_mortgages(caller: Caller) -> bool
-    ensures { result ≡ is_of_mortgages caller }
+fn may_lodge_mortgages(caller: Caller) -> bool
+    ensures { result ≡ may_lodge_mortgages caller }
 {
     caller.role == Role::Bank || caller.role == Role::Notary
 }
@@ -119,18 +119,18 @@ fn is_transfer(content: &Content) -> bool
     }
 }
 
-fn lodges_outlines(act: &Act) -> bool
-    ensures { result ≡ lodges is_of_outlines act.now }
+fn lodges_outline_change(act: &Act) -> bool
+    ensures { result ≡ lodges changes_outlines act.now }
 {
     match act {
-        Act::Lodge(it) => is_of_outlines(&it.content),
+        Act::Lodge(it) => changes_outlines(&it.content),
         _ => false,
     }
 }
 
 /// Returns whether a content is a subdivision or a merger.
-fn is_of_outlines(content: &Content) -> bool
-    ensures { result ≡ is_of_outlines content.now }
+fn changes_outlines(content: &Content) -> bool
+    ensures { result ≡ changes_outlines content.now }
 {
     match content {
         Content::Subdivision(_) | Content::Merger(_) => true,
@@ -138,18 +138,18 @@ fn is_of_outlines(content: &Content) -> bool
     }
 }
 
-fn lodges_of_a_mortgage(act: &Act) -> bool
-    ensures { result ≡ lodges is_of_a_mortgage act.now }
+fn lodges_mortgage_change(act: &Act) -> bool
+    ensures { result ≡ lodges changes_mortgages act.now }
 {
     match act {
-        Act::Lodge(it) => is_of_a_mortgage(&it.content),
+        Act::Lodge(it) => changes_mortgages(&it.content),
         _ => false,
     }
 }
 
 /// Returns whether a content creates or ends a mortgage.
-fn is_of_a_mortgage(content: &Content) -> bool
-    ensures { result ≡ is_of_a_mortgage content.now }
+fn changes_mortgages(content: &Content) -> bool
+    ensures { result ≡ changes_mortgages content.now }
 {
     match content {
         Content::Mortgage(_) | Content::Discharge(_) => true,

@@ -1,7 +1,7 @@
 use Rattle.std.proofs.Common.{◌≡◌, ◌++◌, ◌∷◌, [], ap, sym, ◌∙◌, arith, false, Option, Bool, subst}
 use Rattle.std.proofs.lemmas.Grind.{common_steps}
 use Rattle.std.specs.Option.{option_to_list}
-use Rattle.land_shape.specs.Faults.{SomeOf, IsLong}
+use Rattle.land_shape.specs.Faults.{SomeOf, HasManyWords}
 use Rattle.land_shape.specs.Grammar.{Rings, Points, body, IsBody}
 use Rattle.land_shape.specs.Reader.{written}
 use Rattle.land_shape.specs.Steps.{IsFull}
@@ -18,4 +18,4 @@ returns c =
     let is : written c.args.polygon ≡ body false (ring ∷ []) = ap written c.in-Body.is ∙ ap (λ (rs : Rings). body c.in-Body.tagged rs) only
     ∙ ap (λ (t : Bool). body t (ring ∷ [])) c.if-tagged.false in
     let full : IsBody (ring ∷ []) = subst IsFull is c.requires in
-    (is, two_words_each ring full.1.0.1 (λ h. not_both (c.has_long_point.ensures.1 (subst (SomeOf IsLong) (sym c.points.ensures) h)) c.if-has_long_point.false))
+    (is, two_words_each ring full.1.0.1 (λ h. not_both (c.has_long_point.ensures.1 (subst (SomeOf HasManyWords) (sym c.points.ensures) h)) c.if-has_long_point.false))

@@ -1,7 +1,7 @@
 use Rattle.std.proofs.Common.{◌≡◌, false, ◌-◌, ◌∙◌, length, take, drop, ap, sym, subst, List}
 use Rattle.land_shape.specs.Place.{Place}
 use Rattle.land_shape.specs.Simple.{place_of, places}
-use Rattle.land_shape.specs.Walks.{is_before, walk, Rises}
+use Rattle.land_shape.specs.Walks.{is_before, walk, IsAscendingBy}
 use Rattle.std.specs.List.{AllByRecursion}
 use Rattle.land_shape.proofs.NearLemmas.{rest_places, rises_rest, taken_places, near}
 use Rattle.land_shape.proofs.Order.{before_of}
@@ -10,7 +10,7 @@ use Rattle.land_shape.proofs.walking.corners_near.Goals as goal
 pub count_before-end-requires : goal.count_before-end-requires
 count_before-end-requires c =
     let s = c.count_before-start.result in
-    subst (λ (ps : List Place). Rises is_before ps) (sym (rest_places c.args.corners.now s)) (rises_rest is_before s (places c.args.corners.now) c.requires.rise)
+    subst (λ (ps : List Place). IsAscendingBy is_before ps) (sym (rest_places c.args.corners.now s)) (rises_rest is_before s (places c.args.corners.now) c.requires.rise)
 
 pub returns : goal.returns
 returns c =

@@ -23,5 +23,5 @@ returns-clause-safe g c =
     let u : to_z w64 (of_z w64 c.min.result) ≡ c.min.result = search rules in
     let a = state g.S.Store c.args.conn.now in
     let safe = subst (λ (x : ℤ). IsSafeRead c.read_at.result (ReadsAt a.now.trees x) a (state g.S.Store c.read_at.new.conn)) u c.read_at.ensures.safe in
-    read_register c.versions_stand_for_one.ensures c.order_does_not_matter.ensures c.reading_is_the_register.ensures a (state g.S.Store c.read_at.new.conn) c.args.at c.min.result c.requires
+    read_register c.histories_represent_one_timeline.ensures c.order_does_not_matter.ensures c.reading_is_the_register.ensures a (state g.S.Store c.read_at.new.conn) c.args.at c.min.result c.requires
     (read_moment c.args.at c.min.result le least) c.read_at.result safe

@@ -1,7 +1,7 @@
 use Rattle.std.proofs.Common.{◌≡◌, ◌↔◌, ◌++◌, ◌∙◌, Bool, true, ap₂}
 use Rattle.std.proofs.lemmas.Result.{IfOk-weaker}
 use Rattle.land_core.specs.Soundness.{has_broken_group}
-use Rattle.land_tables_lawful.specs.Memberships.{are_joined_soundly, groups_lived, members_lived, memberships_in}
+use Rattle.land_tables_lawful.specs.Memberships.{are_members_sound, group_live_spans, member_live_spans, memberships_in}
 use Rattle.land_tables_lawful.specs.Never.{Never}
 use Rattle.land_tables_lawful.proofs.Together.{answered}
 use Rattle.land_tables_lawful.proofs.WholeGroups.{groups_are_whole}
@@ -12,8 +12,8 @@ pub returns : goal.returns
 returns c =
     let h = c.args.history.now in
     let moments = c.args.moments.now in
-    let made = c.in_ok-lived.lived.items in
+    let made = c.in_ok-live_spans.live_spans.items in
     let all : made ≡ memberships_in h =
-    c.in_ok-lived.ensures ∙ ap₂ (λ ps ms. groups_lived ps ++ members_lived ms) c.as_slice.ensures c.as_slice-2.ensures in
-    IfOk-weaker c.are_sound.result (λ (b : Bool). (b ≡ true) ↔ AreSound are_joined_soundly made) (λ (b : Bool). (b ≡ true) ↔ Never has_broken_group moments h)
-    (λ b. answered are_joined_soundly made (memberships_in h) all (groups_are_whole moments h c.requires.intervals c.requires.in_time) b) c.are_sound.ensures
+    c.in_ok-live_spans.ensures ∙ ap₂ (λ ps ms. group_live_spans ps ++ member_live_spans ms) c.as_slice.ensures c.as_slice-2.ensures in
+    IfOk-weaker c.are_sound.result (λ (b : Bool). (b ≡ true) ↔ AreSound are_members_sound made) (λ (b : Bool). (b ≡ true) ↔ Never has_broken_group moments h)
+    (λ b. answered are_members_sound made (memberships_in h) all (groups_are_whole moments h c.requires.intervals c.requires.in_time) b) c.are_sound.ensures

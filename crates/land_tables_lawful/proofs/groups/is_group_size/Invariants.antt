@@ -1,10 +1,10 @@
 use Rattle.std.proofs.Common.{◌≡◌, ◌+◌, ◌≤◌, length, drop}
-use Rattle.land_tables_lawful.specs.Lived.{what_stands}
+use Rattle.land_tables_lawful.specs.LiveSpan.{span_values}
 use Rattle.land_tables_lawful.specs.Memberships.{member_shares}
 use Rattle.land_tables_lawful.proofs.groups.is_group_size.Given as goal
 
 -- the members of the prefix and the remaining ones are all; the prefix has at most 64
 abbrev pub invariant-loop-one : goal.invariant-loop-one
 invariant-loop-one l =
-    (l.members + length (member_shares (what_stands (drop l.one-index l.there))) ≡ length (member_shares (what_stands l.there)))
+    (l.members + length (member_shares (span_values (drop l.one-index l.there))) ≡ length (member_shares (span_values l.there)))
     × (l.members ≤ 64)

@@ -9,8 +9,8 @@ loop-mutation-preserved c =
     let mutation = c.mutation-item.result in
     let later = drop (c.loop-mutation.mutation-index + 1) c.args.mutations.now in
     let to_come : drop c.loop-mutation.mutation-index c.args.mutations.now ≡ mutation ∷ later = grind (arith, common_steps) in
-    ap (λ l. l ++ flat_map (paired c.args.asked named_pairs) later) c.in_ok-add_mutation.ensures
-    ∙ append_assoc c.loop-mutation.pieces.items (paired c.args.asked named_pairs mutation)
-    (flat_map (paired c.args.asked named_pairs) later)
-    ∙ ap (λ l. c.loop-mutation.pieces.items ++ flat_map (paired c.args.asked named_pairs) l) (sym to_come)
+    ap (λ l. l ++ flat_map (paired c.args.required named_pairs) later) c.in_ok-add_mutation.ensures
+    ∙ append_assoc c.loop-mutation.coverage_spans.items (paired c.args.required named_pairs mutation)
+    (flat_map (paired c.args.required named_pairs) later)
+    ∙ ap (λ l. c.loop-mutation.coverage_spans.items ++ flat_map (paired c.args.required named_pairs) l) (sym to_come)
     ∙ c.loop-mutation.invariant

@@ -6,5 +6,5 @@ use Rattle.land_tables_lawful.proofs.namings.add_mutations.Given as goal
 -- the spans added, and then the remaining ones
 abbrev pub invariant-loop-mutation : goal.invariant-loop-mutation
 invariant-loop-mutation l =
-    l.pieces.items ++ flat_map (paired l.asked named_pairs) (drop l.mutation-index l.mutations)
-    ≡ l.fn.pieces.items ++ flat_map (paired l.asked named_pairs) l.mutations
+    l.coverage_spans.items ++ flat_map (paired l.required named_pairs) (drop l.mutation-index l.mutations)
+    ≡ l.fn.coverage_spans.items ++ flat_map (paired l.required named_pairs) l.mutations

@@ -6,5 +6,5 @@ use Rattle.land_tables_lawful.proofs.namings.add_namings.Given as goal
 -- the spans added, and then the remaining ones
 abbrev pub invariant-loop-naming : goal.invariant-loop-naming
 invariant-loop-naming l =
-    l.pieces.items ++ flat_map (paired l.asked naming_pair) (drop l.naming-index l.namings)
-    ≡ l.fn.pieces.items ++ flat_map (paired l.asked naming_pair) l.namings
+    l.coverage_spans.items ++ flat_map (paired l.required naming_pair) (drop l.naming-index l.namings)
+    ≡ l.fn.coverage_spans.items ++ flat_map (paired l.required naming_pair) l.namings

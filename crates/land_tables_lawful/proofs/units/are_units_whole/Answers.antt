@@ -1,7 +1,7 @@
 use Rattle.std.proofs.Common.{◌≡◌, ◌↔◌, ◌++◌, ◌∙◌, Bool, true, ap, ap₂}
 use Rattle.std.proofs.lemmas.Result.{IfOk-weaker}
-use Rattle.land_core.specs.Soundness.{has_crowded_unit, has_unit_in_parts}
-use Rattle.land_tables_lawful.specs.Holdings.{are_sound_together, entries_lived, holdings_in, parcels_lived, units_lived}
+use Rattle.land_core.specs.Soundness.{has_crowded_unit, has_unit_without_whole_shares}
+use Rattle.land_tables_lawful.specs.Holdings.{is_unit_sound, entry_spans, holdings_in, parcel_spans, unit_spans}
 use Rattle.land_tables_lawful.specs.Never.{Never}
 use Rattle.land_tables_lawful.proofs.Together.{answered}
 use Rattle.land_tables_lawful.proofs.WholeUnits.{units_are_whole}
@@ -12,10 +12,10 @@ pub returns : goal.returns
 returns c =
     let h = c.args.history.now in
     let moments = c.args.moments.now in
-    let made = c.in_ok-lived.lived.items in
+    let made = c.in_ok-live_spans.live_spans.items in
     let both : made ≡ holdings_in h =
-    c.in_ok-lived.ensures
-    ∙ ap₂ (λ a b. a ++ b) (ap₂ (λ us ps. units_lived us ++ parcels_lived ps) c.as_slice.ensures c.as_slice-2.ensures) (ap entries_lived c.as_slice-3.ensures) in
-    IfOk-weaker c.are_sound.result (λ (b : Bool). (b ≡ true) ↔ AreSound are_sound_together made)
-    (λ (b : Bool). (b ≡ true) ↔ (Never has_unit_in_parts moments h × Never has_crowded_unit moments h))
-    (λ b. answered are_sound_together made (holdings_in h) both (units_are_whole moments h c.requires.intervals c.requires.in_time) b) c.are_sound.ensures
+    c.in_ok-live_spans.ensures
+    ∙ ap₂ (λ a b. a ++ b) (ap₂ (λ us ps. unit_spans us ++ parcel_spans ps) c.as_slice.ensures c.as_slice-2.ensures) (ap entry_spans c.as_slice-3.ensures) in
+    IfOk-weaker c.are_sound.result (λ (b : Bool). (b ≡ true) ↔ AreSound is_unit_sound made)
+    (λ (b : Bool). (b ≡ true) ↔ (Never has_unit_without_whole_shares moments h × Never has_crowded_unit moments h))
+    (λ b. answered is_unit_sound made (holdings_in h) both (units_are_whole moments h c.requires.intervals c.requires.in_time) b) c.are_sound.ensures

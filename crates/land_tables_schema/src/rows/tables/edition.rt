@@ -1,10 +1,10 @@
 //! The row of `edition`.
 ghost use Rattle.land_tables_schema.specs.Connections.{HasRegisterTables, HasV1Tables, InTransaction};
 ghost use Rattle.land_tables_schema.specs.Connections.{LeavesAutocommit, ReadsOnly, SameReference};
-ghost use Rattle.land_tables_schema.specs.Rows.Edition.{current_edition, edition_row, first_edition};
+ghost use Rattle.land_tables_schema.specs.Rows.Edition.{v2_edition, edition_row, v1_edition};
 ghost use Rattle.land_tables_schema.specs.Rows.Forms.{Appends};
-ghost use Rattle.land_tables_schema.specs.Rows.Looks.{AreAllNumbered};
-ghost use Rattle.land_tables_schema.specs.Rows.Raising.{Rewrites};
+ghost use Rattle.land_tables_schema.specs.Rows.ReadQueries.{AreAllNumbered};
+ghost use Rattle.land_tables_schema.specs.Rows.SchemaMigration.{Rewrites};
 ghost use Rattle.land_tables_schema.specs.Tables as table;
 ghost use Rattle.sqlite.specs.Held.{state};
 
@@ -24,7 +24,7 @@ pub fn insert<S: Alter>(tx: &mut Transaction<'_, S>) -> Result<usize, Error>
     requires { HasRegisterTables S.Store tx.old.conn.now }
     ensures same_reference { SameReference tx.old tx.new }
     ensures step { InTransaction S.Store result
-        (Appends table.edition edition_row current_edition) tx.old tx.new }
+        (Appends table.edition edition_row v2_edition) tx.old tx.new }
 {
     tx.execute(INSERT, &[])
 }
@@ -33,7 +33,7 @@ pub fn insert<S: Alter>(tx: &mut Transaction<'_, S>) -> Result<usize, Error>
 pub fn raise<S: Alter>(tx: &mut Transaction<'_, S>) -> Result<usize, Error>
     requires { HasRegisterTables S.Store tx.old.conn.now }
     ensures same_reference { SameReference tx.old tx.new }
-    ensures step { InTransaction S.Store result (Rewrites first_edition current_edition) tx.old tx.new }
+    ensures step { InTransaction S.Store result (Rewrites v1_edition v2_edition) tx.old tx.new }
 {
     tx.execute(RAISE, &[])
 }
@@ -41,9 +41,9 @@ pub fn raise<S: Alter>(tx: &mut Transaction<'_, S>) -> Result<usize, Error>
 /// Returns all rows, in unspecified order.
 pub fn all<S: Alter>(conn: &mut Connection<S>) -> Result<Vec<Row>, Error>
     requires { HasV1Tables S.Store conn.old }
-    ensures look { ReadsOnly S.Store result (λ rows. AreAllNumbered table.edition
+    ensures reads_only { ReadsOnly S.Store result (λ rows. AreAllNumbered table.edition
         (state S.Store conn.old).now.trees rows.items) conn.old conn.new }
-    ensures mode { LeavesAutocommit conn.old conn.new }
+    ensures autocommit { LeavesAutocommit conn.old conn.new }
 {
     conn.query_all(ALL, &[])
 }

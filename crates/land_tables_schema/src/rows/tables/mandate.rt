@@ -2,10 +2,10 @@
 ghost use Rattle.std.specs.Prelude.{◌<◌, ◌^◌};
 ghost use Rattle.land_tables_schema.specs.Connections.{HasRegisterTables, InTransaction, LeavesAutocommit};
 ghost use Rattle.land_tables_schema.specs.Connections.{ReadsOnly, SameReference};
-ghost use Rattle.land_tables_schema.specs.Rows.Forms.{Adds, Turns};
-ghost use Rattle.land_tables_schema.specs.Rows.Looks.{AreAll};
+ghost use Rattle.land_tables_schema.specs.Rows.Forms.{InsertsVersion, UpdatesRows};
+ghost use Rattle.land_tables_schema.specs.Rows.ReadQueries.{AreAll};
 ghost use Rattle.land_tables_schema.specs.Rows.Mandate.{is_mandate, mandates};
-ghost use Rattle.land_tables_schema.specs.Rows.Versions.{begun, closed};
+ghost use Rattle.land_tables_schema.specs.Rows.Versions.{opened_version, closed_version};
 ghost use Rattle.land_tables_schema.specs.Tables as table;
 ghost use Rattle.sqlite.specs.Held.{state};
 
@@ -32,10 +32,10 @@ pub fn begin<S: Alter>(
 ) -> Result<usize, Error>
     requires principal_fits { principal < 2 ^ 63 }
     requires agent_fits { agent < 2 ^ 63 }
-    requires land { HasRegisterTables S.Store tx.old.conn.now }
+    requires has_tables { HasRegisterTables S.Store tx.old.conn.now }
     ensures same_reference { SameReference tx.old tx.new }
     ensures step { InTransaction S.Store result
-        (Adds mandates (begun (record { principal = principal; agent = agent }) since)) tx.old tx.new }
+        (InsertsVersion mandates (opened_version (record { principal = principal; agent = agent }) since)) tx.old tx.new }
 {
     tx.execute(
         BEGIN,
@@ -52,10 +52,10 @@ pub fn close<S: Alter>(
 ) -> Result<usize, Error>
     requires principal_fits { principal < 2 ^ 63 }
     requires agent_fits { agent < 2 ^ 63 }
-    requires land { HasRegisterTables S.Store tx.old.conn.now }
+    requires has_tables { HasRegisterTables S.Store tx.old.conn.now }
     ensures same_reference { SameReference tx.old tx.new }
     ensures step { InTransaction S.Store result
-        (Turns mandates (closed (is_mandate principal agent) stamp)) tx.old tx.new }
+        (UpdatesRows mandates (closed_version (is_mandate principal agent) stamp)) tx.old tx.new }
 {
     tx.execute(
         CLOSE,
@@ -66,9 +66,9 @@ pub fn close<S: Alter>(
 /// Returns all versions, each as the cells of its row with its lifespan, in unspecified order.
 pub fn all<S: Alter>(conn: &mut Connection<S>) -> Result<Vec<Row>, Error>
     requires { HasRegisterTables S.Store conn.old }
-    ensures look { ReadsOnly S.Store result
+    ensures reads_only { ReadsOnly S.Store result
         (λ rows. AreAll table.mandate 2 (state S.Store conn.old).now.trees rows.items) conn.old conn.new }
-    ensures mode { LeavesAutocommit conn.old conn.new }
+    ensures autocommit { LeavesAutocommit conn.old conn.new }
 {
     conn.query_all(ALL, &[])
 }

@@ -2,10 +2,10 @@
 ghost use Rattle.std.specs.Prelude.{◌<◌, ◌^◌};
 ghost use Rattle.land_tables_schema.specs.Connections.{HasRegisterTables, HasV1Tables, InTransaction};
 ghost use Rattle.land_tables_schema.specs.Connections.{LeavesAutocommit, ReadsOnly, SameReference};
-ghost use Rattle.land_tables_schema.specs.Rows.Forms.{Adds, Turns};
-ghost use Rattle.land_tables_schema.specs.Rows.Looks.{AreAll};
+ghost use Rattle.land_tables_schema.specs.Rows.Forms.{InsertsVersion, UpdatesRows};
+ghost use Rattle.land_tables_schema.specs.Rows.ReadQueries.{AreAll};
 ghost use Rattle.land_tables_schema.specs.Rows.Member.{is_member_of, members};
-ghost use Rattle.land_tables_schema.specs.Rows.Versions.{begun, closed};
+ghost use Rattle.land_tables_schema.specs.Rows.Versions.{opened_version, closed_version};
 ghost use Rattle.land_tables_schema.specs.Tables as table;
 ghost use Rattle.sqlite.specs.Held.{state};
 
@@ -35,10 +35,10 @@ pub fn begin<S: Alter>(
     requires party_fits { party < 2 ^ 63 }
     requires num_fits { num < 2 ^ 63 }
     requires den_fits { den < 2 ^ 63 }
-    requires land { HasRegisterTables S.Store tx.old.conn.now }
+    requires has_tables { HasRegisterTables S.Store tx.old.conn.now }
     ensures same_reference { SameReference tx.old tx.new }
-    ensures step { InTransaction S.Store result (Adds members
-        (begun (record { grp = grp; party = party; num = num; den = den }) since)) tx.old tx.new }
+    ensures step { InTransaction S.Store result (InsertsVersion members
+        (opened_version (record { grp = grp; party = party; num = num; den = den }) since)) tx.old tx.new }
 {
     tx.execute(
         BEGIN,
@@ -55,10 +55,10 @@ pub fn begin<S: Alter>(
 /// Closes the current versions of all members of a group.
 pub fn close<S: Alter>(tx: &mut Transaction<'_, S>, grp: u64, stamp: i64) -> Result<usize, Error>
     requires grp_fits { grp < 2 ^ 63 }
-    requires land { HasRegisterTables S.Store tx.old.conn.now }
+    requires has_tables { HasRegisterTables S.Store tx.old.conn.now }
     ensures same_reference { SameReference tx.old tx.new }
     ensures step { InTransaction S.Store result
-        (Turns members (closed (is_member_of grp) stamp)) tx.old tx.new }
+        (UpdatesRows members (closed_version (is_member_of grp) stamp)) tx.old tx.new }
 {
     tx.execute(CLOSE, &[of_number(grp), of_moment(stamp)])
 }
@@ -66,9 +66,9 @@ pub fn close<S: Alter>(tx: &mut Transaction<'_, S>, grp: u64, stamp: i64) -> Res
 /// Returns all versions, each as the cells of its row with its lifespan, in unspecified order.
 pub fn all<S: Alter>(conn: &mut Connection<S>) -> Result<Vec<Row>, Error>
     requires { HasV1Tables S.Store conn.old }
-    ensures look { ReadsOnly S.Store result
+    ensures reads_only { ReadsOnly S.Store result
         (λ rows. AreAll table.member 4 (state S.Store conn.old).now.trees rows.items) conn.old conn.new }
-    ensures mode { LeavesAutocommit conn.old conn.new }
+    ensures autocommit { LeavesAutocommit conn.old conn.new }
 {
     conn.query_all(ALL, &[])
 }

@@ -3,10 +3,10 @@
 ghost use Rattle.std.specs.Prelude.{◌<◌, ◌^◌};
 ghost use Rattle.land_tables_schema.specs.Connections.{HasRegisterTables, HasV1Tables, InTransaction};
 ghost use Rattle.land_tables_schema.specs.Connections.{LeavesAutocommit, ReadsOnly, SameReference};
-ghost use Rattle.land_tables_schema.specs.Rows.Forms.{Adds};
-ghost use Rattle.land_tables_schema.specs.Rows.Looks.{AreAll};
+ghost use Rattle.land_tables_schema.specs.Rows.Forms.{InsertsVersion};
+ghost use Rattle.land_tables_schema.specs.Rows.ReadQueries.{AreAll};
 ghost use Rattle.land_tables_schema.specs.Rows.Names.{namings};
-ghost use Rattle.land_tables_schema.specs.Rows.Versions.{begun};
+ghost use Rattle.land_tables_schema.specs.Rows.Versions.{opened_version};
 ghost use Rattle.land_tables_schema.specs.Tables as table;
 ghost use Rattle.sqlite.specs.Held.{state};
 
@@ -29,10 +29,10 @@ pub fn begin<S: Alter>(
 ) -> Result<usize, Error>
     requires mutation_fits { mutation < 2 ^ 63 }
     requires unit_fits { unit < 2 ^ 63 }
-    requires land { HasRegisterTables S.Store tx.old.conn.now }
+    requires has_tables { HasRegisterTables S.Store tx.old.conn.now }
     ensures same_reference { SameReference tx.old tx.new }
     ensures step { InTransaction S.Store result
-        (Adds namings (begun (record { mutation = mutation; unit = unit }) since)) tx.old tx.new }
+        (InsertsVersion namings (opened_version (record { mutation = mutation; unit = unit }) since)) tx.old tx.new }
 {
     tx.execute(
         BEGIN,
@@ -43,9 +43,9 @@ pub fn begin<S: Alter>(
 /// Returns all versions, each as the cells of its row with its lifespan, in unspecified order.
 pub fn all<S: Alter>(conn: &mut Connection<S>) -> Result<Vec<Row>, Error>
     requires { HasV1Tables S.Store conn.old }
-    ensures look { ReadsOnly S.Store result
+    ensures reads_only { ReadsOnly S.Store result
         (λ rows. AreAll table.names 2 (state S.Store conn.old).now.trees rows.items) conn.old conn.new }
-    ensures mode { LeavesAutocommit conn.old conn.new }
+    ensures autocommit { LeavesAutocommit conn.old conn.new }
 {
     conn.query_all(ALL, &[])
 }

@@ -2,10 +2,10 @@
 ghost use Rattle.std.specs.Prelude.{◌<◌, ◌^◌};
 ghost use Rattle.land_tables_schema.specs.Connections.{HasRegisterTables, HasV1Tables, InTransaction};
 ghost use Rattle.land_tables_schema.specs.Connections.{LeavesAutocommit, ReadsOnly, SameReference};
-ghost use Rattle.land_tables_schema.specs.Rows.Forms.{Adds, Turns};
-ghost use Rattle.land_tables_schema.specs.Rows.Looks.{AreAll};
+ghost use Rattle.land_tables_schema.specs.Rows.Forms.{InsertsVersion, UpdatesRows};
+ghost use Rattle.land_tables_schema.specs.Rows.ReadQueries.{AreAll};
 ghost use Rattle.land_tables_schema.specs.Rows.Parcel.{is_parcel, parcels};
-ghost use Rattle.land_tables_schema.specs.Rows.Versions.{begun, closed};
+ghost use Rattle.land_tables_schema.specs.Rows.Versions.{opened_version, closed_version};
 ghost use Rattle.land_tables_schema.specs.Tables as table;
 ghost use Rattle.sqlite.specs.Held.{state};
 
@@ -35,10 +35,10 @@ pub fn begin<S: Alter>(
     requires number_fits { number < 2 ^ 63 }
     requires unit_fits { unit < 2 ^ 63 }
     requires source_fits { source < 2 ^ 63 }
-    requires land { HasRegisterTables S.Store tx.old.conn.now }
+    requires has_tables { HasRegisterTables S.Store tx.old.conn.now }
     ensures same_reference { SameReference tx.old tx.new }
-    ensures step { InTransaction S.Store result (Adds parcels
-        (begun (record {
+    ensures step { InTransaction S.Store result (InsertsVersion parcels
+        (opened_version (record {
           number = number;
           unit = unit;
           label = label.now;
@@ -62,10 +62,10 @@ pub fn begin<S: Alter>(
 /// Closes the current version of a parcel.
 pub fn close<S: Alter>(tx: &mut Transaction<'_, S>, number: u64, stamp: i64) -> Result<usize, Error>
     requires number_fits { number < 2 ^ 63 }
-    requires land { HasRegisterTables S.Store tx.old.conn.now }
+    requires has_tables { HasRegisterTables S.Store tx.old.conn.now }
     ensures same_reference { SameReference tx.old tx.new }
     ensures step { InTransaction S.Store result
-        (Turns parcels (closed (is_parcel number) stamp)) tx.old tx.new }
+        (UpdatesRows parcels (closed_version (is_parcel number) stamp)) tx.old tx.new }
 {
     tx.execute(CLOSE, &[of_number(number), of_moment(stamp)])
 }
@@ -73,9 +73,9 @@ pub fn close<S: Alter>(tx: &mut Transaction<'_, S>, number: u64, stamp: i64) -> 
 /// Returns all versions, each as the cells of its row with its lifespan, in unspecified order.
 pub fn all<S: Alter>(conn: &mut Connection<S>) -> Result<Vec<Row>, Error>
     requires { HasV1Tables S.Store conn.old }
-    ensures look { ReadsOnly S.Store result
+    ensures reads_only { ReadsOnly S.Store result
         (λ rows. AreAll table.parcel 5 (state S.Store conn.old).now.trees rows.items) conn.old conn.new }
-    ensures mode { LeavesAutocommit conn.old conn.new }
+    ensures autocommit { LeavesAutocommit conn.old conn.new }
 {
     conn.query_all(ALL, &[])
 }

@@ -2,10 +2,10 @@
 ghost use Rattle.std.specs.Prelude.{◌<◌, ◌^◌};
 ghost use Rattle.land_tables_schema.specs.Connections.{HasRegisterTables, HasV1Tables, InTransaction};
 ghost use Rattle.land_tables_schema.specs.Connections.{LeavesAutocommit, ReadsOnly, SameReference};
-ghost use Rattle.land_tables_schema.specs.Rows.Forms.{Adds, Turns};
-ghost use Rattle.land_tables_schema.specs.Rows.Looks.{AreAll};
+ghost use Rattle.land_tables_schema.specs.Rows.Forms.{InsertsVersion, UpdatesRows};
+ghost use Rattle.land_tables_schema.specs.Rows.ReadQueries.{AreAll};
 ghost use Rattle.land_tables_schema.specs.Rows.Role.{is_grant, roles};
-ghost use Rattle.land_tables_schema.specs.Rows.Versions.{begun, closed};
+ghost use Rattle.land_tables_schema.specs.Rows.Versions.{opened_version, closed_version};
 ghost use Rattle.land_tables_schema.specs.Tables as table;
 ghost use Rattle.sqlite.specs.Held.{state};
 
@@ -31,10 +31,10 @@ pub fn begin<S: Alter>(
     since: i64,
 ) -> Result<usize, Error>
     requires party_fits { party < 2 ^ 63 }
-    requires land { HasRegisterTables S.Store tx.old.conn.now }
+    requires has_tables { HasRegisterTables S.Store tx.old.conn.now }
     ensures same_reference { SameReference tx.old tx.new }
     ensures step { InTransaction S.Store result
-        (Adds roles (begun (record { party = party; role = role.now }) since)) tx.old tx.new }
+        (InsertsVersion roles (opened_version (record { party = party; role = role.now }) since)) tx.old tx.new }
 {
     tx.execute(BEGIN, &[of_number(party), of_text(role), of_moment(since)])
 }
@@ -47,10 +47,10 @@ pub fn close<S: Alter>(
     stamp: i64,
 ) -> Result<usize, Error>
     requires party_fits { party < 2 ^ 63 }
-    requires land { HasRegisterTables S.Store tx.old.conn.now }
+    requires has_tables { HasRegisterTables S.Store tx.old.conn.now }
     ensures same_reference { SameReference tx.old tx.new }
     ensures step { InTransaction S.Store result
-        (Turns roles (closed (is_grant party role.now) stamp)) tx.old tx.new }
+        (UpdatesRows roles (closed_version (is_grant party role.now) stamp)) tx.old tx.new }
 {
     tx.execute(CLOSE, &[of_number(party), of_text(role), of_moment(stamp)])
 }
@@ -58,9 +58,9 @@ pub fn close<S: Alter>(
 /// Returns all versions, each as the cells of its row with its lifespan, in unspecified order.
 pub fn all<S: Alter>(conn: &mut Connection<S>) -> Result<Vec<Row>, Error>
     requires { HasV1Tables S.Store conn.old }
-    ensures look { ReadsOnly S.Store result
+    ensures reads_only { ReadsOnly S.Store result
         (λ rows. AreAll table.role 2 (state S.Store conn.old).now.trees rows.items) conn.old conn.new }
-    ensures mode { LeavesAutocommit conn.old conn.new }
+    ensures autocommit { LeavesAutocommit conn.old conn.new }
 {
     conn.query_all(ALL, &[])
 }

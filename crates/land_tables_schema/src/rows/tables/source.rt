@@ -2,10 +2,10 @@
 ghost use Rattle.std.specs.Prelude.{◌<◌, ◌^◌};
 ghost use Rattle.land_tables_schema.specs.Connections.{HasRegisterTables, HasV1Tables, InTransaction};
 ghost use Rattle.land_tables_schema.specs.Connections.{LeavesAutocommit, ReadsOnly, SameReference};
-ghost use Rattle.land_tables_schema.specs.Rows.Forms.{Adds, Turns};
-ghost use Rattle.land_tables_schema.specs.Rows.Looks.{AreAll};
+ghost use Rattle.land_tables_schema.specs.Rows.Forms.{InsertsVersion, UpdatesRows};
+ghost use Rattle.land_tables_schema.specs.Rows.ReadQueries.{AreAll};
 ghost use Rattle.land_tables_schema.specs.Rows.Source.{is_source, sources};
-ghost use Rattle.land_tables_schema.specs.Rows.Versions.{begun, closed};
+ghost use Rattle.land_tables_schema.specs.Rows.Versions.{opened_version, closed_version};
 ghost use Rattle.land_tables_schema.specs.Tables as table;
 ghost use Rattle.sqlite.specs.Held.{state};
 
@@ -31,10 +31,10 @@ pub fn begin<S: Alter>(
     since: i64,
 ) -> Result<usize, Error>
     requires number_fits { number < 2 ^ 63 }
-    requires land { HasRegisterTables S.Store tx.old.conn.now }
+    requires has_tables { HasRegisterTables S.Store tx.old.conn.now }
     ensures same_reference { SameReference tx.old tx.new }
-    ensures step { InTransaction S.Store result (Adds sources
-        (begun (record { number = number; kind = kind.now; title = title.now }) since)) tx.old tx.new }
+    ensures step { InTransaction S.Store result (InsertsVersion sources
+        (opened_version (record { number = number; kind = kind.now; title = title.now }) since)) tx.old tx.new }
 {
     tx.execute(
         BEGIN,
@@ -50,10 +50,10 @@ pub fn begin<S: Alter>(
 /// Closes the current version of a source.
 pub fn close<S: Alter>(tx: &mut Transaction<'_, S>, number: u64, stamp: i64) -> Result<usize, Error>
     requires number_fits { number < 2 ^ 63 }
-    requires land { HasRegisterTables S.Store tx.old.conn.now }
+    requires has_tables { HasRegisterTables S.Store tx.old.conn.now }
     ensures same_reference { SameReference tx.old tx.new }
     ensures step { InTransaction S.Store result
-        (Turns sources (closed (is_source number) stamp)) tx.old tx.new }
+        (UpdatesRows sources (closed_version (is_source number) stamp)) tx.old tx.new }
 {
     tx.execute(CLOSE, &[of_number(number), of_moment(stamp)])
 }
@@ -61,9 +61,9 @@ pub fn close<S: Alter>(tx: &mut Transaction<'_, S>, number: u64, stamp: i64) -> 
 /// Returns all versions, each as the cells of its row with its lifespan, in unspecified order.
 pub fn all<S: Alter>(conn: &mut Connection<S>) -> Result<Vec<Row>, Error>
     requires { HasV1Tables S.Store conn.old }
-    ensures look { ReadsOnly S.Store result
+    ensures reads_only { ReadsOnly S.Store result
         (λ rows. AreAll table.source 3 (state S.Store conn.old).now.trees rows.items) conn.old conn.new }
-    ensures mode { LeavesAutocommit conn.old conn.new }
+    ensures autocommit { LeavesAutocommit conn.old conn.new }
 {
     conn.query_all(ALL, &[])
 }

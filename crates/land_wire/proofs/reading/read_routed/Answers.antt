@@ -12,4 +12,4 @@ returns-clause-well_formed c =
 pub returns-clause-moment : goal.returns-clause-moment
 returns-clause-moment c =
     let reads = rw (c.as_bytes.ensures.value, c.split_target.ensures.path, c.split_target.ensures.query) at c.read_parts.ensures in
-    of_given _ _ _ reads (c.stated_moments_are_moments.ensures.requests c.args.method.now c.args.target.now c.args.caller c.args.body.now)
+    of_given _ _ _ reads (c.stated_moments_are_valid.ensures.requests c.args.method.now c.args.target.now c.args.caller c.args.body.now)

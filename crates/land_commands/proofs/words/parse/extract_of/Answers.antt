@@ -1,6 +1,6 @@
 use Rattle.std.proofs.Common.{◌≡◌, ap, arith, refl, ℕ, ℤ, pos, List, [], ◌∷◌, Option, Some, None, codes, option_map, rules}
 use Rattle.clap.specs.Words.{Row, Text}
-use Rattle.land_commands.specs.Words.Names.{HasOptions, IsCallerOf, IsNumberOf, IsOrderOf}
+use Rattle.land_commands.specs.Words.Names.{HasOptions, IsCallerOption, IsOptionNumber, HasOptionsOf}
 use Rattle.land_commands.specs.Words.PlainCommands.{to_talk, to_make, to_serve, to_check, to_migrate, to_extract, order_of}
 use Rattle.land_commands.specs.declared.words.command.Command.{Command}
 use Rattle.land_core.specs.declared.caller.Caller.{Caller}
@@ -20,7 +20,7 @@ codes_differ : (code : ℕ) → code ≡ 109 → code ≡ 101 → ⊥
 codes_differ code e f = absurd (omega (arith, e, f))
 
 -- then no extract is named
-none_lacking : (rows : List Row) → Lacks rows → IsOrderOf (codes "extract") rows None
+none_lacking : (rows : List Row) → Lacks rows → HasOptionsOf (codes "extract") rows None
 none_lacking rows lacks (to_talk clock) word has = cc
 none_lacking rows lacks (to_make file) word has = cc
 none_lacking rows lacks (to_serve file port connections) word has = cc
@@ -28,15 +28,15 @@ none_lacking rows lacks (to_check file) word has = cc
 none_lacking rows lacks (to_migrate file) word has = codes_differ 109 refl (ap first_code word)
 none_lacking rows lacks (to_extract file clock party role kind at) word has = lacks file clock party role kind at has
 
-without_clock : (rows : List Row) (clock : Option ℤ) → IsNumberOf rows (codes "clock") (pos 0) (pos 4102444799999) clock → clock ≡ None → Lacks rows
+without_clock : (rows : List Row) (clock : Option ℤ) → IsOptionNumber rows (codes "clock") (pos 0) (pos 4102444799999) clock → clock ≡ None → Lacks rows
 without_clock rows None none e file clock party role kind at has = none clock has.1
 without_clock rows (Some reads) some e file clock party role kind at has = cc
 
-without_caller : (rows : List Row) (caller : Option Caller) → IsCallerOf rows caller → caller ≡ None → Lacks rows
+without_caller : (rows : List Row) (caller : Option Caller) → IsCallerOption rows caller → caller ≡ None → Lacks rows
 without_caller rows None none e file clock party role kind at has = none party role has.2
 without_caller rows (Some caller) some e file clock party role kind at has = cc
 
-none_named : (rows : List Row) (result : Option Command) → result ≡ None → Lacks rows → IsOrderOf (codes "extract") rows (option_map order_of result)
+none_named : (rows : List Row) (result : Option Command) → result ≡ None → Lacks rows → HasOptionsOf (codes "extract") rows (option_map order_of result)
 none_named rows None e lacks = none_lacking rows lacks
 none_named rows (Some command) e lacks = cc
 

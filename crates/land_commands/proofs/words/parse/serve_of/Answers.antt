@@ -1,6 +1,6 @@
 use Rattle.std.proofs.Common.{◌≡◌, ap, arith, refl, ℕ, pos, List, [], ◌∷◌, Option, Some, None, codes, option_map, rules}
 use Rattle.clap.specs.Words.{Row, Text}
-use Rattle.land_commands.specs.Words.Names.{IsNumberOf, IsOrderOf}
+use Rattle.land_commands.specs.Words.Names.{IsOptionNumber, HasOptionsOf}
 use Rattle.land_commands.specs.Words.PlainCommands.{to_talk, to_make, to_serve, to_check, to_migrate, to_extract, order_of}
 use Rattle.land_commands.specs.declared.words.command.Command.{Command}
 use Rattle.land_commands.proofs.words.parse.serve_of.Goals as goal
@@ -13,8 +13,8 @@ codes_differ : (code : ℕ) → code ≡ 99 → code ≡ 115 → ⊥
 codes_differ code e f = absurd (omega (arith, e, f))
 
 -- without a port no service is named
-without_port : (rows : List Row) (port : Option ℕ) → IsNumberOf rows (codes "port") (pos 1) (pos 65535) (option_map pos port) → port ≡ None
-    → IsOrderOf (codes "serve") rows None
+without_port : (rows : List Row) (port : Option ℕ) → IsOptionNumber rows (codes "port") (pos 1) (pos 65535) (option_map pos port) → port ≡ None
+    → HasOptionsOf (codes "serve") rows None
 without_port rows None none e (to_serve file port connections) word has = none (pos port) has.1
 without_port rows None none e (to_talk clock) word has = cc
 without_port rows None none e (to_make file) word has = cc
@@ -24,8 +24,8 @@ without_port rows None none e (to_extract file clock party role kind at) word ha
 without_port rows (Some port) some e order word has = cc
 
 -- nor without a number of connections
-without_count : (rows : List Row) (count : Option ℕ) → IsNumberOf rows (codes "connections") (pos 1) (pos 1000000) (option_map pos count) → count ≡ None
-    → IsOrderOf (codes "serve") rows None
+without_count : (rows : List Row) (count : Option ℕ) → IsOptionNumber rows (codes "connections") (pos 1) (pos 1000000) (option_map pos count) → count ≡ None
+    → HasOptionsOf (codes "serve") rows None
 without_count rows None none e (to_serve file port connections) word has = none (pos connections) has.2
 without_count rows None none e (to_talk clock) word has = cc
 without_count rows None none e (to_make file) word has = cc
@@ -34,7 +34,7 @@ without_count rows None none e (to_migrate file) word has = cc
 without_count rows None none e (to_extract file clock party role kind at) word has = cc
 without_count rows (Some count) some e order word has = cc
 
-none_named : (rows : List Row) (result : Option Command) → result ≡ None → IsOrderOf (codes "serve") rows None → IsOrderOf (codes "serve") rows (option_map order_of result)
+none_named : (rows : List Row) (result : Option Command) → result ≡ None → HasOptionsOf (codes "serve") rows None → HasOptionsOf (codes "serve") rows (option_map order_of result)
 none_named rows None e none = none
 none_named rows (Some command) e none = cc
 

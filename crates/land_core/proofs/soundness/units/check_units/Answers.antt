@@ -14,14 +14,14 @@ returns-then-has_clash-clause-fault c =
     λ _. sym (clash_same c.in_ok-by_unit.by_unit c.args.register.now c.in_ok-by_unit.ensures (refers c.args.register.now c.requires).rrrs) ∙ (cc)
 
 pub returns-then-branch-clause-fault : goal.returns-then-branch-clause-fault
-returns-then-branch-clause-fault c = λ _. sym (parts_same c.in_ok-by_unit.by_unit c.args.register.now c.in_ok-by_unit.ensures) ∙ (cc c.in_ok-has_unit_in_parts.ensures)
+returns-then-branch-clause-fault c = λ _. sym (parts_same c.in_ok-by_unit.by_unit c.args.register.now c.in_ok-by_unit.ensures) ∙ (cc c.in_ok-has_unit_without_whole_shares.ensures)
 
 pub returns-clause-ok : goal.returns-clause-ok
 returns-clause-ok c =
     let r = c.args.register.now in
     let b = c.in_ok-by_unit.by_unit in
     let listed = c.in_ok-by_unit.ensures in (
-      sym (parts_same b r listed) ∙ (cc c.in_ok-has_unit_in_parts.ensures),
+      sym (parts_same b r listed) ∙ (cc c.in_ok-has_unit_without_whole_shares.ensures),
       sym (bare_same b r listed) ∙ (cc),
       sym (crowded_same b r listed) ∙ (cc),
       sym (clash_same b r listed (refers r c.requires).rrrs) ∙ (cc),

@@ -1,6 +1,6 @@
 use Rattle.std.proofs.Common.{◌≡◌, ◌≤◌, ◌∙◌, arith, refl, sym, Err}
 use Rattle.land_desk.proofs.Turns.{weaken_count, cut_short, served_more, serves_none}
-use Rattle.land_desk.specs.Service.{AreWanted}
+use Rattle.land_desk.specs.Service.{IsServedCount}
 use Rattle.land_desk.proofs.service.serving.serve_connections.Goals as goal
 
 pub returns-then-is_closed-clause-served : goal.returns-then-is_closed-clause-served
@@ -14,7 +14,7 @@ pub returns-in-Err-clause-served : goal.returns-in-Err-clause-served
 returns-in-Err-clause-served g c trust =
     let was = c.in-Err.ensures.was trust in
     let so = served_more g.C.Clock.reads _ was _ c.loop-served.invariant.0 _ _ _ _ _ _ _ _ _ (c.loop-served.invariant.1 was) (c.in-Err.ensures.served trust) in
-    weaken_count g.C.Clock.reads _ _ _ _ _ (λ n. AreWanted {T = Unit {0}} n c.args.connections (Err c.in-Err.fault))
+    weaken_count g.C.Clock.reads _ _ _ _ _ (λ n. IsServedCount {T = Unit {0}} n c.args.connections (Err c.in-Err.fault))
     (λ n is. cut_short (Unit {0}) c.in-Err.fault c.loop-served._served c.args.connections n c.loop-served-test.true is) so
 
 pub loop-served-preserved : goal.loop-served-preserved

@@ -14,15 +14,15 @@ returns-then-n-d-clause-value c = the_answer (over c.args.n c.args.d) (Err Above
 pub nonzero_div-denominator : goal.nonzero_div-denominator
 nonzero_div-denominator c = let above : 0 < c.args.d = omega arith in pos_of_dvd_of_pos c.greatest_divisor-divisor.ensures.second above
 
-pub returns-then-denominator-gt-FINEST-clause-meaning :
-    goal.returns-then-denominator-gt-FINEST-clause-meaning
-returns-then-denominator-gt-FINEST-clause-meaning c =
+pub returns-then-denominator-gt-MAX_DENOMINATOR-clause-meaning :
+    goal.returns-then-denominator-gt-MAX_DENOMINATOR-clause-meaning
+returns-then-denominator-gt-MAX_DENOMINATOR-clause-meaning c =
     let least = least_by_divisor c.args.n c.args.d c.greatest_divisor-divisor.result (omega arith) c.greatest_divisor-divisor.ensures in
     (record { above_zero = omega arith; at_most_one = omega arith }, (c.args.d / c.greatest_divisor-divisor.result, least.0, omega arith))
 
-pub returns-then-denominator-gt-FINEST-clause-value :
-    goal.returns-then-denominator-gt-FINEST-clause-value
-returns-then-denominator-gt-FINEST-clause-value c = the_answer (over c.args.n c.args.d) (Err TooFine) (returns-then-denominator-gt-FINEST-clause-meaning c)
+pub returns-then-denominator-gt-MAX_DENOMINATOR-clause-value :
+    goal.returns-then-denominator-gt-MAX_DENOMINATOR-clause-value
+returns-then-denominator-gt-MAX_DENOMINATOR-clause-value c = the_answer (over c.args.n c.args.d) (Err TooFine) (returns-then-denominator-gt-MAX_DENOMINATOR-clause-meaning c)
 
 pub nonzero_div-result : goal.nonzero_div-result
 nonzero_div-result c = let above : 0 < c.args.d = omega arith in pos_of_dvd_of_pos c.greatest_divisor-divisor.ensures.second above

@@ -1,19 +1,19 @@
 use Rattle.std.proofs.Common.{rules, ◌≡◌, subst, to_z, of_z, w64, Ok}
-use Rattle.land_acts.specs.Slices.{mutations_looked_at, names_mandate, slice_of}
-use Rattle.land_core.specs.Entries.{only}
+use Rattle.land_acts.specs.Slices.{mutations_in_slice, names_mandate, slice_of}
+use Rattle.land_core.specs.Entries.{entries_where}
 use Rattle.land_core.specs.declared.caller.Caller.{Caller}
-use Rattle.land_select.specs.Slices.Gathered.{IsSo}
+use Rattle.land_select.specs.Slices.Gathered.{HoldsOfRegister}
 use Rattle.land_select_joins.proofs.Chains.{look_after}
-use Rattle.land_select_joins.specs.Lookups.Parts.{IsPart}
+use Rattle.land_select_joins.specs.Lookups.Parts.{ReadsPart}
 use Rattle.land_tables_rows.specs.declared.listing.fault.ReadFault.{ReadFault}
 use Rattle.land_tables_schema.proofs.Looking.{look_then}
-use Rattle.land_tables_schema.specs.Rows.Looks.{IsLook}
+use Rattle.land_tables_schema.specs.Rows.ReadQueries.{IsStoreRead}
 use Rattle.sqlite.specs.Effect.{Database}
 use Rattle.sqlite.specs.Held.{state}
 use Rattle.land_select.proofs.slices.slice.slice_at.Goals as goal
 
-pub returns-clause-look : goal.returns-clause-look
-returns-clause-look g c =
+pub returns-clause-reads_only : goal.returns-clause-reads_only
+returns-clause-reads_only g c =
     let a = state g.S.Store c.args.conn.now in
     let d = state g.S.Store c.mandates_of.new.conn in
     let t = c.args.at in
@@ -22,11 +22,11 @@ returns-clause-look g c =
     let mutations = c.in_ok-mutations.mutations in
     let mandates = c.in_ok-mandates.mandates in
     let when : to_z w64 (of_z w64 t) ≡ t = search rules in
-    let both : IsLook {X = Unit {0}} {E = ReadFault} (Ok tt) (λ _. IsPart (λ r. mutations_looked_at r asker act) t a.now.trees mutations
-    × IsPart (λ r. only (λ m u. names_mandate asker act m) r.mandates) t a.now.trees mandates) a d =
-    look_then a (state g.S.Store c.mutations_of.new.conn) d (rw when at c.in_ok-mutations.ensures.look) (rw when at c.in_ok-mandates.ensures.look)
-    (λ clean same first second. (first, subst (λ (now : Database). IsPart (λ r. only (λ m u. names_mandate asker act m) r.mandates) t now.trees mandates) same second)) in
-    look_after a d (state g.S.Store c.slice_about.new.conn) c.slice_about.result both (rw when at c.slice_about.ensures.look)
+    let both : IsStoreRead {X = Unit {0}} {E = ReadFault} (Ok tt) (λ _. ReadsPart (λ r. mutations_in_slice r asker act) t a.now.trees mutations
+    × ReadsPart (λ r. entries_where (λ m u. names_mandate asker act m) r.mandates) t a.now.trees mandates) a d =
+    look_then a (state g.S.Store c.mutations_of.new.conn) d (rw when at c.in_ok-mutations.ensures.reads_only) (rw when at c.in_ok-mandates.ensures.reads_only)
+    (λ clean same first second. (first, subst (λ (now : Database). ReadsPart (λ r. entries_where (λ m u. names_mandate asker act m) r.mandates) t now.trees mandates) same second)) in
+    look_after a d (state g.S.Store c.slice_about.new.conn) c.slice_about.result both (rw when at c.slice_about.ensures.reads_only)
     (λ it clean same both sliced moments h held r have stands next.
-    subst (λ (now : Database). IsSo (λ r. r.next ≡ c.args.next → (caller : Caller) → mutations ≡ mutations_looked_at r caller act → mandates ≡ only (λ m u. names_mandate caller act m) r.mandates → it ≡ slice_of r caller act) t now.trees)
+    subst (λ (now : Database). HoldsOfRegister (λ r. r.next ≡ c.args.next → (caller : Caller) → mutations ≡ mutations_in_slice r caller act → mandates ≡ entries_where (λ m u. names_mandate caller act m) r.mandates → it ≡ slice_of r caller act) t now.trees)
     same sliced moments h held r have stands next asker (both.0 moments h held r have stands) (both.1 moments h held r have stands))

@@ -3,9 +3,9 @@ use Rattle.std.specs.Int.{int_min}
 use Rattle.land_core.specs.Register.{object_at}
 use Rattle.land_keep.specs.Moments.{last_moment}
 use Rattle.land_select.proofs.Seen.{part_stands}
-use Rattle.land_select.specs.Cache.{IsKeptOf}
+use Rattle.land_select.specs.Cache.{IsCacheOf}
 use Rattle.land_tables.proofs.LookedAt.{look_moment}
-use Rattle.land_tables.specs.Office.{held}
+use Rattle.land_tables.specs.TablesState.{held}
 use Rattle.sqlite.specs.Held.{state}
 use Rattle.land_select.proofs.sql_keeper.SqlKeeperKeeper.object.Goals as goal
 
@@ -13,7 +13,7 @@ pub returns-in-Some-clause-value : goal.returns-in-Some-clause-value
 returns-in-Some-clause-value g c clean =
     let when : to_z w64 (of_z w64 c.args.at) ≡ c.args.at = search rules in
     let tl = held g.S.Store c.self.inside.tables in
-    let kept = subst (IsKeptOf tl) (sym c.take-cache.ensures.value) (c.self.invariant (clean, sym c.is_closed.ensures ∙ c.if-is_closed.false)) in
+    let kept = subst (IsCacheOf tl) (sym c.take-cache.ensures.value) (c.self.invariant (clean, sym c.is_closed.ensures ∙ c.if-is_closed.false)) in
     rw (c.self.view_is, when) at (sym (c.in-Some.ensures tl kept))
 
 pub returns-clause-value : goal.returns-clause-value
@@ -22,4 +22,4 @@ returns-clause-value g c clean =
     let u : to_z w64 (of_z w64 c.min-looked_at.result) ≡ c.min-looked_at.result = search rules in
     let least : c.min-looked_at.result ≡ int_min c.args.at last_moment = search rules in
     let answer = rw (c.self.view_is, u) at (c.execute.ensures.value clean) in
-    part_stands c.soundness_by_look_ups.ensures (λ r. object_at r c.args.kind c.args.number) s c.args.at c.min-looked_at.result (look_moment c.args.at c.min-looked_at.result least) c.execute.result answer
+    part_stands c.soundness_by_number.ensures (λ r. object_at r c.args.kind c.args.number) s c.args.at c.min-looked_at.result (look_moment c.args.at c.min-looked_at.result least) c.execute.result answer

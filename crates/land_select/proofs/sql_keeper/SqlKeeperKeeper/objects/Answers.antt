@@ -13,4 +13,4 @@ returns-clause-value g c clean =
     let u : to_z w64 (of_z w64 c.min-moment.result) ≡ c.min-moment.result = search rules in
     let least : c.min-moment.result ≡ int_min c.args.at last_moment = search rules in
     let answer = rw (c.self.view_is, u) at (c.execute.ensures.value clean) in
-    part_stands c.soundness_by_look_ups.ensures (λ r. objects_at r c.args.kind c.args.numbers.now) s c.args.at c.min-moment.result (look_moment c.args.at c.min-moment.result least) c.execute.result answer
+    part_stands c.soundness_by_number.ensures (λ r. objects_at r c.args.kind c.args.numbers.now) s c.args.at c.min-moment.result (look_moment c.args.at c.min-moment.result least) c.execute.result answer

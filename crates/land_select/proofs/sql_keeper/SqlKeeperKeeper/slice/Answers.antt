@@ -4,5 +4,5 @@ use Rattle.land_select.proofs.sql_keeper.SqlKeeperKeeper.slice.Goals as goal
 
 pub returns-clause-value : goal.returns-clause-value
 returns-clause-value g c clean =
-    rw c.self.view_is at (slice_stands c.soundness_by_look_ups.ensures (state g.S.Store c.self.inside.tables.conn) c.args.caller c.args.act.now _ _ _ c.execute.result c.execute.ensures.closes
+    rw c.self.view_is at (slice_stands c.soundness_by_number.ensures (state g.S.Store c.self.inside.tables.conn) c.args.caller c.args.act.now _ _ _ c.execute.result c.execute.ensures.closes
     (λ not_closed. c.next.ensures.next (c.execute.ensures.was clean, not_closed)) (c.execute.ensures.value clean))

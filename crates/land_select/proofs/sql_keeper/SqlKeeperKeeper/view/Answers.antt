@@ -7,10 +7,10 @@ use Rattle.land_keep.specs.Sheets.{view_at}
 use Rattle.land_keep.specs.Timeline.{register_at}
 use Rattle.land_select.proofs.Seen.{given_stands}
 use Rattle.land_select.proofs.Viewed.{renamed}
-use Rattle.land_select.specs.Cache.{IsFound, IsKeptOf}
+use Rattle.land_select.specs.Cache.{IsValueOf, IsCacheOf}
 use Rattle.land_select.specs.Views.{named_at}
 use Rattle.land_tables.proofs.LookedAt.{look_moment}
-use Rattle.land_tables.specs.Office.{held}
+use Rattle.land_tables.specs.TablesState.{held}
 use Rattle.sqlite.specs.Held.{state}
 use Rattle.land_select.proofs.sql_keeper.SqlKeeperKeeper.view.Goals as goal
 
@@ -25,9 +25,9 @@ returns-clause-value g c clean =
     let was = c.in_ok-shown.ensures.was clean in
     let closed = (opens c.self.inside.tables.is_closed c.execute.new.tables.is_closed c.in_ok-shown.shown c.in_ok-shown.ensures.closes).0 in
     let tl = held g.S.Store c.self.inside.tables in
-    let kept = subst (IsKeptOf tl) (sym c.take-cache.ensures.value) (c.self.invariant (was, closed)) in
+    let kept = subst (IsCacheOf tl) (sym c.take-cache.ensures.value) (c.self.invariant (was, closed)) in
     let given = rw (c.self.view_is, t) at (c.take_unit-found.ensures tl kept) in
     let answer = rw (c.self.view_is, u) at (c.in_ok-shown.ensures.value clean) in
-    let found = given_stands (λ r. IsFound r caller kind.Unit unit c.take_unit-found.result) (λ r. view_at r caller unit c.min-moment.result) s c.args.at c.min-moment.result (look_moment c.args.at c.min-moment.result least) c.in_ok-shown.shown answer given in
+    let found = given_stands (λ r. IsValueOf r caller kind.Unit unit c.take_unit-found.result) (λ r. view_at r caller unit c.min-moment.result) s c.args.at c.min-moment.result (look_moment c.args.at c.min-moment.result least) c.in_ok-shown.shown answer given in
     let named = rw t at c.with_moment.ensures in
     named ∙ ap (named_at c.args.at) found ∙ renamed (register_at (held g.S.Store c.args.self.now) c.args.at) caller unit c.args.at c.min-moment.result

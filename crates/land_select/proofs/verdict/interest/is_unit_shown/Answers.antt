@@ -4,9 +4,9 @@ use Rattle.land_tables_schema.proofs.Looking.{look_told}
 use Rattle.sqlite.specs.Held.{state}
 use Rattle.land_select.proofs.verdict.interest.is_unit_shown.Goals as goal
 
-pub returns-clause-look : goal.returns-clause-look
-returns-clause-look g c =
+pub returns-clause-reads_only : goal.returns-clause-reads_only
+returns-clause-reads_only g c =
     let when : to_z w64 (of_z w64 c.args.at) ≡ c.args.at = search rules in
-    let look = rw when at c.in_ok-interest.ensures.look in
-    look_told (state g.S.Store c.args.conn.now) (state g.S.Store c.interest_in.new.conn) _ look
+    let reads_only = rw when at c.in_ok-interest.ensures.reads_only in
+    look_told (state g.S.Store c.args.conn.now) (state g.S.Store c.read_interest.new.conn) _ reads_only
     (λ clean is moments h held r have stands. c.shows_unit.ensures ∙ ap shows_unit (is moments h held r have stands))

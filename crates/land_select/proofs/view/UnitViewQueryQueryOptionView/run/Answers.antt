@@ -1,4 +1,4 @@
 use Rattle.land_select.proofs.view.UnitViewQueryQueryOptionView.run.Goals as goal
 
-pub returns-clause-look : goal.returns-clause-look
-returns-clause-look g c = c.view.ensures.look
+pub returns-clause-reads_only : goal.returns-clause-reads_only
+returns-clause-reads_only g c = c.view.ensures.reads_only

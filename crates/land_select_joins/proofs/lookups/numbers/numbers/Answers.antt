@@ -1,20 +1,20 @@
 use Rattle.std.proofs.Common.{rules, ◌≡◌, to_z, of_z, w64, sym, subst}
 use Rattle.land_select_joins.proofs.Counted.{none_held, numbers_told}
-use Rattle.land_select_joins.specs.Lookups.Numbers.{AreRowsToldBy, tells}
+use Rattle.land_select_joins.specs.Lookups.Numbers.{AreColumnRows, yields}
 use Rattle.land_tables_schema.proofs.Looking.{look_told}
 use Rattle.sqlite.specs.Held.{state}
 use Rattle.land_select_joins.proofs.lookups.numbers.numbers.Goals as goal
 
-pub returns-clause-look : goal.returns-clause-look
-returns-clause-look g c =
+pub returns-clause-reads_only : goal.returns-clause-reads_only
+returns-clause-reads_only g c =
     let old = state g.S.Store c.args.conn.now in
     let l = c.args.record_lookup in
     let n = c.args.number in
     let t = c.args.at in
     let when : to_z w64 (of_z w64 t) ≡ t = search rules in
-    let look = rw when at c.in_ok-rows.ensures.look in
-    look_told old (state g.S.Store c.rows_of.new.conn) c.read.result look
-    (λ clean are. numbers_told (λ h. tells l t h n) old.now.trees c.as_slice.result.now (subst (AreRowsToldBy l n t old.now.trees) (sym c.as_slice.ensures.value) are) c.read.result c.read.ensures)
+    let reads_only = rw when at c.in_ok-rows.ensures.reads_only in
+    look_told old (state g.S.Store c.rows_of.new.conn) c.read.result reads_only
+    (λ clean are. numbers_told (λ h. yields l t h n) old.now.trees c.as_slice.result.now (subst (AreColumnRows l n t old.now.trees) (sym c.as_slice.ensures.value) are) c.read.result c.read.ensures)
 
 pub returns-clause-unreadable : goal.returns-clause-unreadable
 returns-clause-unreadable g c clean =
@@ -23,5 +23,5 @@ returns-clause-unreadable g c clean =
     let n = c.args.number in
     let t = c.args.at in
     let when : to_z w64 (of_z w64 t) ≡ t = search rules in
-    let look = rw when at c.in_ok-rows.ensures.look in
-    none_held (λ h. tells l t h n) old.now.trees c.as_slice.result.now (subst (AreRowsToldBy l n t old.now.trees) (sym c.as_slice.ensures.value) (look.given clean)) c.read.result c.read.ensures
+    let reads_only = rw when at c.in_ok-rows.ensures.reads_only in
+    none_held (λ h. yields l t h n) old.now.trees c.as_slice.result.now (subst (AreColumnRows l n t old.now.trees) (sym c.as_slice.ensures.value) (reads_only.given clean)) c.read.result c.read.ensures

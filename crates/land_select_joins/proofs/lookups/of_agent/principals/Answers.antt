@@ -1,18 +1,18 @@
 use Rattle.std.proofs.Common.{rules, ◌≡◌, to_z, of_z, w64}
 use Rattle.land_select_joins.proofs.Principals.{are_principals}
 use Rattle.land_select_joins.proofs.Records.{are_wanted, none_said}
-use Rattle.land_select_joins.specs.declared.lookups.record_lookup.LookUp.TheVariants.{MandatesOfAgent}
+use Rattle.land_select_joins.specs.declared.lookups.record_lookup.RecordLookup.TheVariants.{MandatesOfAgent}
 use Rattle.land_tables_schema.proofs.Looking.{look_told}
 use Rattle.sqlite.specs.Held.{state}
 use Rattle.land_select_joins.proofs.lookups.of_agent.principals.Goals as goal
 
-pub returns-clause-look : goal.returns-clause-look
-returns-clause-look g c =
+pub returns-clause-reads_only : goal.returns-clause-reads_only
+returns-clause-reads_only g c =
     let old = state g.S.Store c.args.conn.now in
     let when : to_z w64 (of_z w64 c.args.at) ≡ c.args.at = search rules in
-    let look = rw when at c.in_ok-found.ensures.look in
+    let reads_only = rw when at c.in_ok-found.ensures.reads_only in
     let listed = rw c.as_slice.ensures at c.in_ok-principals_of.ensures in
-    look_told old (state g.S.Store c.find.new.conn) _ look
+    look_told old (state g.S.Store c.find.new.conn) _ reads_only
     (λ clean said moments h held r stands.
     are_principals r c.args.at h stands c.args.agent c.in_ok-found.found (are_wanted MandatesOfAgent c.args.agent c.args.at old.now.trees h.mandates held.the_mandates.said c.in_ok-found.found said) _ listed)
 

@@ -5,13 +5,13 @@ use Rattle.land_tables_schema.proofs.Looking.{look_told}
 use Rattle.sqlite.specs.Held.{state}
 use Rattle.land_select_joins.proofs.lookups.within.records.Goals as goal
 
-pub returns-clause-look : goal.returns-clause-look
-returns-clause-look g c =
+pub returns-clause-reads_only : goal.returns-clause-reads_only
+returns-clause-reads_only g c =
     let old = state g.S.Store c.args.conn.now in
     let when : to_z w64 (of_z w64 c.args.at) ≡ c.args.at = search rules in
-    let look = rw when at c.in_ok-found.ensures.look in
+    let reads_only = rw when at c.in_ok-found.ensures.reads_only in
     let made = rw (when, c.as_slice.ensures) at c.in_ok-part_at.ensures.stands in
-    look_told old (state g.S.Store c.find.new.conn) _ look
+    look_told old (state g.S.Store c.find.new.conn) _ reads_only
     (λ clean said. are_within _ _ _ g.met.V.Numbered.within c.args.first c.args.last c.args.at old.now.trees c.in_ok-found.found said _ made)
 
 pub returns-in_err-found-clause-unreadable : goal.returns-in_err-found-clause-unreadable

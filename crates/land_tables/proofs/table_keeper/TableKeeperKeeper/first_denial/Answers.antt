@@ -5,7 +5,7 @@ use Rattle.land_keep.specs.Machine.{moment_of}
 use Rattle.land_keep.specs.Timeline.{IsSoundTimeline, Timeline, last_stamp, register_at}
 use Rattle.land_rules.specs.Rules.{verdict_of}
 use Rattle.land_tables.proofs.Keeping.{closes_next, closes_ok, closes_on, stays_open, verdict_now, verdict_then}
-use Rattle.land_tables.specs.Office.{held}
+use Rattle.land_tables.specs.TablesState.{held}
 use Rattle.land_tables.proofs.table_keeper.TableKeeperKeeper.first_denial.Goals as goal
 
 pub returns-then-last-at-clause-value : goal.returns-then-last-at-clause-value

@@ -2,7 +2,7 @@ use Rattle.std.proofs.Common.{◌≡◌, ◌∙◌, ap, of_z, rules, to_z, w64}
 use Rattle.land_core.specs.declared.register.Register.{Register}
 use Rattle.land_keep.specs.Named.{objects_at}
 use Rattle.land_keep.specs.Timeline.{register_at}
-use Rattle.land_tables.specs.Office.{held}
+use Rattle.land_tables.specs.TablesState.{held}
 use Rattle.land_tables.proofs.table_keeper.TableKeeperKeeper.objects.Goals as goal
 
 -- the list is of the register that was read

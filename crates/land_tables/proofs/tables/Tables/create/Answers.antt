@@ -9,11 +9,11 @@ returns-then-not-is_autocommit-clause-either g c = same_either (state g.S.Store 
 
 pub returns-in-Err-clause-either : goal.returns-in-Err-clause-either
 returns-in-Err-clause-either g c =
-    err_either (state g.S.Store c.args.conn) (state g.S.Store c.begin_register.new.conn) (λ db stays may. g.met.S.Store.settled c.args.conn.store db stays may) c.in-Err.ensures.crash
+    err_either (state g.S.Store c.args.conn) (state g.S.Store c.create_tables.new.conn) (λ db stays may. g.met.S.Store.settled c.args.conn.store db stays may) c.in-Err.ensures.crash
 
 pub returns-in-Err-clause-untouched : goal.returns-in-Err-clause-untouched
 returns-in-Err-clause-untouched g c =
-    err_untouched (state g.S.Store c.args.conn) (state g.S.Store c.begin_register.new.conn) c.in-Err.fault (λ db stays may. g.met.S.Store.settled c.begin_register.new.conn.store db stays may) c.in-Err.ensures.untouched
+    err_untouched (state g.S.Store c.args.conn) (state g.S.Store c.create_tables.new.conn) c.in-Err.fault (λ db stays may. g.met.S.Store.settled c.create_tables.new.conn.store db stays may) c.in-Err.ensures.untouched
 
 pub returns-in-Ok-clause-rests : goal.returns-in-Ok-clause-rests
-returns-in-Ok-clause-rests g c = begun_rests g.S.Store (record { conn = c.begin_register.new.conn; last = pos 0; next = 2; is_closed = false }) (λ db stays may. g.met.S.Store.settled c.begin_register.new.conn.store db stays may) c.in-Ok.ensures.made
+returns-in-Ok-clause-rests g c = begun_rests g.S.Store (record { conn = c.create_tables.new.conn; last = pos 0; next = 2; is_closed = false }) (λ db stays may. g.met.S.Store.settled c.create_tables.new.conn.store db stays may) c.in-Ok.ensures.made

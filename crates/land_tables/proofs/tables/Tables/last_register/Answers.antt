@@ -2,7 +2,7 @@ use Rattle.std.proofs.Common.{of_z, rules, subst, to_z, w64, IfOk, ◌≡◌}
 use Rattle.std.specs.Prelude.{ℤ}
 use Rattle.land_keep.specs.Timeline.{register_at}
 use Rattle.land_tables.proofs.ReadBack.{read_last}
-use Rattle.land_tables.specs.Office.{held}
+use Rattle.land_tables.specs.TablesState.{held}
 use Rattle.land_tables.proofs.tables.Tables.last_register.Goals as goal
 
 pub returns-clause-value : goal.returns-clause-value

@@ -3,8 +3,8 @@ use Rattle.std.specs.Prelude.{ℤ, ◌≤ℤ◌}
 use Rattle.land_keep.specs.Moments.{last_moment}
 use Rattle.land_tables.proofs.Adopted.{refused_holds_none}
 use Rattle.land_tables.proofs.Migrations.{err_leaves, held_rests, same_leaves, stays_same}
-use Rattle.land_tables.specs.Office.{IsOffice}
-use Rattle.land_tables.specs.Registers.{the_first}
+use Rattle.land_tables.specs.TablesState.{IsConsistentState}
+use Rattle.land_tables.specs.Registers.{version_1}
 use Rattle.sqlite.specs.Held.{state}
 use Rattle.land_tables.proofs.tables.Tables.migrate.Goals as goal
 
@@ -18,7 +18,7 @@ returns-in-Ok-clause-migrated g c =
       register = λ clean. (it.migrated clean).register.register;
       raisable = λ clean. (it.migrated clean).raisable;
       raised = λ clean. (it.migrated clean).raised;
-      office = λ clean. subst (λ z. IsOffice b z c.in-Ok.moment.next) (sym stamp) (it.migrated clean).office;
+      office = λ clean. subst (λ z. IsConsistentState b z c.in-Ok.moment.next) (sym stamp) (it.migrated clean).office;
       timeline = λ clean. (it.migrated clean).timeline;
       mandates = λ clean. (it.migrated clean).mandates;
     }
@@ -29,7 +29,7 @@ returns-in-Ok-clause-rests g c =
     (λ db stays may. g.met.S.Store.settled c.migrate_store.new.conn.store db stays may) (λ clean. (c.in-Ok.ensures.migration.migrated clean).office.register)
 
 pub returns-in-Err-clause-none : goal.returns-in-Err-clause-none
-returns-in-Err-clause-none g c clean = refused_holds_none the_first c.in-Err.fault (state g.S.Store c.args.conn).now (c.in-Err.ensures.migration.refused clean)
+returns-in-Err-clause-none g c clean = refused_holds_none version_1 c.in-Err.fault (state g.S.Store c.args.conn).now (c.in-Err.ensures.migration.refused clean)
 
 pub returns-in-Err-clause-same : goal.returns-in-Err-clause-same
 returns-in-Err-clause-same g c clean other =
@@ -56,5 +56,5 @@ invariant_of-result g c =
     record {
       alone = c.in-Ok.ensures.ended;
       moment = subst (λ (z : ℤ). z ≤ℤ last_moment) (sym stamp) c.in-Ok.ensures.moment;
-      office = λ live. subst (λ z. IsOffice b z c.in-Ok.moment.next) (sym stamp) (it.migrated live.0).office;
+      office = λ live. subst (λ z. IsConsistentState b z c.in-Ok.moment.next) (sym stamp) (it.migrated live.0).office;
     }

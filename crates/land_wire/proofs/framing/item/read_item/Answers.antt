@@ -2,24 +2,24 @@ use Rattle.std.proofs.Common.{◌≡◌, ◌<◌, ℕ, List, ◌++◌, true, fal
 use Rattle.std.specs.Io.KnownBytes.{prepend_known}
 use Rattle.std.proofs.lemmas.List.{nil_from_length}
 use Rattle.land_wire.proofs.ItemLemmas.{front_known, failed_known, fault_read, head_ahead, request_known, request_of_stream, cut_known, item_fits}
-use Rattle.land_wire.specs.Framing.Items.{request, IsItem, IsFrontOf, IsReadFor}
-use Rattle.land_wire.specs.declared.framing.item.Front.{Front}
+use Rattle.land_wire.specs.Framing.Items.{request, IsItem, IsNextOf, ReadsUpTo}
+use Rattle.land_wire.specs.declared.framing.item.NextItem.{NextItem}
 use Rattle.land_wire.proofs.framing.item.read_item.Goals as goal
 
 pub returns-in-Ok-Fault-clause-item : goal.returns-in-Ok-Fault-clause-item
 returns-in-Ok-Fault-clause-item g c =
     let none : c.is_empty.result ≡ true → c.read_head.new.buffer.items ≡ [] = λ e. nil_from_length _ (grind (arith)) in
     let some : c.is_empty.result ≡ false → 0 < length c.read_head.new.buffer.items = λ e. grind (arith) in
-    subst (λ (f : Front). IfSome (prepend_known c.read_head.new.buffer.items (g.R.Read.remaining c.read_head.new.reader.reader.now)) (λ s. IsFrontOf s f))
-    (sym c.fault_front.ensures)
+    subst (λ (f : NextItem). IfSome (prepend_known c.read_head.new.buffer.items (g.R.Read.remaining c.read_head.new.reader.reader.now)) (λ s. IsNextOf s f))
+    (sym c.next_of_fault.ensures)
     (front_known c.read_head.new.buffer.items (g.R.Read.remaining c.read_head.new.reader.reader.now) c.in-Ok-Fault.field-0 c.in-Ok-Fault.fault c.is_empty.result c.in-Ok-Fault.field-0-is
     c.in-Ok-Fault.ensures.fault c.in-Ok-Fault.ensures.end none some)
 
-pub returns-in-Err-frame-clause-item : goal.returns-in-Err-frame-clause-item
-returns-in-Err-frame-clause-item g c =
-    let bad = rw c.deref.ensures.value at c.in-Err-frame.ensures.value in
+pub returns-in-Err-body_length_of-clause-item : goal.returns-in-Err-body_length_of-clause-item
+returns-in-Err-body_length_of-clause-item g c =
+    let bad = rw c.deref.ensures.value at c.in-Err-body_length_of.ensures.value in
     failed_known c.read_head.new.buffer.items (g.R.Read.remaining c.read_head.new.reader.reader.now) c.read_head.new.headers c.in-Ok-Whole.spans c.in-Ok-Whole.field-0
-    c.in-Err-frame.fault c.in-Ok-Whole.field-0-is c.in-Ok-Whole.ensures.whole bad
+    c.in-Err-body_length_of.fault c.in-Ok-Whole.field-0-is c.in-Ok-Whole.ensures.whole bad
 
 pub returns-in-Ok-true-clause-front : goal.returns-in-Ok-true-clause-front
 returns-in-Ok-true-clause-front g c =
@@ -76,11 +76,11 @@ returns-in-Ok-false-clause-unread g c =
 
 pub returns-in-Ok-Fault-clause-ahead : goal.returns-in-Ok-Fault-clause-ahead
 returns-in-Ok-Fault-clause-ahead g c small =
-    subst (λ (f : Front). IsReadFor c.read_head.new.buffer.items f) (sym c.fault_front.ensures)
+    subst (λ (f : NextItem). ReadsUpTo c.read_head.new.buffer.items f) (sym c.next_of_fault.ensures)
     (fault_read c.read_head.new.buffer.items c.in-Ok-Fault.fault c.is_empty.result (c.in-Ok-Fault.ensures.ahead small))
 
-pub returns-in-Err-frame-clause-ahead : goal.returns-in-Err-frame-clause-ahead
-returns-in-Err-frame-clause-ahead g c small = inr (c.in-Ok-Whole.ensures.ahead small)
+pub returns-in-Err-body_length_of-clause-ahead : goal.returns-in-Err-body_length_of-clause-ahead
+returns-in-Err-body_length_of-clause-ahead g c small = inr (c.in-Ok-Whole.ensures.ahead small)
 
 pub returns-in-Ok-false-clause-ahead : goal.returns-in-Ok-false-clause-ahead
 returns-in-Ok-false-clause-ahead g c small = inl refl

@@ -13,4 +13,4 @@ returns-clause-gives g c honest stand =
     let r = register_at (g.K.Keeper.timeline it.keeper.now) it.at in
     let fit : FitsSigned w64 it.at = search rules in
     let inside : it.given < length it.numbers.now = search rules in
-    result_given r it.kind it.numbers.now it.given _ c.row_of-made.result inside refl stand (simp to_z-of_z at (c.row_of-made.ensures.value honest))
+    result_given r it.kind it.numbers.now it.given _ c.read_row-made.result inside refl stand (simp to_z-of_z at (c.read_row-made.ensures.value honest))

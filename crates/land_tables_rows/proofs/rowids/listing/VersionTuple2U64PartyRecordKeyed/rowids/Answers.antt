@@ -2,12 +2,12 @@ use Rattle.std.proofs.Common.{◌∷◌, []}
 use Rattle.land_tables_rows.proofs.Texts.{parties}
 use Rattle.land_tables_rows.specs.declared.rowids.listing.TheConstants.{PARTY}
 use Rattle.land_tables_schema.proofs.Asks.{looks}
-use Rattle.land_tables_schema.specs.Land.{HasFirstTables}
-use Rattle.land_tables_schema.specs.Rows.Looks.{columns_from}
+use Rattle.land_tables_schema.specs.Schemas.{ContainsSchemaV1}
+use Rattle.land_tables_schema.specs.Rows.ReadQueries.{columns_from}
 use Rattle.sqlite.specs.Held.{state}
 use Rattle.sqlite.specs.Term.{col}
 use Rattle.land_tables_rows.proofs.rowids.listing.VersionTuple2U64PartyRecordKeyed.rowids.Goals as goal
 
-pub returns-clause-look : goal.returns-clause-look
-returns-clause-look g c =
-    looks HasFirstTables 2 PARTY.now (col 1 0 ∷ []) (columns_from 0 1) parties (state g.S.Store c.args.conn.now) (state g.S.Store c.query_all.new.self) (λ rows. rows.items) c.query_all.result c.requires c.query_all.ensures.ok c.query_all.ensures.err c.query_all.ensures.survives
+pub returns-clause-reads_only : goal.returns-clause-reads_only
+returns-clause-reads_only g c =
+    looks ContainsSchemaV1 2 PARTY.now (col 1 0 ∷ []) (columns_from 0 1) parties (state g.S.Store c.args.conn.now) (state g.S.Store c.query_all.new.self) (λ rows. rows.items) c.query_all.result c.requires c.query_all.ensures.ok c.query_all.ensures.err c.query_all.ensures.survives

@@ -1,6 +1,6 @@
 use Rattle.land_tables_schema.proofs.EditionRow.{puts_in}
 use Rattle.land_tables_schema.proofs.Steps.{statement_steps}
-use Rattle.land_tables_schema.specs.Rows.Edition.{current_edition, edition_row}
+use Rattle.land_tables_schema.specs.Rows.Edition.{v2_edition, edition_row}
 use Rattle.land_tables_schema.specs.Rows.Forms.{Appends}
 use Rattle.land_tables_schema.specs.Tables as table
 use Rattle.sqlite.specs.Held.{state}
@@ -9,5 +9,5 @@ use Rattle.land_tables_schema.proofs.rows.tables.edition.insert.Goals as goal
 pub returns-clause-step : goal.returns-clause-step
 returns-clause-step g c =
     let e = c.execute.ensures in
-    statement_steps g.S.Store c.args.tx.now.conn.now c.execute.new.self.conn.now _ _ _ (Appends table.edition edition_row current_edition) c.execute.result e.ended e.runs e.survives
+    statement_steps g.S.Store c.args.tx.now.conn.now c.execute.new.self.conn.now _ _ _ (Appends table.edition edition_row v2_edition) c.execute.result e.ended e.runs e.survives
     (λ clean count ran. puts_in (state g.S.Store c.args.tx.now.conn.now) (state g.S.Store c.execute.new.self.conn.now) count (c.requires clean) ran.0)

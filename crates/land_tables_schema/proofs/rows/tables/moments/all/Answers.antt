@@ -1,13 +1,13 @@
 use Rattle.std.proofs.Common.{◌∷◌, []}
 use Rattle.land_tables_schema.proofs.Asks.{looks}
 use Rattle.land_tables_schema.proofs.MomentRows.{listing}
-use Rattle.land_tables_schema.specs.Land.{HasFirstTables}
+use Rattle.land_tables_schema.specs.Schemas.{ContainsSchemaV1}
 use Rattle.land_tables_schema.specs.declared.rows.tables.moments.TheConstants.{ALL}
 use Rattle.sqlite.specs.Held.{state}
 use Rattle.sqlite.specs.Term.{col}
 use Rattle.sqlite_value.specs.Order.{column}
 use Rattle.land_tables_schema.proofs.rows.tables.moments.all.Goals as goal
 
-pub returns-clause-look : goal.returns-clause-look
-returns-clause-look g c =
-    looks HasFirstTables 1 ALL.now (col 1 0 ∷ col 1 2 ∷ []) (λ r. column r 0 ∷ column r 2 ∷ []) listing (state g.S.Store c.args.conn.now) (state g.S.Store c.query_all.new.self) (λ rows. rows.items) c.query_all.result c.requires c.query_all.ensures.ok c.query_all.ensures.err c.query_all.ensures.survives
+pub returns-clause-reads_only : goal.returns-clause-reads_only
+returns-clause-reads_only g c =
+    looks ContainsSchemaV1 1 ALL.now (col 1 0 ∷ col 1 2 ∷ []) (λ r. column r 0 ∷ column r 2 ∷ []) listing (state g.S.Store c.args.conn.now) (state g.S.Store c.query_all.new.self) (λ rows. rows.items) c.query_all.result c.requires c.query_all.ensures.ok c.query_all.ensures.err c.query_all.ensures.survives

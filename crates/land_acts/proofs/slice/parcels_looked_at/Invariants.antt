@@ -1,8 +1,0 @@
-use Rattle.std.proofs.Common.{◌≡◌}
-use Rattle.std.specs.Prelude.{filter}
-use Rattle.land_acts.specs.Slices.{names_unit}
-use Rattle.land_core.specs.Entries.{with_entries, only}
-use Rattle.land_acts.proofs.slice.parcels_looked_at.Given as goal
-
-abbrev pub invariant-loop-number : goal.invariant-loop-number
-invariant-loop-number l = with_entries l.kept (filter (λ e. names_unit l.register l.act e.1.unit) l.number-iterator) ≡ only (λ n p. names_unit l.register l.act p.unit) l.register.parcels

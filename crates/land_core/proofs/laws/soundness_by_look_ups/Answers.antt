@@ -1,5 +1,0 @@
-use Rattle.land_core.proofs.LookUps.{by_look_ups}
-use Rattle.land_core.proofs.laws.soundness_by_look_ups.Goals as goal
-
-pub returns : goal.returns
-returns c = by_look_ups c.wholeness_of_lists.ensures

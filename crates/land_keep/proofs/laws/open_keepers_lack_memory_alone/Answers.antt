@@ -1,5 +1,0 @@
-use Rattle.land_keep.proofs.OpenKeepers.{memory_alone}
-use Rattle.land_keep.proofs.laws.open_keepers_lack_memory_alone.Goals as goal
-
-pub returns : goal.returns
-returns c = memory_alone

@@ -1,5 +1,0 @@
-use Rattle.land_keep.proofs.TwoRegisters.{reads_alike}
-use Rattle.land_keep.proofs.laws.reads_look_at_two_registers.Goals as goal
-
-pub returns : goal.returns
-returns c = reads_alike

@@ -1,5 +1,0 @@
-use Rattle.land_rules.proofs.StandingLaws.{strangers_are_denied}
-use Rattle.land_rules.proofs.laws.strangers_are_denied_everything.Goals as goal
-
-pub returns : goal.returns
-returns c = strangers_are_denied

@@ -1,6 +1,0 @@
-use Rattle.std.proofs.Common.{ℕ, ◌<◌, ◌≤◌}
-use Rattle.land_shape.specs.Simple.{MeetRightly, places}
-use Rattle.land_shape.proofs.simple.group_meets_rightly.Given as goal
-
-abbrev pub invariant-loop-j : goal.invariant-loop-j
-invariant-loop-j l = (i k : ℕ) → l.start ≤ i → i < l.end → i < k → k < l.j → MeetRightly (places l.points) i k

@@ -1,0 +1,13 @@
+use Rattle.land_tables.proofs.Judgements.{judged_err, judged_ok}
+use Rattle.land_tables.specs.Registers.{version_1}
+use Rattle.sqlite.specs.Held.{state}
+use Rattle.land_tables.proofs.opening.open_v1_store.Goals as goal
+
+pub returns-in-Ok-clause-judgement : goal.returns-in-Ok-clause-judgement
+returns-in-Ok-clause-judgement g c =
+    judged_ok version_1 (state g.S.Store c.args.conn.now) (state g.S.Store c.validate_v1.new.conn) c.requires.settled c.in-Ok.latest c.in-Ok.ensures.reads_only
+
+pub returns-in-Err-clause-judgement : goal.returns-in-Err-clause-judgement
+returns-in-Err-clause-judgement g c =
+    judged_err version_1 (state g.S.Store c.args.conn.now) (state g.S.Store c.validate_v1.new.conn) c.requires.settled (state g.S.Store c.fault_after.new.conn) c.in-Err.fault c.fault_after.result
+    c.in-Err.ensures.reads_only c.in-Err.ensures.refused c.fault_after.ensures.fault c.fault_after.ensures.same c.fault_after.ensures.left c.fault_after.ensures.survives

@@ -1,5 +1,0 @@
-use Rattle.land_tables.proofs.IntervalOrders.{intervals_anyhow}
-use Rattle.land_tables.proofs.timelines.judging_laws.order_keeps_intervals.Goals as goal
-
-pub returns : goal.returns
-returns c = intervals_anyhow

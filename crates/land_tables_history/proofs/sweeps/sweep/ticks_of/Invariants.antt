@@ -1,9 +1,0 @@
-use Rattle.std.proofs.Common.{◌≡◌, ◌++◌, take, map as map_list}
-use Rattle.land_tables_history.specs.Sweeps.SweepSteps.{beginning, end}
-use Rattle.land_tables_history.proofs.sweeps.sweep.ticks_of.Given as goal
-
-abbrev pub invariant-loop-one : goal.invariant-loop-one
-invariant-loop-one g l = l.ticks.items ≡ map_list beginning (take l.one-index l.lived)
-
-abbrev pub invariant-loop-one-2 : goal.invariant-loop-one-2
-invariant-loop-one-2 g l = l.ticks.items ≡ map_list beginning l.lived ++ map_list end (take l.one-index l.lived)

@@ -1,8 +1,0 @@
-use Rattle.land_tables_lawful.proofs.parcels.do_parcels_refer.Given as goal
-
--- units, and then sources
-abbrev pub ghost-are_there : goal.ghost-are_there
-ghost-are_there a = λ e. e.1.unit
-
-abbrev pub ghost-are_there-2 : goal.ghost-are_there-2
-ghost-are_there-2 a = λ e. e.1.source

@@ -1,4 +1,0 @@
-use Rattle.land_tables_lawful.proofs.referred.are_there.Given as goal
-
-abbrev pub ghost-ask_for : goal.ghost-ask_for
-ghost-ask_for g a = g.number_of

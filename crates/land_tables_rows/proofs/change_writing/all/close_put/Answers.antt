@@ -1,0 +1,47 @@
+use Rattle.std.proofs.Common.{◌≡◌, ◌+◌, ◌++◌, ◌∷◌, [], ap, arith, map, of_z, refl, rules, subst, sym, take, to_z, w64, Ok, ◌∙◌}
+use Rattle.std.proofs.lemmas.Grind.{common_steps}
+use Rattle.std.proofs.lemmas.List.{map-append}
+use Rattle.std.specs.List.{list_any}
+use Rattle.land_tables_rows.proofs.Loops.{land_stays, more_closed, none_closed, one_closed}
+use Rattle.land_tables_rows.specs.Writing.Holding.{Closes, IsMoment}
+use Rattle.land_tables_schema.proofs.Steps.{no_step, step_fails, step_says, step_then}
+use Rattle.sqlite.specs.Held.{state}
+use Rattle.land_tables_rows.proofs.change_writing.all.close_put.Goals as goal
+
+pub loop-x-init : goal.loop-x-init
+loop-x-init g c =
+    let same : to_z w64 (of_z w64 c.args.stamp) ≡ c.args.stamp = search rules in
+    let moment : IsMoment (to_z w64 (of_z w64 c.args.stamp)) = subst IsMoment (sym same) c.requires.moment in
+    (refl, no_step tt _ (state g.S.Store c.args.tx.now.conn.now) (λ clean. none_closed g.X.Versioned.reading g.X.Closable.has _ moment (state g.S.Store c.args.tx.now.conn.now).now))
+
+pub close-requires-clause-has_tables : goal.close-requires-clause-has_tables
+close-requires-clause-has_tables g c =
+    land_stays (state g.S.Store c.args.tx.now.conn.now) (state g.S.Store c.loop-x.tx.conn.now) c.loop-x.invariant.1 (λ done. done.schema) c.requires.has_tables
+
+pub loop-x-preserved : goal.loop-x-preserved
+loop-x-preserved g c =
+    let e = c.in_ok-close.ensures in
+    let x = c.x-item.result in
+    let keys = map g.P.HasKey.key (take c.loop-x.x-index c.args.put.now) in
+    let more : take (c.loop-x.x-index + 1) c.args.put.now ≡ take c.loop-x.x-index c.args.put.now ++ x ∷ [] = grind (arith, common_steps) in
+    let stamp = to_z w64 (of_z w64 c.args.stamp) in
+    let same : to_z w64 (of_z w64 c.args.stamp) ≡ c.args.stamp = search rules in
+    let moment : IsMoment (to_z w64 (of_z w64 c.args.stamp)) = subst IsMoment (sym same) c.requires.moment in
+    let named : map g.P.HasKey.key (take (c.loop-x.x-index + 1) c.args.put.now) ≡ keys ++ c.key.result.now ∷ [] =
+    ap (map g.P.HasKey.key) more ∙ map-append g.P.HasKey.key (take c.loop-x.x-index c.args.put.now) (x ∷ []) ∙ ap (λ k. keys ++ k ∷ []) (sym c.key.ensures) in (
+      e.same_reference ∙ c.loop-x.invariant.0,
+      step_then (state g.S.Store c.args.tx.now.conn.now) (state g.S.Store c.loop-x.tx.conn.now) (state g.S.Store c.close.new.tx.conn.now) c.loop-x.invariant.1 e.step
+          (λ clean far one. subst (λ l. Closes g.X.Versioned.reading (λ y. list_any (g.X.Closable.has y) l) stamp (state g.S.Store c.args.tx.now.conn.now).now (state g.S.Store c.close.new.tx.conn.now).now) (sym named)
+          (more_closed g.X.Versioned.reading g.X.Closable.has stamp moment keys (c.key.result.now ∷ []) _ _ _ far (one_closed g.X.Versioned.reading g.X.Closable.has stamp moment c.key.result.now _ _ one))),
+    )
+
+pub returns-in_err-close-clause-step : goal.returns-in_err-close-clause-step
+returns-in_err-close-clause-step g c = step_fails (state g.S.Store c.args.tx.now.conn.now) (state g.S.Store c.loop-x.tx.conn.now) (state g.S.Store c.close.new.tx.conn.now) _ c.from_residual.ensures.0 c.loop-x.invariant.1 c.close.ensures.step
+
+pub returns-clause-step : goal.returns-clause-step
+returns-clause-step g c =
+    let all : take c.loop-x.x-index c.args.put.now ≡ c.args.put.now = grind (arith, common_steps) in
+    let stamp : to_z w64 (of_z w64 c.args.stamp) ≡ c.args.stamp = search rules in
+    step_says (state g.S.Store c.args.tx.now.conn.now) (state g.S.Store c.loop-x.tx.conn.now) (Ok tt) c.loop-x.invariant.1 (λ clean far.
+    subst (λ l. Closes g.X.Versioned.reading (λ x. list_any (g.X.Closable.has x) (map g.P.HasKey.key l)) c.args.stamp (state g.S.Store c.args.tx.now.conn.now).now (state g.S.Store c.loop-x.tx.conn.now).now) all
+    (subst (λ m. Closes g.X.Versioned.reading (λ x. list_any (g.X.Closable.has x) (map g.P.HasKey.key (take c.loop-x.x-index c.args.put.now))) m (state g.S.Store c.args.tx.now.conn.now).now (state g.S.Store c.loop-x.tx.conn.now).now) stamp far))

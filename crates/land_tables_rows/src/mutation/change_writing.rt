@@ -1,0 +1,46 @@
+//! Mutations.
+ghost use Rattle.std.specs.Prelude.{◌≡◌, ℕ, nat_eq, IsTrue};
+ghost use Rattle.land_core.specs.Numbers.{is_number};
+ghost use Rattle.land_core.specs.declared.mutation.MutationRecord.{MutationRecord};
+ghost use Rattle.land_tables_rows.specs.Mutation.Cells.{fits_mutation};
+ghost use Rattle.land_tables_rows.specs.Mutation.Writing.{mutations};
+
+use crate::mutation::writing;
+use crate::change_writing::versioned::{Closable, Versioned};
+use land_core::limits::is_number;
+use land_core::mutation::MutationRecord;
+use sqlite::{Alter, Error, Transaction};
+use std::alloc::Global;
+
+impl Versioned for (u64, MutationRecord) {
+    ghost reading = { mutations };
+
+    ghost fits = { fits_mutation };
+
+    fn fits(&self) -> bool {
+        writing::fits(self.0, &self.1)
+    }
+
+    fn begin<S: Alter>(
+        &self,
+        alloc: Global,
+        tx: &mut Transaction<'_, S>,
+        since: i64,
+    ) -> Result<usize, Error> {
+        writing::begin(alloc, tx, self.0, &self.1, since)
+    }
+}
+
+impl Closable<u64> for (u64, MutationRecord) {
+    ghost has = { λ e number. nat_eq e.0 number };
+
+    ghost fits_key = { is_number };
+
+    fn fits_key(key: &u64) -> bool {
+        is_number(*key)
+    }
+
+    fn close<S: Alter>(tx: &mut Transaction<'_, S>, key: &u64, stamp: i64) -> Result<usize, Error> {
+        writing::close(tx, *key, stamp)
+    }
+}

@@ -1,0 +1,29 @@
+//! Links of mutations to units.
+ghost use Rattle.std.specs.Prelude.{◌≡◌, IsTrue};
+ghost use Rattle.land_tables_history.specs.declared.naming.Naming.{Naming};
+ghost use Rattle.land_tables_rows.specs.Naming.Writing.{fits_naming, namings};
+
+use crate::naming::writing;
+use crate::change_writing::versioned::Versioned;
+use land_tables_history::naming::Naming;
+use sqlite::{Alter, Error, Transaction};
+use std::alloc::Global;
+
+impl Versioned for Naming {
+    ghost reading = { namings };
+
+    ghost fits = { fits_naming };
+
+    fn fits(&self) -> bool {
+        writing::fits(*self)
+    }
+
+    fn begin<S: Alter>(
+        &self,
+        _alloc: Global,
+        tx: &mut Transaction<'_, S>,
+        since: i64,
+    ) -> Result<usize, Error> {
+        writing::begin(tx, *self, since)
+    }
+}

@@ -1,5 +1,0 @@
-use Rattle.land_tables_schema.proofs.KnownSchemas.{known_schemas}
-use Rattle.land_tables_schema.proofs.laws.schemas_may_be_known.Goals as goal
-
-pub returns : goal.returns
-returns c = known_schemas

@@ -1,5 +1,0 @@
-use Rattle.land_tables_schema.proofs.Texts.{texts_define}
-use Rattle.land_tables_schema.proofs.laws.texts_define_the_tables.Goals as goal
-
-pub returns : goal.returns
-returns c = texts_define

@@ -1,5 +1,0 @@
-use Rattle.land_wire.proofs.Readings.{bodies_do_not_count}
-use Rattle.land_wire.proofs.laws.bodies_of_reads_do_not_count.Goals as goal
-
-pub returns : goal.returns
-returns c = bodies_do_not_count

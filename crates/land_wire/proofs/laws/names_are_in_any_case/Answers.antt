@@ -1,5 +1,0 @@
-use Rattle.land_wire.proofs.FieldNames.{names_in_any_case}
-use Rattle.land_wire.proofs.laws.names_are_in_any_case.Goals as goal
-
-pub returns : goal.returns
-returns c = names_in_any_case

@@ -1,5 +1,0 @@
-use Rattle.land_wire_json.proofs.ContentReading.{content_is_read}
-use Rattle.land_wire_json.proofs.bodies.laws.contents_are_read.Goals as goal
-
-pub returns : goal.returns
-returns c = content_is_read c.compact_texts_are_read.ensures c.fractions_stay.ensures c.printed_rings.ensures c.one_answer.ensures c.outlines_have_their_answers.ensures

@@ -1,4 +1,0 @@
-use Rattle.land_wire_json.proofs.texts.object.write_as_shown.Goals as goal
-
-pub returns-in-Mutation : goal.returns-in-Mutation
-returns-in-Mutation c = rw c.in-Mutation.is c.write_mutation.ensures
