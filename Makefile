@@ -14,7 +14,7 @@ build: ## prove and build the program (./land --prove); 44 to 67 minutes on four
 	./land --prove
 
 test: ## prove and run the tests (rt test in the three crates that have them); builds the libraries below them first
-	@for crate in land_test_run_register land_test_run_desk land_test_run_store; do (cd "crates/$$crate" && rt test) || exit; done
+	@for crate in tests_model tests_http tests_store; do (cd "crates/$$crate" && rt test) || exit; done
 
 gate: ## check everything (.ci/run): proofs from scratch, mutants, tests, release, docs; 68 minutes on four idle cores
 	.ci/run

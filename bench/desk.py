@@ -17,9 +17,9 @@ import time
 
 from registers import OPEN, sql_of
 
-LOOKUPS = sql_of("land_select_joins/src/lookups/texts.rt")
+LOOKUPS = sql_of("land_select_queries/src/lookups/texts.rt")
 EVERY, OWN, HOLDER, GROUP, CREDITOR, LODGER, NAMED = (
-    sql_of(f"land_select_joins/src/joins/{name}.rt") for name in ("all", "own", "holder", "group", "creditor", "lodger", "named"))
+    sql_of(f"land_select_queries/src/joins/{name}.rt") for name in ("all", "own", "holder", "group", "creditor", "lodger", "named"))
 KINDS = {"parties": "PARTY", "units": "UNIT", "parcels": "PARCEL", "rrrs": "ENTRY", "mutations": "MUTATION"}
 ALL = {"PARTY": "PARTIES", "UNIT": "UNITS", "PARCEL": "PARCELS", "ENTRY": "ENTRIES", "MUTATION": "MUTATIONS"}
 SIGHT = {

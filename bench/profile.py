@@ -72,7 +72,7 @@ OPENING = {
     "decoding rows": "land_tables::shaped land_tables_rows",
     "reading outlines and contents": "land_wire_json land_shape",
     "comparing rowids": "land_tables_rows::rowids",
-    "validating the history": "land_tables::judging land_tables_history land_tables_lawful",
+    "validating the history": "land_tables::judging land_tables_history land_tables_validity",
 }
 
 

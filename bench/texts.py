@@ -15,8 +15,8 @@ LAST = OPEN - 1
 SELECTIONS = ("all", "own", "holder", "group", "creditor", "lodger", "named")
 TABLES = ("member", "moments", "mutation", "names", "parcel", "party", "role", "rrr", "source", "unit")
 
-STATEMENTS = sql_of("land_select_joins/src/lookups/texts.rt")
-for folder, names in (("land_select_joins/src/joins", SELECTIONS), ("land_tables_schema/src/rows/tables", TABLES)):
+STATEMENTS = sql_of("land_select_queries/src/lookups/texts.rt")
+for folder, names in (("land_select_queries/src/joins", SELECTIONS), ("land_tables_schema/src/rows/tables", TABLES)):
     for file in names:
         STATEMENTS.update({f"{file}/{name}": sql for name, sql in sql_of(f"{folder}/{file}.rt").items()})
 

@@ -14,7 +14,7 @@ from land_mirror.generate import generate, translate      # noqa: E402
 from land_mirror.rattle import KINDS, Policy, Unexpected   # noqa: E402
 
 CRATES = os.path.join(TOP, "crates")
-JOINS, RULES = "land_select_joins/src/joins", "land_rules/src"
+JOINS, RULES = "land_select_queries/src/joins", "land_rules/src"
 # (file, old, new): changes of the sources at which it has to stop.
 CHANGES = [
     (f"{JOINS}/holder.rt", "SELECT unit FROM rrr", "SELECT DISTINCT unit FROM rrr"),
@@ -29,18 +29,18 @@ CHANGES = [
     (f"{JOINS}/text.rt", "Selection::Itself => own::ITSELF,", "Selection::Itself => own::ITSELF_AGAIN,"),
     (f"{JOINS}/text.rt", "Selection::Itself => own::ITSELF,", "Selection::Itself => own::GROUPS,"),
     (f"{JOINS}/text.rt", "        Selection::LodgedParties => lodger::PARTIES,\n", ""),
-    ("land_select_joins/src/sights/sight.rt", "Kind::Source => &[],\n        Kind::Mutation => &[Selection::HeldMutations",
+    ("land_select_queries/src/sights/sight.rt", "Kind::Source => &[],\n        Kind::Mutation => &[Selection::HeldMutations",
      "Kind::Mutation => &[Selection::HeldMutations"),
-    ("land_select_joins/src/sights/sight.rt", "Role::Bank => by_credit(kind),", "Role::Bank => by_credit(kind, true),"),
-    ("land_select_joins/src/sights/sight.rt", "Selection::CreditUnits", "Selection::Credits"),
-    ("land_select_joins/src/sights/sight.rt", "        Role::Bank => by_credit(kind),\n", ""),
+    ("land_select_queries/src/sights/sight.rt", "Role::Bank => by_credit(kind),", "Role::Bank => by_credit(kind, true),"),
+    ("land_select_queries/src/sights/sight.rt", "Selection::CreditUnits", "Selection::Credits"),
+    ("land_select_queries/src/sights/sight.rt", "        Role::Bank => by_credit(kind),\n", ""),
     (f"{JOINS}/sight.rt", "role == Role::Citizen && !sees_all(role, kind)", "role != Role::Bank && !sees_all(role, kind)"),
     (f"{RULES}/denials/sight.rt", "Kind::Rrr => 16", "Kind::Rrr => 8 + 8"),
     (f"{RULES}/denials/sight.rt", "Verdict::Denied(27)", "Verdict::Denied(26)"),
     (f"{RULES}/denials/sight.rt", "number == caller.party", "number != caller.party"),
     (f"{RULES}/rules/standing.rt", "past && is_of_the_present(caller)", "is_of_the_present(caller)"),
     (f"{RULES}/rules/standing.rt", "caller.role == Role::Bank\n", "caller.role != Role::Bank\n"),
-    ("land_select_joins/src/lookups/texts.rt", "FROM mandate WHERE agent = ?1", "FROM mandate WHERE principal = ?1"),
+    ("land_select_queries/src/lookups/texts.rt", "FROM mandate WHERE agent = ?1", "FROM mandate WHERE principal = ?1"),
     ("land_core/src/words.rt", 'Role::Bank => "bank"', 'Role::Bank => bank_word()'),
 ]
 

@@ -21,7 +21,7 @@ use Rattle.land_rules.specs.Rules.{sees}
 use Rattle.land_select.proofs.ShownByInterest.{only_where}
 use Rattle.land_select.proofs.Viewed.{agreed}
 use Rattle.land_select.specs.Views.{pending_entries, visible_rrrs}
-use Rattle.land_select_joins.proofs.Standing.{entry_there}
+use Rattle.land_select_queries.proofs.Standing.{entry_there}
 
 -- ---- a unit
 

@@ -20,7 +20,7 @@ use Rattle.land_select.specs.Cache.{IsValueOf, IsValueFor, IsCacheOf, IsObjectVa
 use Rattle.land_select.specs.declared.cache.CachedValue.{CachedValue}
 use Rattle.land_select.specs.declared.cache.CachedValue.TheVariants as found
 use Rattle.land_select.specs.declared.cache.Cache.{Cache}
-use Rattle.land_select_joins.specs.Lookups.Parts.{ReadsPart}
+use Rattle.land_select_queries.specs.Lookups.Parts.{ReadsPart}
 use Rattle.sqlite_trees.specs.Tree.{Trees}
 
 -- a part of a register, with nothing cached

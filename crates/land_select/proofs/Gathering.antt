@@ -27,7 +27,7 @@ use Rattle.land_select.specs.Slices.Gathered.{KnowsUnits, KnowsSources, KnowsPar
 use Rattle.land_select.specs.declared.slices.units_and_entries.UnitsAndEntries.{UnitsAndEntries}
 use Rattle.land_select.specs.declared.slices.gathered_sources.GatheredSources.{GatheredSources}
 use Rattle.land_select.specs.declared.slices.parties_and_roles.PartiesAndRoles.{PartiesAndRoles}
-use Rattle.land_select_joins.proofs.Containing.{first, first_or_later, in_nothing, later}
+use Rattle.land_select_queries.proofs.Containing.{first, first_or_later, in_nothing, later}
 
 -- ---- truths
 

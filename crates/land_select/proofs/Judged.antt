@@ -21,7 +21,7 @@ use Rattle.land_rules.specs.declared.verdict.Verdict.{Verdict}
 use Rattle.land_rules.specs.declared.verdict.Verdict.TheVariants.{Allowed, Denied}
 use Rattle.land_select.proofs.Callers.{put_there}
 use Rattle.land_select.specs.Verdicts.{evidence_in, record_at, roles_in}
-use Rattle.land_select_joins.specs.Lookups.Parts.{ReadsPart}
+use Rattle.land_select_queries.specs.Lookups.Parts.{ReadsPart}
 use Rattle.land_tables_schema.specs.Rows.ReadQueries.{IsStoreRead}
 use Rattle.sqlite.specs.State.{HasCleanDisk, State}
 use Rattle.sqlite_trees.specs.Tree.{Trees}

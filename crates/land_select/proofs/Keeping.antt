@@ -12,7 +12,7 @@ use Rattle.std.specs.declared.cmp.Ordering.{Ordering}
 use Rattle.land_core.proofs.FiniteMaps.{get-lookup, is_equal}
 use Rattle.land_core.proofs.Reflection.{each_there, entries-entries_where}
 use Rattle.land_core.specs.Entries.{entries_where}
-use Rattle.land_select_joins.proofs.Records.{kept_by_filter, passes_filter}
+use Rattle.land_select_queries.proofs.Records.{kept_by_filter, passes_filter}
 
 -- equal up to decidable equality is equal
 same_options : {V : Type 0} (a b : Option V) → ((v : V) → a ≡ Some v → b ≡ Some v) → ((v : V) → b ≡ Some v → a ≡ Some v) → a ≡ b

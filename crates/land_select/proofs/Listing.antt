@@ -29,9 +29,9 @@ use Rattle.land_keep.specs.Named.{named, objects_at}
 use Rattle.land_keep.specs.Sheets.{name_at}
 use Rattle.land_keep.specs.declared.named.NamedObject.{NamedObject}
 use Rattle.land_select.specs.Listing.{ListsAlike}
-use Rattle.land_select_joins.proofs.Containing.{first, first_or_later, in_nothing, later}
-use Rattle.land_select_joins.specs.Lookups.Parties.{has_entry_among, of_range}
-use Rattle.land_select_joins.specs.Lookups.Ranges.{is_within}
+use Rattle.land_select_queries.proofs.Containing.{first, first_or_later, in_nothing, later}
+use Rattle.land_select_queries.specs.Lookups.Parties.{has_entry_among, of_range}
+use Rattle.land_select_queries.specs.Lookups.Ranges.{is_within}
 use Rattle.sqlite_trees.proofs.ListLemmas.{all-append}
 
 -- the numbers in the range are listed alike, so all numbers of a list in it are

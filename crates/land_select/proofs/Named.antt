@@ -17,10 +17,10 @@ use Rattle.land_core.specs.declared.rrr.RrrRecord.{RrrRecord}
 use Rattle.land_keep.specs.Sheets.{visible_entries, name_at, named_rrr}
 use Rattle.land_rules.specs.Rules.{sees}
 use Rattle.land_select.specs.Views.{visible_rrrs, name_among, named_among, with_name}
-use Rattle.land_select_joins.proofs.Containing.{first, first_or_later, in_nothing, later}
-use Rattle.land_select_joins.proofs.Records.{passes_filter}
-use Rattle.land_select_joins.proofs.Standing.{entry_there}
-use Rattle.land_select_joins.specs.Lookups.Parties.{has_entry_in}
+use Rattle.land_select_queries.proofs.Containing.{first, first_or_later, in_nothing, later}
+use Rattle.land_select_queries.proofs.Records.{passes_filter}
+use Rattle.land_select_queries.proofs.Standing.{entry_there}
+use Rattle.land_select_queries.specs.Lookups.Parties.{has_entry_in}
 use Rattle.land_tables_history.specs.declared.version.Version.{Version}
 
 abbrev PartyVersion : Type 0

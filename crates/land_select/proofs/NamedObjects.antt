@@ -33,7 +33,7 @@ use Rattle.land_core.specs.declared.roles.Grant.{Grant}
 use Rattle.land_select.proofs.Keeping.{entry_found, entry_there, is_kept, was_kept}
 use Rattle.land_select.specs.Slices.Gathered.{with_number, with_numbers}
 use Rattle.land_select.specs.Slices.Named.{lists, mandate_of_act, of_mutation, parties_of, parties_of_content, sources_of, units_of, units_of_content}
-use Rattle.land_select_joins.proofs.Containing.{any_decides}
+use Rattle.land_select_queries.proofs.Containing.{any_decides}
 
 -- ---- truths
 

@@ -23,19 +23,19 @@ use Rattle.land_rules.specs.Relations.{holds_under_name, is_member_of}
 use Rattle.land_rules.specs.Rules.{is_allowed, seen_of, sees}
 use Rattle.land_rules.specs.declared.verdict.Verdict.TheVariants.{Allowed, Denied}
 use Rattle.land_select.specs.Parties.{AreOtherNames, AreOwnNames, is_own_name, relation_of}
-use Rattle.land_select_joins.proofs.Circles.{seen_alike}
-use Rattle.land_select_joins.proofs.Containing.{any_decides, first, first_or_later, in_nothing}
-use Rattle.land_select_joins.proofs.Naming.{Joins, member_decides}
-use Rattle.land_select_joins.proofs.Standing.{has_decides}
-use Rattle.land_select_joins.proofs.Views.{plain}
-use Rattle.land_select_joins.specs.Joins.Execution.{AreAll}
-use Rattle.land_select_joins.specs.Lookups.Viewers.{IsViewer}
-use Rattle.land_select_joins.specs.Sights.{AnySelects, selections_of}
-use Rattle.land_select_joins.specs.Sights.Laws.{SelectionsAreTheRules}
-use Rattle.land_select_joins.specs.Sights.Selections.{selects}
-use Rattle.land_select_joins.specs.declared.lookups.relation.Relation.{Relation}
-use Rattle.land_select_joins.specs.declared.lookups.relation.Relation.TheVariants.{Holding}
-use Rattle.land_select_joins.specs.declared.sights.selection.Selection.TheVariants.{Itself, HeldParties, CreditParties, LodgedParties}
+use Rattle.land_select_queries.proofs.Circles.{seen_alike}
+use Rattle.land_select_queries.proofs.Containing.{any_decides, first, first_or_later, in_nothing}
+use Rattle.land_select_queries.proofs.Naming.{Joins, member_decides}
+use Rattle.land_select_queries.proofs.Standing.{has_decides}
+use Rattle.land_select_queries.proofs.Views.{plain}
+use Rattle.land_select_queries.specs.Joins.Execution.{AreAll}
+use Rattle.land_select_queries.specs.Lookups.Viewers.{IsViewer}
+use Rattle.land_select_queries.specs.Sights.{AnySelects, selections_of}
+use Rattle.land_select_queries.specs.Sights.Laws.{SelectionsAreTheRules}
+use Rattle.land_select_queries.specs.Sights.Selections.{selects}
+use Rattle.land_select_queries.specs.declared.lookups.relation.Relation.{Relation}
+use Rattle.land_select_queries.specs.declared.lookups.relation.Relation.TheVariants.{Holding}
+use Rattle.land_select_queries.specs.declared.sights.selection.Selection.TheVariants.{Itself, HeldParties, CreditParties, LodgedParties}
 use Rattle.land_tables_history.specs.History.{IsRegisterAt}
 use Rattle.land_tables_history.specs.declared.history.History.{History}
 

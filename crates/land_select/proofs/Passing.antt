@@ -3,7 +3,7 @@ use Rattle.std.proofs.Common.{◌<◌, ◌||◌, ◌++◌, ◌∙◌, ℕ, ℤ, 
 use Rattle.std.proofs.lemmas.List.Folds.{list_any-append, list_any_at}
 use Rattle.std.specs.List.{list_any}
 use Rattle.land_core.specs.declared.register.Register.{Register}
-use Rattle.land_select_joins.specs.Lookups.Parts.{ReadsPart}
+use Rattle.land_select_queries.specs.Lookups.Parts.{ReadsPart}
 use Rattle.sqlite_trees.specs.Tree.{Trees}
 
 module _ (passes : Register → ℕ → Bool) (t : ℤ) (db : Trees) where

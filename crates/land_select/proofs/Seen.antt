@@ -23,8 +23,8 @@ use Rattle.land_select.specs.Cache.{IsValueFor}
 use Rattle.land_select.specs.Verdicts.{IsVerdictWith}
 use Rattle.land_select.specs.Views.{AgreesIfGiven}
 use Rattle.land_select.specs.declared.cache.CachedValue.{CachedValue}
-use Rattle.land_select_joins.specs.Joins.Sight.{IsSight}
-use Rattle.land_select_joins.specs.Lookups.Parts.{ReadsPart}
+use Rattle.land_select_queries.specs.Joins.Sight.{IsSight}
+use Rattle.land_select_queries.specs.Lookups.Parts.{ReadsPart}
 use Rattle.land_tables.proofs.LookedAt.{IsLookedAt}
 use Rattle.land_tables.proofs.One.{have_members}
 use Rattle.land_tables.proofs.WrittenTimelines.{stays_last}

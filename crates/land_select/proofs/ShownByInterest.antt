@@ -21,14 +21,14 @@ use Rattle.land_rules.specs.Relations.{holds_under_name, is_member_of}
 use Rattle.land_rules.specs.Rules.{sees}
 use Rattle.land_select.proofs.Viewed.{agreed, twice}
 use Rattle.land_select.specs.Views.{visible_rrrs, entries_by_interest}
-use Rattle.land_select_joins.proofs.Containing.{any_decides}
-use Rattle.land_select_joins.proofs.Naming.{Joins, member_decides}
-use Rattle.land_select_joins.proofs.Standing.{entry_there}
-use Rattle.land_select_joins.proofs.United.{contains_both, given_by, given_to}
-use Rattle.land_select_joins.proofs.Views.{plain}
-use Rattle.land_select_joins.specs.Joins.Execution.{AnySelectsFor, AreAll}
-use Rattle.land_select_joins.specs.Sights.{AnySelects}
-use Rattle.land_select_joins.specs.declared.sights.selection.Selection.TheVariants.{ItsGroups}
+use Rattle.land_select_queries.proofs.Containing.{any_decides}
+use Rattle.land_select_queries.proofs.Naming.{Joins, member_decides}
+use Rattle.land_select_queries.proofs.Standing.{entry_there}
+use Rattle.land_select_queries.proofs.United.{contains_both, given_by, given_to}
+use Rattle.land_select_queries.proofs.Views.{plain}
+use Rattle.land_select_queries.specs.Joins.Execution.{AnySelectsFor, AreAll}
+use Rattle.land_select_queries.specs.Sights.{AnySelects}
+use Rattle.land_select_queries.specs.declared.sights.selection.Selection.TheVariants.{ItsGroups}
 use Rattle.land_tables_history.specs.History.{IsRegisterAt}
 use Rattle.land_tables_history.specs.declared.history.History.{History}
 

@@ -3,12 +3,12 @@ use Rattle.std.proofs.Common.{inl, inr, List, [], ◌∷◌, map, sym, subst}
 use Rattle.land_keep.proofs.Timelines.{sound_or_nothing}
 use Rattle.land_keep.specs.Timeline.{register_at}
 use Rattle.land_select.specs.Laws.{AreResultRows, Asked, YieldTogether, SightTextsAreTheRules}
-use Rattle.land_select_joins.proofs.Containing.{first, first_or_later, in_nothing, later}
-use Rattle.land_select_joins.specs.Joins.Meaning.{TextsSelect}
-use Rattle.land_select_joins.specs.Joins.Texts.{text_of}
-use Rattle.land_select_joins.specs.Sights.{AnySelects, selections_of}
-use Rattle.land_select_joins.specs.Sights.Laws.{SelectionsAreTheRules}
-use Rattle.land_select_joins.specs.declared.sights.selection.Selection.{Selection}
+use Rattle.land_select_queries.proofs.Containing.{first, first_or_later, in_nothing, later}
+use Rattle.land_select_queries.specs.Joins.Meaning.{TextsSelect}
+use Rattle.land_select_queries.specs.Joins.Texts.{text_of}
+use Rattle.land_select_queries.specs.Sights.{AnySelects, selections_of}
+use Rattle.land_select_queries.specs.Sights.Laws.{SelectionsAreTheRules}
+use Rattle.land_select_queries.specs.declared.sights.selection.Selection.{Selection}
 use Rattle.land_tables_history.specs.declared.history.History.{History}
 use Rattle.land_tables_history.specs.declared.moment.Moment.{Moment}
 use Rattle.land_tables_rows.specs.Writing.History.{HoldsHistory}

@@ -23,10 +23,10 @@ use Rattle.land_rules.specs.Laws.{SeenListsAreExact}
 use Rattle.land_rules.specs.Laws.{IsSoundOrNothing}
 use Rattle.land_rules.specs.Rules.{seen_of, sees}
 use Rattle.land_select.specs.Views.{AgreesWithRegister, visible_rrrs, named_at, view_from}
-use Rattle.land_select_joins.proofs.Containing.{first, later}
-use Rattle.land_select_joins.proofs.Standing.{entry_there}
-use Rattle.land_select_joins.specs.Joins.Sight.{IsSight}
-use Rattle.land_select_joins.specs.Lookups.Parts.{ReadsPart}
+use Rattle.land_select_queries.proofs.Containing.{first, later}
+use Rattle.land_select_queries.proofs.Standing.{entry_there}
+use Rattle.land_select_queries.specs.Joins.Sight.{IsSight}
+use Rattle.land_select_queries.specs.Lookups.Parts.{ReadsPart}
 use Rattle.land_tables.proofs.Members.{no_members, sound_members}
 use Rattle.land_tables_history.specs.Groups.{HaveMembers}
 use Rattle.sqlite_trees.specs.Tree.{Trees}

@@ -16,7 +16,7 @@ use Rattle.land_select.specs.Views.{visible_rrrs}
 use Rattle.land_select.specs.declared.cache.CachedValue.{CachedValue}
 use Rattle.land_select.specs.declared.cache.CachedValue.TheVariants as found
 use Rattle.land_select.specs.declared.cache.Cache.{Cache}
-use Rattle.land_select_joins.specs.Joins.Execution.{HoldsOfHistory}
+use Rattle.land_select_queries.specs.Joins.Execution.{HoldsOfHistory}
 use Rattle.land_tables_history.specs.History.{IsRegisterAt}
 use Rattle.sqlite_trees.specs.Tree.{Trees}
 

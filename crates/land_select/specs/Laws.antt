@@ -9,9 +9,9 @@ use Rattle.land_keep.specs.Moments.{IsMoment}
 use Rattle.land_keep.specs.Timeline.{IsSoundTimeline, Timeline, register_at}
 use Rattle.land_rules.specs.CircleLaws.{without_mandates}
 use Rattle.land_rules.specs.Rules.{seen_of}
-use Rattle.land_select_joins.specs.Joins.Meaning.{command_in, given}
-use Rattle.land_select_joins.specs.Joins.Texts.{text_of}
-use Rattle.land_select_joins.specs.Sights.{selections_of}
+use Rattle.land_select_queries.specs.Joins.Meaning.{command_in, given}
+use Rattle.land_select_queries.specs.Joins.Texts.{text_of}
+use Rattle.land_select_queries.specs.Sights.{selections_of}
 use Rattle.land_tables.specs.Standing.{HoldsTimeline}
 use Rattle.land_tables_schema.specs.Schemas.{schema_v2_with}
 use Rattle.sqlite.specs.Effect.{Reads}

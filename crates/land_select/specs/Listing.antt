@@ -3,8 +3,8 @@ use Rattle.std.specs.Prelude.{◌≡◌, ℕ, ℤ, true}
 use Rattle.land_core.specs.declared.kind.Kind.{Kind}
 use Rattle.land_core.specs.declared.register.Register.{Register}
 use Rattle.land_keep.specs.Named.{named_at}
-use Rattle.land_select_joins.specs.Joins.Execution.{HoldsOfHistory}
-use Rattle.land_select_joins.specs.Lookups.Ranges.{is_within}
+use Rattle.land_select_queries.specs.Joins.Execution.{HoldsOfHistory}
+use Rattle.land_select_queries.specs.Lookups.Ranges.{is_within}
 use Rattle.land_tables_history.specs.Groups.{HaveMembers}
 use Rattle.land_tables_history.specs.History.{IsRegisterAt}
 use Rattle.sqlite_trees.specs.Tree.{Trees}

@@ -9,10 +9,10 @@ use Rattle.land_core.specs.declared.role.Role.{Role}
 use Rattle.land_core.specs.declared.role.Role.TheVariants.{Citizen, Conveyancer, Notary, Bank}
 use Rattle.land_core.specs.declared.role.Role.TheVariants.{CertifiedSurveyor, StateAdministrator}
 use Rattle.land_rules.specs.Circles.{circle_of, is_name_of}
-use Rattle.land_select_joins.specs.Joins.Execution.{HoldsOfHistory}
-use Rattle.land_select_joins.specs.declared.lookups.relation.Relation.{Relation}
-use Rattle.land_select_joins.specs.declared.lookups.relation.Relation.TheVariants.{Holding, Crediting}
-use Rattle.land_select_joins.specs.declared.lookups.relation.Relation.TheVariants.{Awaiting}
+use Rattle.land_select_queries.specs.Joins.Execution.{HoldsOfHistory}
+use Rattle.land_select_queries.specs.declared.lookups.relation.Relation.{Relation}
+use Rattle.land_select_queries.specs.declared.lookups.relation.Relation.TheVariants.{Holding, Crediting}
+use Rattle.land_select_queries.specs.declared.lookups.relation.Relation.TheVariants.{Awaiting}
 use Rattle.land_tables_history.specs.History.{IsRegisterAt}
 use Rattle.sqlite_trees.specs.Tree.{Trees}
 

@@ -19,7 +19,7 @@ use Rattle.land_rules.specs.Rules.{verdict_of}
 use Rattle.land_rules.specs.declared.verdict.Verdict.{Verdict}
 use Rattle.land_select.specs.Cache.{IsValueFor}
 use Rattle.land_select.specs.declared.cache.CachedValue.{CachedValue}
-use Rattle.land_select_joins.specs.Joins.Execution.{HoldsOfHistory}
+use Rattle.land_select_queries.specs.Joins.Execution.{HoldsOfHistory}
 use Rattle.land_tables_history.specs.History.{IsRegisterAt}
 use Rattle.sqlite_trees.specs.Tree.{Trees}
 

@@ -21,7 +21,7 @@ use Rattle.land_rules.specs.Denials.Interests.{AreNamesOf, Entries, interest_of,
 use Rattle.land_rules.specs.Laws.{IsSoundOrNothing}
 use Rattle.land_rules.specs.Relations.{has_pending_mutation_on}
 use Rattle.land_rules.specs.Rules.{sees}
-use Rattle.land_select_joins.specs.Joins.Execution.{HoldsOfHistory}
+use Rattle.land_select_queries.specs.Joins.Execution.{HoldsOfHistory}
 use Rattle.land_tables_history.specs.History.{IsRegisterAt}
 use Rattle.land_tables_history.specs.declared.version.Version.{Version}
 use Rattle.sqlite_trees.specs.Tree.{Trees}

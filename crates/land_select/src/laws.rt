@@ -1,8 +1,8 @@
 //! Laws, each stated on definitions only.
 ghost use Rattle.land_select.specs.Laws.{SightTextsAreTheRules};
 
-use land_select_joins::joins::laws::texts_select;
-use land_select_joins::sights::laws::selections_are_the_rules;
+use land_select_queries::joins::laws::texts_select;
+use land_select_queries::sights::laws::selections_are_the_rules;
 
 /// States that the SQL statements of a role's sight of a kind, on tables that hold a sound timeline and with
 /// any indexes, together return exactly the numbers that the policy, without mandates, lets the caller see at

@@ -4,7 +4,7 @@ ghost use Rattle.std.specs.Prelude.{◌≡◌};
 use crate::query::Query;
 use land_core::kind::Kind;
 use land_core::object::Object;
-use land_select_joins::lookups::objects::object;
+use land_select_queries::lookups::objects::object;
 use land_tables_rows::listing::fault::ReadFault;
 use sqlite::{Alter, Connection};
 use std::alloc::Global;
@@ -22,7 +22,7 @@ pub(crate) struct ObjectQuery {
 
 impl Query<Option<Object>> for ObjectQuery {
     ghost use Rattle.land_core.specs.Register.{object_at};
-    ghost use Rattle.land_select_joins.specs.Lookups.Parts.{ReadsPart};
+    ghost use Rattle.land_select_queries.specs.Lookups.Parts.{ReadsPart};
 
     ghost results = { λ it db found. ReadsPart (λ r. object_at r it.kind it.number) it.moment db found };
 

@@ -9,9 +9,9 @@ ghost use Rattle.land_core.specs.declared.kind.Kind.TheVariants as kinds;
 ghost use Rattle.land_core.specs.declared.register.Register.{Register as Whole};
 ghost use Rattle.land_keep.specs.Named.{objects_at};
 ghost use Rattle.land_select.specs.Listing.{ListsAlike, ListsRange};
-ghost use Rattle.land_select_joins.specs.Lookups.Parts.{ReadsPart};
-ghost use Rattle.land_select_joins.specs.Lookups.Ranges.{is_within};
-ghost use Rattle.land_select_joins.specs.TableReads.{ReadsTables};
+ghost use Rattle.land_select_queries.specs.Lookups.Parts.{ReadsPart};
+ghost use Rattle.land_select_queries.specs.Lookups.Ranges.{is_within};
+ghost use Rattle.land_select_queries.specs.TableReads.{ReadsTables};
 ghost use Rattle.land_tables_history.specs.declared.version.Version.{Version as Spanned};
 ghost use Rattle.land_tables_schema.specs.Connections.{HasRegisterTables, LeavesAutocommit};
 
@@ -28,9 +28,9 @@ use land_core::sequence::Sequence;
 use land_core::source::SourceRecord;
 use land_core::unit::UnitRecord;
 use land_keep::named::{NamedObject, objects_of};
-use land_select_joins::lookups::numbered::Numbered;
-use land_select_joins::lookups::of_entries::parties_within;
-use land_select_joins::lookups::within::records;
+use land_select_queries::lookups::numbered::Numbered;
+use land_select_queries::lookups::of_entries::parties_within;
+use land_select_queries::lookups::within::records;
 use land_tables_history::version::Version;
 use land_tables_rows::listing::fault::ReadFault;
 use land_tables_rows::reading::from_row::FromRow;
@@ -245,7 +245,7 @@ pub(crate) struct ObjectsQuery<'a> {
 
 impl Query<Sequence<NamedObject>> for ObjectsQuery<'_> {
     ghost use Rattle.land_keep.specs.Named.{objects_at};
-    ghost use Rattle.land_select_joins.specs.Lookups.Parts.{ReadsPart};
+    ghost use Rattle.land_select_queries.specs.Lookups.Parts.{ReadsPart};
 
     ghost results = { λ it db found. ReadsPart (λ r. objects_at r it.kind it.numbers.now) it.moment db found };
 

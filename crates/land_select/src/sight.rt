@@ -5,7 +5,7 @@ use crate::query::Query;
 use land_core::caller::Caller;
 use land_core::kind::Kind;
 use land_core::sequence::NumberList;
-use land_select_joins::joins::sight::sight;
+use land_select_queries::joins::sight::sight;
 use land_tables_rows::listing::fault::ReadFault;
 use sqlite::{Alter, Connection};
 use std::alloc::Global;
@@ -22,7 +22,7 @@ pub(crate) struct SightQuery {
 }
 
 impl Query<NumberList> for SightQuery {
-    ghost use Rattle.land_select_joins.specs.Joins.Sight.{IsSight};
+    ghost use Rattle.land_select_queries.specs.Joins.Sight.{IsSight};
 
     ghost results = { λ it db numbers. IsSight it.caller it.kind it.moment db numbers };
 

@@ -3,12 +3,12 @@ ghost use Rattle.std.specs.Prelude.{◌≡◌, map};
 ghost use Rattle.land_core.specs.declared.kind.Kind.TheVariants as kinds;
 ghost use Rattle.land_core.specs.declared.role.Role.TheVariants as roles;
 ghost use Rattle.land_select.specs.Laws.{sight_texts};
-ghost use Rattle.land_select_joins.specs.Joins.Texts.{text_of};
-ghost use Rattle.land_select_joins.specs.Sights.{selections_of};
+ghost use Rattle.land_select_queries.specs.Joins.Texts.{text_of};
+ghost use Rattle.land_select_queries.specs.Sights.{selections_of};
 
 use land_core::kind::Kind;
 use land_core::role::Role;
-use land_select_joins::joins::{all, creditor, group, holder, lodger, named, own};
+use land_select_queries::joins::{all, creditor, group, holder, lodger, named, own};
 
 /// Returns the statement that selects all objects of a kind.
 fn all_texts(kind: Kind) -> &'static [&'static str]

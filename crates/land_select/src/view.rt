@@ -9,8 +9,8 @@ ghost use Rattle.land_keep.specs.Sheets.{visible_entries, parcels_at, numbered_p
 ghost use Rattle.land_select.specs.Cache.{IsValueOf, IsObjectValueOf};
 ghost use Rattle.land_select.specs.Views.{AgreesWithRegister, AgreesIfGiven, visible_rrrs, name_among, named_among};
 ghost use Rattle.land_select.specs.Views.{named_at, view_from, with_name};
-ghost use Rattle.land_select_joins.specs.Lookups.Parts.{ReadsPart};
-ghost use Rattle.land_select_joins.specs.TableReads.{ReadsTables};
+ghost use Rattle.land_select_queries.specs.Lookups.Parts.{ReadsPart};
+ghost use Rattle.land_select_queries.specs.TableReads.{ReadsTables};
 ghost use Rattle.land_tables_schema.specs.Connections.{HasRegisterTables, IsUsable, LeavesAutocommit};
 
 use crate::cache::CachedValue;
@@ -36,9 +36,9 @@ use land_rules::denials::laws::{
 };
 use land_rules::denials::sight::{sees_all, sees_by_pending};
 use land_rules::laws::seen_lists_are_exact;
-use land_select_joins::joins::sight::sight;
-use land_select_joins::lookups::of_entries::parties;
-use land_select_joins::lookups::{by_number, of_unit};
+use land_select_queries::joins::sight::sight;
+use land_select_queries::lookups::of_entries::parties;
+use land_select_queries::lookups::{by_number, of_unit};
 use land_shape::Ring;
 use land_tables_history::version::Version;
 use land_tables_rows::listing::fault::ReadFault;

@@ -7,7 +7,7 @@ use Rattle.std.proofs.lemmas.Bool.{and_parts}
 use Rattle.land_keep.specs.Moments.{last_moment}
 use Rattle.land_tables_history.specs.Moments.{follows, last, latest_from}
 use Rattle.land_tables_history.specs.declared.moment.Moment.{Moment}
-use Rattle.land_tables_lawful.specs.CoverageSpans.{are_in_range}
+use Rattle.land_tables_validity.specs.CoverageSpans.{are_in_range}
 
 abbrev are_upto : ℤ → List Moment → Bool
 are_upto t ms = list_all (λ m. int_le m.stamp t) ms

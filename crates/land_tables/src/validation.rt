@@ -11,7 +11,7 @@ use land_core::limits::LAST_MOMENT;
 use land_tables_history::intervals::has_intervals;
 use land_tables_history::moment::Moment;
 use land_tables_history::moments::last;
-use land_tables_lawful::valid_history::is_valid_history;
+use land_tables_validity::valid_history::is_valid_history;
 use land_tables_rows::edition::reading::Edition;
 use std::alloc::Global;
 

@@ -12,11 +12,11 @@ KINDS = {"Party": "party", "Unit": "unit", "Parcel": "parcel", "Rrr": "rrr", "So
 STATEMENTS = 23
 
 # Where each part of the policy is: file, below the folder of the crates.
-TEXTS = "land_select_joins/src/joins"
-TEXT_OF = "land_select_joins/src/joins/text.rt"
-SIGHT = "land_select_joins/src/sights/sight.rt"
-CIRCLE = "land_select_joins/src/joins/sight.rt"
-LOOKUPS = "land_select_joins/src/lookups/texts.rt"
+TEXTS = "land_select_queries/src/joins"
+TEXT_OF = "land_select_queries/src/joins/text.rt"
+SIGHT = "land_select_queries/src/sights/sight.rt"
+CIRCLE = "land_select_queries/src/joins/sight.rt"
+LOOKUPS = "land_select_queries/src/lookups/texts.rt"
 DENIALS = "land_rules/src/denials/sight.rt"
 STANDING = "land_rules/src/rules/standing.rt"
 WORDS = "land_core/src/words.rt"

@@ -19,7 +19,7 @@ use Rattle.land_select.specs.declared.slices.units_and_entries.UnitsAndEntries.{
 use Rattle.land_select.specs.declared.slices.gathered_sources.GatheredSources.{GatheredSources}
 use Rattle.land_select.specs.declared.slices.parties_and_roles.PartiesAndRoles.{PartiesAndRoles}
 use Rattle.land_select.specs.declared.slices.slice.Known.{Known}
-use Rattle.land_select_joins.specs.Joins.Execution.{HoldsOfHistory}
+use Rattle.land_select_queries.specs.Joins.Execution.{HoldsOfHistory}
 use Rattle.land_tables_history.specs.Groups.{HaveMembers}
 use Rattle.land_tables_history.specs.History.{IsRegisterAt}
 use Rattle.sqlite_trees.specs.Tree.{Trees}

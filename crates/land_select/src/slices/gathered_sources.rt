@@ -7,7 +7,7 @@ use crate::slices::gathers::Gathers;
 use crate::slices::parties_and_roles::put_one;
 use land_core::records::Records;
 use land_core::source::SourceRecord;
-use land_select_joins::lookups::by_number;
+use land_select_queries::lookups::by_number;
 use land_tables_rows::listing::fault::ReadFault;
 use sqlite::{Alter, Connection};
 use std::alloc::{AllocError, Global};

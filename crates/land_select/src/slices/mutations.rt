@@ -2,8 +2,8 @@
 ghost use Rattle.std.specs.Prelude.{nat_eq};
 ghost use Rattle.land_acts.specs.Slices.{mutations_in_slice};
 ghost use Rattle.land_core.specs.Entries.{entries_where};
-ghost use Rattle.land_select_joins.specs.Lookups.Parts.{ReadsPart};
-ghost use Rattle.land_select_joins.specs.TableReads.{ReadsTables};
+ghost use Rattle.land_select_queries.specs.Lookups.Parts.{ReadsPart};
+ghost use Rattle.land_select_queries.specs.TableReads.{ReadsTables};
 ghost use Rattle.land_tables_schema.specs.Connections.{HasRegisterTables, IsUsable, LeavesAutocommit};
 
 use crate::slices::parties_and_roles::put_one;
@@ -11,7 +11,7 @@ use land_core::act::Act;
 use land_core::caller::Caller;
 use land_core::mutation::MutationRecord;
 use land_core::records::Records;
-use land_select_joins::lookups::{by_number, of_lodger};
+use land_select_queries::lookups::{by_number, of_lodger};
 use land_tables_rows::listing::fault::ReadFault;
 use sqlite::{Alter, Connection};
 use std::alloc::Global;

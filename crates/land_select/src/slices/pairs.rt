@@ -3,14 +3,14 @@ ghost use Rattle.std.specs.Prelude.{◌≡◌, IfOk};
 ghost use Rattle.land_acts.specs.Slices.{is_same_mandate, names_mandate};
 ghost use Rattle.land_core.specs.Entries.{entries_where};
 ghost use Rattle.land_select.specs.Slices.Named.{mandate_of_act};
-ghost use Rattle.land_select_joins.specs.Lookups.Parts.{ReadsPart};
-ghost use Rattle.land_select_joins.specs.TableReads.{ReadsTables};
+ghost use Rattle.land_select_queries.specs.Lookups.Parts.{ReadsPart};
+ghost use Rattle.land_select_queries.specs.TableReads.{ReadsTables};
 ghost use Rattle.land_tables_schema.specs.Connections.{HasRegisterTables, IsUsable, LeavesAutocommit};
 
 use land_core::act::Act;
 use land_core::caller::Caller;
 use land_core::mandates::{Mandate, Mandates};
-use land_select_joins::lookups::of_agent;
+use land_select_queries::lookups::of_agent;
 use land_tables_rows::listing::fault::ReadFault;
 use sqlite::{Alter, Connection};
 use std::alloc::{AllocError, Global};

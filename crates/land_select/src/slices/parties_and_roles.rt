@@ -3,7 +3,7 @@ ghost use Rattle.std.specs.Prelude.{◌≡◌, ℕ, Bool, IfOk};
 ghost use Rattle.std.specs.FinMap as map;
 ghost use Rattle.land_select.specs.Slices.Gathered.{HoldsOfRegister, KnowsParties, put_all, put_one, with_number};
 ghost use Rattle.land_select.specs.Slices.Gathered.{with_party};
-ghost use Rattle.land_select_joins.specs.TableReads.{ReadsTables};
+ghost use Rattle.land_select_queries.specs.TableReads.{ReadsTables};
 ghost use Rattle.land_tables_schema.specs.Connections.{HasRegisterTables, LeavesAutocommit};
 
 use crate::slices::gathers::Gathers;
@@ -12,7 +12,7 @@ use land_core::member::Members;
 use land_core::party::PartyRecord;
 use land_core::records::Records;
 use land_core::roles::Roles;
-use land_select_joins::lookups::{by_number, of_group, of_party};
+use land_select_queries::lookups::{by_number, of_group, of_party};
 use land_tables_rows::listing::fault::ReadFault;
 use sqlite::{Alter, Connection};
 use std::alloc::{AllocError, Global};

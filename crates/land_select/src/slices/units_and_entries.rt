@@ -2,7 +2,7 @@
 ghost use Rattle.std.specs.FinMap as map;
 ghost use Rattle.std.specs.Prelude.{◌≡◌, ℕ, Bool, IfOk};
 ghost use Rattle.land_select.specs.Slices.Gathered.{HoldsOfRegister, KnowsUnits, with_number, with_unit};
-ghost use Rattle.land_select_joins.specs.TableReads.{ReadsTables};
+ghost use Rattle.land_select_queries.specs.TableReads.{ReadsTables};
 ghost use Rattle.land_tables_schema.specs.Connections.{HasRegisterTables, LeavesAutocommit};
 
 use crate::slices::gathers::Gathers;
@@ -11,7 +11,7 @@ use land_core::parcel::ParcelRecord;
 use land_core::records::Records;
 use land_core::rrr::RrrRecord;
 use land_core::unit::UnitRecord;
-use land_select_joins::lookups::{by_number, of_unit};
+use land_select_queries::lookups::{by_number, of_unit};
 use land_tables_rows::listing::fault::ReadFault;
 use sqlite::{Alter, Connection};
 use std::alloc::{AllocError, Global};

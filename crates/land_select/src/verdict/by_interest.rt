@@ -1,7 +1,7 @@
 //! Visibility of an object by the caller's interest in a unit.
 ghost use Rattle.land_rules.specs.Denials.Interests.{is_shown_by_interest};
 ghost use Rattle.land_select.specs.Cache.{IsFactWith};
-ghost use Rattle.land_select_joins.specs.TableReads.{ReadsTables};
+ghost use Rattle.land_select_queries.specs.TableReads.{ReadsTables};
 ghost use Rattle.land_tables_schema.specs.Connections.{HasRegisterTables, IsUsable, LeavesAutocommit};
 
 use crate::cache::CachedValue;

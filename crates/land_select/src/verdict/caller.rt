@@ -7,8 +7,8 @@ ghost use Rattle.land_rules.specs.Denials.Standing.{mutation_of_ask, entry_of_as
 ghost use Rattle.land_rules.specs.Rules.{first_denial, standing_rules};
 ghost use Rattle.land_select.specs.Verdicts.{evidence_in, record_at, roles_in, placeholder_party};
 ghost use Rattle.land_select.specs.Views.{AgreesWithRegister};
-ghost use Rattle.land_select_joins.specs.Lookups.Parts.{ReadsPart};
-ghost use Rattle.land_select_joins.specs.TableReads.{ReadsTables};
+ghost use Rattle.land_select_queries.specs.Lookups.Parts.{ReadsPart};
+ghost use Rattle.land_select_queries.specs.TableReads.{ReadsTables};
 ghost use Rattle.land_tables_schema.specs.Connections.{HasRegisterTables, IsUsable, LeavesAutocommit};
 
 use land_core::ask::Ask;
@@ -25,8 +25,8 @@ use land_rules::denials::evidence::evidence_of;
 use land_rules::denials::laws::{evidence_is_enough, lookups_are_enough};
 use land_rules::denials::standing::{mutation_of_ask, entry_of_ask, standing_verdict};
 use land_rules::verdict::Verdict;
-use land_select_joins::lookups::existence::party_exists;
-use land_select_joins::lookups::{by_number, of_party};
+use land_select_queries::lookups::existence::party_exists;
+use land_select_queries::lookups::{by_number, of_party};
 use land_tables_rows::listing::fault::ReadFault;
 use sqlite::{Alter, Connection};
 use std::alloc::Global;

@@ -9,8 +9,8 @@ ghost use Rattle.land_rules.specs.Denials.Interests.{interest_at, interest_of, i
 ghost use Rattle.land_rules.specs.Denials.Interests.{sees_by_interest, shows_entry, shows_unit};
 ghost use Rattle.land_select.specs.Cache.{IsFactWith};
 ghost use Rattle.land_select.specs.Views.{AreGroupsAt, AreNamesAt, entries_by_interest};
-ghost use Rattle.land_select_joins.specs.Lookups.Parts.{ReadsPart};
-ghost use Rattle.land_select_joins.specs.TableReads.{ReadsTables};
+ghost use Rattle.land_select_queries.specs.Lookups.Parts.{ReadsPart};
+ghost use Rattle.land_select_queries.specs.TableReads.{ReadsTables};
 ghost use Rattle.land_tables_schema.specs.Connections.{HasRegisterTables, IsUsable, LeavesAutocommit};
 
 use crate::cache::{CachedValue, cached_object};
@@ -23,11 +23,11 @@ use land_core::rrr::RrrRecord;
 use land_core::sequence::{NumberList, Sequence};
 use land_rules::denials::interests::{Interest, interest_of};
 use land_rules::denials::laws::{interests_decide_sight, names_decide_interests};
-use land_select_joins::joins::running::run_union_for;
-use land_select_joins::lookups::of_agent::circle;
-use land_select_joins::lookups::shown::Shown;
-use land_select_joins::lookups::{by_number, of_unit};
-use land_select_joins::sights::selection::Selection;
+use land_select_queries::joins::running::run_union_for;
+use land_select_queries::lookups::of_agent::circle;
+use land_select_queries::lookups::shown::Shown;
+use land_select_queries::lookups::{by_number, of_unit};
+use land_select_queries::sights::selection::Selection;
 use land_tables_rows::listing::fault::ReadFault;
 use sqlite::{Alter, Connection};
 use std::alloc::{AllocError, Global};

@@ -1,7 +1,7 @@
 //! Authorizes a request: the verdict, and the object or the entries that it read.
 ghost use Rattle.land_select.specs.Cache.{IsSightVerdictWith};
 ghost use Rattle.land_select.specs.Verdicts.{IsVerdictWith};
-ghost use Rattle.land_select_joins.specs.TableReads.{ReadsTables};
+ghost use Rattle.land_select_queries.specs.TableReads.{ReadsTables};
 ghost use Rattle.land_tables_schema.specs.Connections.{HasRegisterTables, IsUsable, LeavesAutocommit};
 
 use crate::cache::CachedValue;

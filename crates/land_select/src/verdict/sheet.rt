@@ -5,7 +5,7 @@ ghost use Rattle.land_rules.specs.Denials.Interests.{sees_by_interest};
 ghost use Rattle.land_rules.specs.Denials.Sight.{is_unit_of_conveyancer};
 ghost use Rattle.land_rules.specs.Rules.{first_denial, view_rules};
 ghost use Rattle.land_select.specs.Cache.{IsFactWith};
-ghost use Rattle.land_select_joins.specs.TableReads.{ReadsTables};
+ghost use Rattle.land_select_queries.specs.TableReads.{ReadsTables};
 ghost use Rattle.land_tables_schema.specs.Connections.{HasRegisterTables, IsUsable, LeavesAutocommit};
 
 use crate::cache::CachedValue;
@@ -21,7 +21,7 @@ use land_rules::denials::laws::{
 };
 use land_rules::denials::sight::{is_unit_of_conveyancer, view_verdict};
 use land_rules::verdict::Verdict;
-use land_select_joins::lookups::of_unit;
+use land_select_queries::lookups::of_unit;
 use land_tables_rows::listing::fault::ReadFault;
 use sqlite::{Alter, Connection};
 use std::alloc::Global;

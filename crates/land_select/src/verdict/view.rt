@@ -5,8 +5,8 @@ ghost use Rattle.land_rules.specs.Denials.Sight.{is_visible_by_pending, verdict_
 ghost use Rattle.land_rules.specs.Relations.{has_pending_mutation_on};
 ghost use Rattle.land_rules.specs.Rules.{first_denial, sees, view_rules};
 ghost use Rattle.land_select.specs.Cache.{IsFactWith};
-ghost use Rattle.land_select_joins.specs.Lookups.Parts.{ReadsPart};
-ghost use Rattle.land_select_joins.specs.TableReads.{ReadsTables};
+ghost use Rattle.land_select_queries.specs.Lookups.Parts.{ReadsPart};
+ghost use Rattle.land_select_queries.specs.TableReads.{ReadsTables};
 ghost use Rattle.land_tables_schema.specs.Connections.{HasRegisterTables, IsUsable, LeavesAutocommit};
 
 use crate::cache::{CachedValue, cached_object};
@@ -27,9 +27,9 @@ use land_rules::denials::sight::{
 };
 use land_rules::laws::seen_lists_are_exact;
 use land_rules::verdict::Verdict;
-use land_select_joins::joins::sight::sight;
-use land_select_joins::lookups::lodgers::has_lodged;
-use land_select_joins::lookups::objects::object;
+use land_select_queries::joins::sight::sight;
+use land_select_queries::lookups::lodgers::has_lodged;
+use land_select_queries::lookups::objects::object;
 use land_tables_rows::listing::fault::ReadFault;
 use sqlite::{Alter, Connection};
 use std::alloc::Global;

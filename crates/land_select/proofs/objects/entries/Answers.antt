@@ -4,9 +4,9 @@ use Rattle.land_core.specs.declared.kind.Kind.TheVariants as kind
 use Rattle.land_core.specs.declared.register.Register.{Register}
 use Rattle.land_select.proofs.Listing.{register_of_entries}
 use Rattle.land_select.specs.Listing.{ListsAlike}
-use Rattle.land_select_joins.specs.Lookups.Parties.{ArePartiesWithin}
-use Rattle.land_select_joins.specs.Lookups.Parts.{ReadsPart}
-use Rattle.land_select_joins.specs.Lookups.Ranges.{is_within}
+use Rattle.land_select_queries.specs.Lookups.Parties.{ArePartiesWithin}
+use Rattle.land_select_queries.specs.Lookups.Parts.{ReadsPart}
+use Rattle.land_select_queries.specs.Lookups.Ranges.{is_within}
 use Rattle.land_tables_rows.specs.declared.listing.fault.ReadFault.{ReadFault}
 use Rattle.land_tables_schema.proofs.Looking.{look_fails, look_lost, look_then, look_told}
 use Rattle.land_tables_schema.specs.Rows.ReadQueries.{IsStoreRead}

@@ -1,6 +1,6 @@
 use Rattle.std.proofs.Common.{◌≡◌, true, take}
 use Rattle.std.specs.List.{AllByRecursion}
-use Rattle.land_select_joins.specs.Lookups.Ranges.{is_within}
+use Rattle.land_select_queries.specs.Lookups.Ranges.{is_within}
 use Rattle.land_select.proofs.objects.range_of.Given as goal
 
 -- the numbers before the current one are in the range

@@ -5,7 +5,7 @@ use Rattle.land_select.proofs.ReadQueries.{look_means}
 use Rattle.land_select.specs.Cache.{IsValueOf}
 use Rattle.land_select.specs.Views.{AgreesIfGiven, visible_rrrs}
 use Rattle.land_select.specs.declared.cache.CachedValue.{CachedValue}
-use Rattle.land_select_joins.proofs.Chains.{look_after}
+use Rattle.land_select_queries.proofs.Chains.{look_after}
 use Rattle.sqlite.specs.Effect.{Database}
 use Rattle.sqlite.specs.Held.{state}
 use Rattle.land_select.proofs.view.read_named_entries.Goals as goal

@@ -6,9 +6,9 @@ use Rattle.land_select.proofs.Awaiting.{awaited_in_sight}
 use Rattle.land_select.proofs.ShownByInterest.{shown_in_sight}
 use Rattle.land_select.proofs.Viewed.{AreListed, all_in_sight, have_members, listed_in_sight}
 use Rattle.land_select.specs.Views.{pending_entries, entries_by_interest}
-use Rattle.land_select_joins.proofs.Chains.{look_after}
-use Rattle.land_select_joins.specs.Joins.Sight.{IsSight}
-use Rattle.land_select_joins.specs.Lookups.Parts.{ReadsPart}
+use Rattle.land_select_queries.proofs.Chains.{look_after}
+use Rattle.land_select_queries.specs.Joins.Sight.{IsSight}
+use Rattle.land_select_queries.specs.Lookups.Parts.{ReadsPart}
 use Rattle.land_tables_rows.specs.declared.listing.fault.ReadFault.{ReadFault}
 use Rattle.land_tables_schema.proofs.Looking.{look_fails, look_lost, look_then, look_told}
 use Rattle.land_tables_schema.specs.Rows.ReadQueries.{IsStoreRead}

@@ -4,7 +4,7 @@ use Rattle.land_select.proofs.CachedValue.{object_among}
 use Rattle.land_select.proofs.Viewed.{view_is}
 use Rattle.land_select.specs.Cache.{IsValueOf}
 use Rattle.land_select.specs.Views.{AgreesIfGiven, view_from}
-use Rattle.land_select_joins.proofs.Chains.{look_after}
+use Rattle.land_select_queries.proofs.Chains.{look_after}
 use Rattle.land_tables_schema.proofs.Looking.{look_told}
 use Rattle.sqlite.specs.Effect.{Database}
 use Rattle.sqlite.specs.Held.{state}

@@ -4,7 +4,7 @@ use Rattle.land_keep.specs.Sheets.{visible_entries, parcels_at}
 use Rattle.land_select.proofs.Viewed.{have_members}
 use Rattle.land_select.specs.Cache.{IsValueOf}
 use Rattle.land_select.specs.Views.{AgreesIfGiven}
-use Rattle.land_select_joins.specs.Lookups.Parts.{ReadsPart}
+use Rattle.land_select_queries.specs.Lookups.Parts.{ReadsPart}
 use Rattle.land_tables_rows.specs.declared.listing.fault.ReadFault.{ReadFault}
 use Rattle.land_tables_schema.proofs.Looking.{look_fails, look_then, look_told}
 use Rattle.land_tables_schema.specs.Rows.ReadQueries.{IsStoreRead}

@@ -1,7 +1,7 @@
 use Rattle.std.proofs.Common.{of_z, rules, subst, to_z, w64, ◌≡◌}
 use Rattle.std.specs.Prelude.{ℤ}
 use Rattle.land_core.specs.Register.{object_at}
-use Rattle.land_select_joins.specs.Lookups.Parts.{ReadsPart}
+use Rattle.land_select_queries.specs.Lookups.Parts.{ReadsPart}
 use Rattle.land_tables_schema.specs.Rows.ReadQueries.{IsStoreRead}
 use Rattle.sqlite.specs.Held.{state}
 use Rattle.land_select.proofs.object.ObjectQueryQueryOptionObject.run.Goals as goal

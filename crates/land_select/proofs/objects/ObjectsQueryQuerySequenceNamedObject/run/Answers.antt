@@ -1,7 +1,7 @@
 use Rattle.std.proofs.Common.{of_z, rules, subst, to_z, w64, ◌≡◌}
 use Rattle.std.specs.Prelude.{ℤ}
 use Rattle.land_keep.specs.Named.{objects_at}
-use Rattle.land_select_joins.specs.Lookups.Parts.{ReadsPart}
+use Rattle.land_select_queries.specs.Lookups.Parts.{ReadsPart}
 use Rattle.land_tables_schema.specs.Rows.ReadQueries.{IsStoreRead}
 use Rattle.sqlite.specs.Held.{state}
 use Rattle.land_select.proofs.objects.ObjectsQueryQuerySequenceNamedObject.run.Goals as goal

@@ -1,6 +1,6 @@
 use Rattle.std.proofs.Common.{of_z, rules, subst, to_z, w64, ◌≡◌}
 use Rattle.std.specs.Prelude.{ℤ}
-use Rattle.land_select_joins.specs.Joins.Sight.{IsSight}
+use Rattle.land_select_queries.specs.Joins.Sight.{IsSight}
 use Rattle.land_tables_schema.specs.Rows.ReadQueries.{IsStoreRead}
 use Rattle.sqlite.specs.Held.{state}
 use Rattle.land_select.proofs.sight.SightQueryQueryNumberList.run.Goals as goal

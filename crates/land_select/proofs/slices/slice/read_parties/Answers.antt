@@ -5,7 +5,7 @@ use Rattle.land_core.specs.Grants.{grants_in}
 use Rattle.land_select.proofs.SlicedRegisters.{people_gathered}
 use Rattle.land_select.specs.Slices.Gathered.{KnowsMore, KnowsParties, with_numbers}
 use Rattle.land_select.specs.Slices.Named.{parties_of}
-use Rattle.land_select_joins.proofs.Chains.{look_after}
+use Rattle.land_select_queries.proofs.Chains.{look_after}
 use Rattle.sqlite.specs.Effect.{Database}
 use Rattle.sqlite.specs.Held.{state}
 use Rattle.land_select.proofs.slices.slice.read_parties.Goals as goal

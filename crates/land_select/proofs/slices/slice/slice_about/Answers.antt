@@ -2,7 +2,7 @@ use Rattle.std.proofs.Common.{rules, ◌≡◌, subst, to_z, of_z, w64, Ok}
 use Rattle.land_acts.specs.Slices.{reads_party, mutations_in_slice, names_unit, slice_of}
 use Rattle.land_core.specs.declared.caller.Caller.{Caller}
 use Rattle.land_select.specs.Slices.Gathered.{IsKnown, HoldsOfRegister, KnowsUnits, KnowsParties}
-use Rattle.land_select_joins.proofs.Chains.{look_after}
+use Rattle.land_select_queries.proofs.Chains.{look_after}
 use Rattle.land_tables_rows.specs.declared.listing.fault.ReadFault.{ReadFault}
 use Rattle.land_tables_schema.proofs.Looking.{look_then}
 use Rattle.land_tables_schema.specs.Rows.ReadQueries.{IsStoreRead}

@@ -3,8 +3,8 @@ use Rattle.land_acts.specs.Slices.{mutations_in_slice, names_mandate, slice_of}
 use Rattle.land_core.specs.Entries.{entries_where}
 use Rattle.land_core.specs.declared.caller.Caller.{Caller}
 use Rattle.land_select.specs.Slices.Gathered.{HoldsOfRegister}
-use Rattle.land_select_joins.proofs.Chains.{look_after}
-use Rattle.land_select_joins.specs.Lookups.Parts.{ReadsPart}
+use Rattle.land_select_queries.proofs.Chains.{look_after}
+use Rattle.land_select_queries.specs.Lookups.Parts.{ReadsPart}
 use Rattle.land_tables_rows.specs.declared.listing.fault.ReadFault.{ReadFault}
 use Rattle.land_tables_schema.proofs.Looking.{look_then}
 use Rattle.land_tables_schema.specs.Rows.ReadQueries.{IsStoreRead}

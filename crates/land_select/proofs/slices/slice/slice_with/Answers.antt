@@ -3,7 +3,7 @@ use Rattle.land_acts.specs.Slices.{names_rrr}
 use Rattle.land_core.specs.Entries.{entries_where, some}
 use Rattle.land_select.proofs.SlicedRegisters.{sliced}
 use Rattle.land_select.specs.Slices.Gathered.{HoldsOfRegister, KnowsSources}
-use Rattle.land_select_joins.specs.Lookups.Parts.{ReadsPart}
+use Rattle.land_select_queries.specs.Lookups.Parts.{ReadsPart}
 use Rattle.land_tables_rows.specs.declared.listing.fault.ReadFault.{ReadFault}
 use Rattle.land_tables_schema.proofs.Looking.{look_then, look_told}
 use Rattle.land_tables_schema.specs.Rows.ReadQueries.{IsStoreRead}

@@ -5,7 +5,7 @@ use Rattle.land_rules.specs.Denials.Standing.{mutation_of_ask, entry_of_ask, evi
 use Rattle.land_select.proofs.Viewed.{have_members}
 use Rattle.land_select.specs.Verdicts.{record_at, roles_in, placeholder_party}
 use Rattle.land_select.specs.Views.{AgreesWithRegister}
-use Rattle.land_select_joins.specs.Lookups.Parts.{ReadsPart}
+use Rattle.land_select_queries.specs.Lookups.Parts.{ReadsPart}
 use Rattle.land_tables_rows.specs.declared.listing.fault.ReadFault.{ReadFault}
 use Rattle.land_tables_schema.proofs.Looking.{look_fails, look_lost, look_then, look_told}
 use Rattle.land_tables_schema.specs.Rows.ReadQueries.{IsStoreRead}

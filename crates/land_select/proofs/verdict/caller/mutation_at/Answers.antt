@@ -1,7 +1,7 @@
 use Rattle.std.proofs.Common.{rules, ◌≡◌, subst, sym, to_z, of_z, w64, Option, ap, ℕ}
 use Rattle.land_select.proofs.Judged.{looked_at_nothing}
 use Rattle.land_select.specs.Verdicts.{record_at}
-use Rattle.land_select_joins.specs.Lookups.Parts.{ReadsPart}
+use Rattle.land_select_queries.specs.Lookups.Parts.{ReadsPart}
 use Rattle.land_tables_schema.specs.Rows.ReadQueries.{IsStoreRead}
 use Rattle.sqlite.specs.Held.{state}
 use Rattle.land_select.proofs.verdict.caller.mutation_at.Goals as goal

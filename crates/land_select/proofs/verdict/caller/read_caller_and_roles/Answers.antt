@@ -5,7 +5,7 @@ use Rattle.land_core.specs.declared.kind.Kind.TheVariants as kind
 use Rattle.land_select.proofs.Callers.{who_asks_stands}
 use Rattle.land_select.proofs.Viewed.{have_members}
 use Rattle.land_select.specs.Verdicts.{roles_in}
-use Rattle.land_select_joins.specs.Lookups.Parts.{ReadsPart}
+use Rattle.land_select_queries.specs.Lookups.Parts.{ReadsPart}
 use Rattle.land_tables_rows.specs.declared.listing.fault.ReadFault.{ReadFault}
 use Rattle.land_tables_schema.proofs.Looking.{look_fails, look_then, look_told}
 use Rattle.land_tables_schema.specs.Rows.ReadQueries.{IsStoreRead}

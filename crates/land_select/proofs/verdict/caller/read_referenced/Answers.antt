@@ -2,7 +2,7 @@ use Rattle.std.proofs.Common.{rules, ◌≡◌, subst, to_z, of_z, w64}
 use Rattle.land_rules.specs.Denials.Standing.{mutation_of_ask, entry_of_ask}
 use Rattle.land_select.proofs.Judged.{both_parts}
 use Rattle.land_select.specs.Verdicts.{record_at}
-use Rattle.land_select_joins.specs.Lookups.Parts.{ReadsPart}
+use Rattle.land_select_queries.specs.Lookups.Parts.{ReadsPart}
 use Rattle.land_tables_schema.proofs.Looking.{look_fails, look_then}
 use Rattle.sqlite.specs.Effect.{Database}
 use Rattle.sqlite.specs.Held.{state}

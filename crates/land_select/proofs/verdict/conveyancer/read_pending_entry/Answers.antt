@@ -5,7 +5,7 @@ use Rattle.land_core.specs.declared.rrr.RrrRecord.{RrrRecord}
 use Rattle.land_rules.specs.Relations.{has_pending_mutation_on}
 use Rattle.land_select.proofs.CachedValue.{found_told}
 use Rattle.land_select.proofs.Viewed.{have_members}
-use Rattle.land_select_joins.specs.Lookups.Parts.{ReadsPart}
+use Rattle.land_select_queries.specs.Lookups.Parts.{ReadsPart}
 use Rattle.land_tables_schema.proofs.Looking.{look_fails, look_then, look_told}
 use Rattle.sqlite.specs.Effect.{Database}
 use Rattle.sqlite.specs.Held.{state}

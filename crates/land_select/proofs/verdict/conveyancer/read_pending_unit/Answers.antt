@@ -3,7 +3,7 @@ use Rattle.land_core.specs.Register.{stands}
 use Rattle.land_core.specs.declared.kind.Kind.TheVariants as kind
 use Rattle.land_rules.specs.Relations.{has_pending_mutation_on}
 use Rattle.land_select.proofs.Awaiting.{none_names, one_names}
-use Rattle.land_select_joins.specs.Lookups.Parts.{ReadsPart}
+use Rattle.land_select_queries.specs.Lookups.Parts.{ReadsPart}
 use Rattle.land_tables_rows.specs.declared.listing.fault.ReadFault.{ReadFault}
 use Rattle.land_tables_schema.proofs.Looking.{look_then, look_told}
 use Rattle.land_tables_schema.specs.Rows.ReadQueries.{IsStoreRead}

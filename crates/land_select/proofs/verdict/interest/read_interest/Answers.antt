@@ -1,8 +1,8 @@
 use Rattle.std.proofs.Common.{rules, ◌≡◌, ap, subst, to_z, of_z, w64, ◌∙◌}
 use Rattle.land_rules.specs.Circles.{circle_of, is_name_of}
 use Rattle.land_rules.specs.Denials.Interests.{interest_of}
-use Rattle.land_select_joins.proofs.Chains.{look_after}
-use Rattle.land_select_joins.specs.Lookups.Parts.{ReadsPart}
+use Rattle.land_select_queries.proofs.Chains.{look_after}
+use Rattle.land_select_queries.specs.Lookups.Parts.{ReadsPart}
 use Rattle.sqlite.specs.Effect.{Database}
 use Rattle.sqlite.specs.Held.{state}
 use Rattle.land_select.proofs.verdict.interest.read_interest.Goals as goal

@@ -5,7 +5,7 @@ use Rattle.land_rules.specs.Circles.{circle_of, is_name_of}
 use Rattle.land_select.proofs.Judged.{looked_at_nothing}
 use Rattle.land_select.proofs.ShownByInterest.{names_are}
 use Rattle.land_select.specs.Views.{AreGroupsAt}
-use Rattle.land_select_joins.specs.Lookups.Parts.{IsCircleOf}
+use Rattle.land_select_queries.specs.Lookups.Parts.{IsCircleOf}
 use Rattle.land_tables_rows.specs.declared.listing.fault.ReadFault.{ReadFault}
 use Rattle.land_tables_schema.proofs.Looking.{look_fails, look_lost, look_then, look_told}
 use Rattle.land_tables_schema.specs.Rows.ReadQueries.{IsStoreRead}

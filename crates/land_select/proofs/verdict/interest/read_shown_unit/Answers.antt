@@ -4,7 +4,7 @@ use Rattle.land_rules.specs.Circles.{circle_of, is_name_of}
 use Rattle.land_rules.specs.Denials.Interests.{interest_of, shows_entry, shows_unit}
 use Rattle.land_select.proofs.ShownByInterest.{shown_in_sight}
 use Rattle.land_select.proofs.Viewed.{have_members}
-use Rattle.land_select_joins.specs.Lookups.Parts.{ReadsPart}
+use Rattle.land_select_queries.specs.Lookups.Parts.{ReadsPart}
 use Rattle.land_tables_rows.specs.declared.listing.fault.ReadFault.{ReadFault}
 use Rattle.land_tables_schema.proofs.Looking.{look_fails, look_lost, look_then}
 use Rattle.land_tables_schema.specs.Rows.ReadQueries.{IsStoreRead}

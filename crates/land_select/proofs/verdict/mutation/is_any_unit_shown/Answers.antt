@@ -3,7 +3,7 @@ use Rattle.std.proofs.lemmas.Grind.{common_steps}
 use Rattle.land_core.specs.declared.register.Register.{Register}
 use Rattle.land_rules.specs.Denials.Interests.{interest_at, shows_unit}
 use Rattle.land_select.proofs.Passing.{NonePasses, nor_the_next, one_passes}
-use Rattle.land_select_joins.specs.Lookups.Parts.{ReadsPart}
+use Rattle.land_select_queries.specs.Lookups.Parts.{ReadsPart}
 use Rattle.land_tables_schema.proofs.Looking.{look_then, look_told}
 use Rattle.sqlite.specs.Effect.{Database}
 use Rattle.sqlite.specs.Held.{state}

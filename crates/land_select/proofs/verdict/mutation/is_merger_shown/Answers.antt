@@ -1,8 +1,8 @@
 use Rattle.std.proofs.Common.{rules, ◌≡◌, ◌||◌, ap, subst, sym, to_z, of_z, w64, ◌∙◌}
 use Rattle.std.specs.List.{list_any}
 use Rattle.land_rules.specs.Denials.Interests.{interest_at, shows_unit}
-use Rattle.land_select_joins.proofs.Chains.{look_after}
-use Rattle.land_select_joins.specs.Lookups.Parts.{ReadsPart}
+use Rattle.land_select_queries.proofs.Chains.{look_after}
+use Rattle.land_select_queries.specs.Lookups.Parts.{ReadsPart}
 use Rattle.land_tables_schema.proofs.Looking.{look_told}
 use Rattle.sqlite.specs.Effect.{Database}
 use Rattle.sqlite.specs.Held.{state}

@@ -3,7 +3,7 @@ use Rattle.land_core.specs.Contents.{refers_to_unit_where}
 use Rattle.land_core.specs.declared.caller.Caller.{Caller}
 use Rattle.land_core.specs.declared.content.Content.{Content}
 use Rattle.land_rules.specs.Denials.Interests.{interest_at, shows_unit}
-use Rattle.land_select_joins.specs.Lookups.Parts.{ReadsPart}
+use Rattle.land_select_queries.specs.Lookups.Parts.{ReadsPart}
 use Rattle.land_tables_rows.specs.declared.listing.fault.ReadFault.{ReadFault}
 use Rattle.land_tables_schema.specs.Rows.ReadQueries.{IsStoreRead}
 use Rattle.sqlite.specs.Held.{state}

@@ -6,7 +6,7 @@ use Rattle.land_select.proofs.PartySight.{name_seen}
 use Rattle.land_select.specs.Cache.{IsFactWith}
 use Rattle.land_select.specs.Parties.{AreOtherNames}
 use Rattle.land_select.specs.Views.{AgreesIfGiven}
-use Rattle.land_select_joins.proofs.Chains.{look_after}
+use Rattle.land_select_queries.proofs.Chains.{look_after}
 use Rattle.land_tables_schema.proofs.Looking.{look_fails, look_then}
 use Rattle.sqlite.specs.Effect.{Database}
 use Rattle.sqlite.specs.Held.{state}

@@ -3,8 +3,8 @@ use Rattle.land_core.specs.declared.kind.Kind.TheVariants.{Party}
 use Rattle.land_rules.specs.Rules.{sees}
 use Rattle.land_select.proofs.PartySight.{told_seen}
 use Rattle.land_select.specs.Views.{AgreesWithRegister}
-use Rattle.land_select_joins.proofs.Chains.{look_after}
-use Rattle.land_select_joins.specs.Lookups.Viewers.{AreViewers}
+use Rattle.land_select_queries.proofs.Chains.{look_after}
+use Rattle.land_select_queries.specs.Lookups.Viewers.{AreViewers}
 use Rattle.land_tables_schema.proofs.Looking.{look_told}
 use Rattle.sqlite.specs.Effect.{Database}
 use Rattle.sqlite.specs.Held.{state}

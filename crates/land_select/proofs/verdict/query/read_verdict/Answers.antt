@@ -2,7 +2,7 @@ use Rattle.std.proofs.Common.{rules, ◌≡◌, subst, sym, to_z, of_z, w64, ◌
 use Rattle.land_select.proofs.CachedValue.{nothing_for}
 use Rattle.land_select.proofs.Judged.{sight_says, standing_says}
 use Rattle.land_select.specs.Cache.{IsSightVerdictWith}
-use Rattle.land_select_joins.proofs.Chains.{look_after}
+use Rattle.land_select_queries.proofs.Chains.{look_after}
 use Rattle.land_tables_schema.proofs.Looking.{look_told}
 use Rattle.sqlite.specs.Effect.{Database}
 use Rattle.sqlite.specs.Held.{state}

@@ -5,7 +5,7 @@ use Rattle.land_rules.specs.Denials.Sight.{verdict_given_sight}
 use Rattle.land_select.proofs.Awaiting.{entries_awaited}
 use Rattle.land_select.proofs.Judged.{unit_told}
 use Rattle.land_select.proofs.Viewed.{have_members}
-use Rattle.land_select_joins.specs.Lookups.Parts.{ReadsPart}
+use Rattle.land_select_queries.specs.Lookups.Parts.{ReadsPart}
 use Rattle.land_tables_schema.proofs.Looking.{look_fails, look_then, look_told}
 use Rattle.sqlite.specs.Effect.{Database}
 use Rattle.sqlite.specs.Held.{state}

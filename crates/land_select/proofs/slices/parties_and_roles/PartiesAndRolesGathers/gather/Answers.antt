@@ -1,7 +1,7 @@
 use Rattle.std.proofs.Common.{rules, ◌≡◌, ℕ, Bool, subst, to_z, of_z, w64}
 use Rattle.std.specs.FinMap as map
 use Rattle.land_select.specs.Slices.Gathered.{HoldsOfRegister, KnowsParties, with_number}
-use Rattle.land_select_joins.proofs.Chains.{look_after}
+use Rattle.land_select_queries.proofs.Chains.{look_after}
 use Rattle.sqlite.specs.Effect.{Database}
 use Rattle.sqlite.specs.Held.{state}
 use Rattle.land_select.proofs.slices.parties_and_roles.PartiesAndRolesGathers.gather.Goals as goal

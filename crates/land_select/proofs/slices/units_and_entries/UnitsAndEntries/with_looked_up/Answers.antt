@@ -2,7 +2,7 @@ use Rattle.std.proofs.Common.{rules, ◌≡◌, nat_eq, subst, sym, to_z, of_z, 
 use Rattle.land_core.specs.Entries.{entries_where}
 use Rattle.land_select.proofs.Gathering.{unit_known}
 use Rattle.land_select.specs.Slices.Gathered.{KnowsUnits, with_number}
-use Rattle.land_select_joins.specs.Lookups.Parts.{ReadsPart}
+use Rattle.land_select_queries.specs.Lookups.Parts.{ReadsPart}
 use Rattle.land_tables_rows.specs.declared.listing.fault.ReadFault.{ReadFault}
 use Rattle.land_tables_schema.proofs.Looking.{look_then, look_told}
 use Rattle.land_tables_schema.specs.Rows.ReadQueries.{IsStoreRead}

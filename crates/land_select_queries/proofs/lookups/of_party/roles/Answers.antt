@@ -1,0 +1,23 @@
+use Rattle.std.proofs.Common.{rules, ◌≡◌, to_z, of_z, w64, nat_eq}
+use Rattle.land_core.specs.Entries.{entries_where}
+use Rattle.land_select_queries.proofs.Parts.{roles_found}
+use Rattle.land_select_queries.proofs.Records.{are_wanted, none_said}
+use Rattle.land_select_queries.specs.declared.lookups.record_lookup.RecordLookup.TheVariants.{RolesOfParty}
+use Rattle.land_tables_schema.proofs.Looking.{look_told}
+use Rattle.sqlite.specs.Held.{state}
+use Rattle.land_select_queries.proofs.lookups.of_party.roles.Goals as goal
+
+pub returns-clause-reads_only : goal.returns-clause-reads_only
+returns-clause-reads_only g c =
+    let old = state g.S.Store c.args.conn.now in
+    let when : to_z w64 (of_z w64 c.args.at) ≡ c.args.at = search rules in
+    let reads_only = rw when at c.in_ok-found.ensures.reads_only in
+    let made = rw (when, c.as_slice.ensures) at c.in_ok-roles_at.ensures.stands in
+    look_told old (state g.S.Store c.find.new.conn) _ reads_only
+    (λ clean said moments h held r have stands.
+    made (entries_where (λ grant u. nat_eq grant.party c.args.party) r.roles) (roles_found c.args.at (λ grant. nat_eq grant.party c.args.party) h.roles r.roles stands.roles c.in_ok-found.found (are_wanted RolesOfParty c.args.party c.args.at old.now.trees h.roles held.the_roles.said c.in_ok-found.found said)))
+
+pub returns-in_err-found-clause-unreadable : goal.returns-in_err-found-clause-unreadable
+returns-in_err-found-clause-unreadable g c clean =
+    let when : to_z w64 (of_z w64 c.args.at) ≡ c.args.at = search rules in
+    none_said RolesOfParty c.args.party c.args.at _ (λ h. h.roles) (λ moments h held. held.the_roles.said) c.from_residual.result c.in_err-found.field-0.0 c.from_residual.ensures.1 (rw when at (c.in_err-found.ensures.unreadable clean))

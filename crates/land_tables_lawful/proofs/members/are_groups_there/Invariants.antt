@@ -1,5 +1,0 @@
-use Rattle.land_tables_lawful.specs.Members.{group_of}
-use Rattle.land_tables_lawful.proofs.members.are_groups_there.Given as goal
-
-abbrev pub ghost-require_numbers : goal.ghost-require_numbers
-ghost-require_numbers a = group_of

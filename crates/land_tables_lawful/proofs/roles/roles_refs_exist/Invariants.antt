@@ -1,4 +1,0 @@
-use Rattle.land_tables_lawful.proofs.roles.roles_refs_exist.Given as goal
-
-abbrev pub ghost-require_numbers : goal.ghost-require_numbers
-ghost-require_numbers a = λ role. role.party

@@ -1,8 +1,0 @@
-use Rattle.std.proofs.Common.{◌≡◌, ◌↔◌, Bool, true, subst, sym}
-use Rattle.land_tables_lawful.proofs.LawfulHistories.{all_once}
-use Rattle.land_tables_lawful.specs.Conditions.{HaveNoDuplicates}
-use Rattle.land_tables_lawful.proofs.valid_history.have_no_duplicates.Goals as goal
-
-pub returns : goal.returns
-returns c = subst (λ (b : Bool). (b ≡ true) ↔ HaveNoDuplicates c.args.moments.now c.args.history.now) (sym c.are_both.ensures)
-    (all_once c.args.moments.now c.args.history.now c.in_ok-entries.entries c.in_ok-references.references c.in_ok-entries.ensures c.in_ok-references.ensures)

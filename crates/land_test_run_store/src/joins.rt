@@ -1,9 +1,0 @@
-//! The view of a small register by each role, with queries.
-use crate::conclusion::conclude;
-use land_test_store::joins::sights;
-use std::test::Fail;
-
-#[test]
-fn a_small_register_is_seen_by_role(rt: HostRuntime) -> Result<(), Fail> {
-    conclude(&rt, sights::a_small_register_is_seen_by_role(rt.alloc()))
-}

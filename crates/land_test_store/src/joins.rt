@@ -1,4 +1,0 @@
-//! Tests of the queries of `land_select_joins`: they run on SQLite in memory, and return the numbers that a
-//! reader of the rows expects.
-
-pub mod sights;

@@ -1,0 +1,20 @@
+//! The rows of the tables after the scenario.
+use crate::cases::run_scenario::{tables_after_scenario, tables_after_more};
+use crate::cases::stores::{expect_fault, create_fault};
+use testlib_scenario::looks::{expect_rows_after_more, expect_rows_after_steps};
+use testlib_scenario::stop::Stop;
+use std::alloc::Global;
+
+/// The tables have the rows of the scenario, and creating a register in them fails.
+pub fn tables_rows(alloc: Global) -> Result<(), Stop> {
+    let (fault, conn) = create_fault(tables_after_scenario(alloc)?.into_connection());
+    let mut conn = conn;
+    expect_fault(fault, 502, "made again", 0)?;
+    expect_rows_after_steps(alloc, &mut conn)
+}
+
+/// The tables have the rows of the scenario's sequel.
+pub fn tables_rows_after_more(alloc: Global) -> Result<(), Stop> {
+    let mut conn = tables_after_more(alloc)?.into_connection();
+    expect_rows_after_more(alloc, &mut conn)
+}

@@ -1,0 +1,17 @@
+//! The command `serve`.
+use crate::conclusion::conclude;
+use testlib_store::town;
+use std::test::Fail;
+
+#[test]
+fn a_command_serves_connections(rt: HostRuntime) -> Result<(), Fail> {
+    conclude(&rt, town::a_command_serves_connections(rt.alloc()))
+}
+
+#[test]
+fn a_failed_accept_ends_the_command(rt: HostRuntime) -> Result<(), Fail> {
+    conclude(
+        &rt,
+        town::a_failed_accept_ends_the_command(rt.alloc()),
+    )
+}
