@@ -2,7 +2,8 @@
 -- roles.
 use Rattle.std.specs.Prelude.{◌+◌, ℤ, Bool, not, List, [], ◌∷◌, Option, is_none}
 use Rattle.land_acts.specs.Mutations.Planning.{runs_out_of_numbers}
-use Rattle.land_acts.specs.Sharing.{lists_no_single_party, are_too_fine, are_whole, lists_twice, members_of_list}
+use Rattle.land_acts.specs.Sharing.{lists_no_single_party, are_too_fine, are_whole, lists_twice}
+use Rattle.land_acts.specs.Sharing.{members_of_list}
 use Rattle.land_acts.specs.declared.mutations.refusal.Refusal.{Refusal}
 use Rattle.land_acts.specs.declared.mutations.refusal.Refusal.TheVariants.{NoSuchParty, SharesTooFine}
 use Rattle.land_acts.specs.declared.mutations.refusal.Refusal.TheVariants.{TooMany, SharesNotWhole, ClockOut}

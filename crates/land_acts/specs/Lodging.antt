@@ -25,8 +25,10 @@ use Rattle.land_core.specs.declared.source.SourceKind.{SourceKind}
 use Rattle.land_core.specs.declared.source.SourceKind.TheVariants.{Administrative, Spatial}
 
 -- the mutation that a party has lodged under a reference, with its number; there is at most one
-abbrev pub mutation_with_reference : Register → (lodger : ℕ) → (reference : List ℕ) → Option (ℕ × MutationRecord)
-mutation_with_reference r lodger reference = find (λ e. is_lodged_as lodger reference e.1) (map.entries r.mutations)
+abbrev pub mutation_with_reference : Register → (lodger : ℕ) → (reference : List ℕ)
+    → Option (ℕ × MutationRecord)
+mutation_with_reference r lodger reference = find (λ e. is_lodged_as lodger reference e.1)
+    (map.entries r.mutations)
 
 -- whether a source exists and has this title
 abbrev pub has_title : Register → (source : ℕ) → (title : List ℕ) → Bool
@@ -56,12 +58,14 @@ lodge_repeat r caller it = repeat_of r it (mutation_with_reference r caller.part
 -- whether the caller has lodged another document or content under the reference
 abbrev pub has_lodged_other : Register → Caller → Lodging → Bool
 has_lodged_other r caller it =
-    option_map_or (λ e. not (is_same_lodging r it e.1)) (mutation_with_reference r caller.party it.reference) false
+    option_map_or (λ e. not (is_same_lodging r it e.1))
+    (mutation_with_reference r caller.party it.reference) false
 
 -- the refusals with their conditions, in ascending order
 abbrev pub lodge_refusals : Register → Caller → Lodging → Option ℤ → List (Refusal × Bool)
 lodge_refusals r caller it stamp =
-    (TooMany, runs_out_of_numbers r 2) ∷ (ReferenceUsed, has_lodged_other r caller it) ∷ (ClockOut, is_none stamp)
+    (TooMany, runs_out_of_numbers r 2) ∷ (ReferenceUsed, has_lodged_other r caller it)
+    ∷ (ClockOut, is_none stamp)
     ∷ []
 
 -- the document of a subdivision or a merger is a plan, which is a spatial source

@@ -23,7 +23,8 @@ use Rattle.land_core.specs.declared.register.Register.{Register}
 pub record ExistsAsLodged (r : Register) (caller : Caller) (it : Lodging) (source number : ℕ) (stamp : ℤ)
     : Type 0 where
   pub state : MutationState
-  pub mutation : map.get r.mutations number ≡ Some (decided_mutation state (new_mutation_record caller it source stamp))
+  pub mutation : map.get r.mutations number
+      ≡ Some (decided_mutation state (new_mutation_record caller it source stamp))
   pub document : map.get r.sources source
       ≡ Some (record { kind = document_kind it.content; title = it.document })
 

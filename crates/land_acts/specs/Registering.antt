@@ -1,7 +1,8 @@
 -- The act `register`: a unit is added with its first parcels and rights.
 use Rattle.std.specs.Prelude.{ℕ, ◌+◌, ℤ, Bool, not, ◌&&◌, List, [], ◌∷◌, length, map as map_list, Option}
 use Rattle.std.specs.Prelude.{is_none}
-use Rattle.land_acts.specs.FirstRights.{lists_absent_party, are_types_too_fine, are_types_whole, has_right_twice}
+use Rattle.land_acts.specs.FirstRights.{lists_absent_party, are_types_too_fine, are_types_whole}
+use Rattle.land_acts.specs.FirstRights.{has_right_twice}
 use Rattle.land_acts.specs.Mutations.Numbering.{with_numbers_from, numbers_from}
 use Rattle.land_acts.specs.Mutations.Planning.{document_source, runs_out_of_numbers}
 use Rattle.land_acts.specs.declared.mutations.refusal.Refusal.{Refusal}
@@ -52,7 +53,8 @@ register_change r it = record {
   put = record no_put {
     units = (r.next + 1, record { name = it.name; checked = it.checked }) ∷ [];
     parcels = with_numbers_from (r.next + 2) (map_list (new_parcel_record (r.next + 1) r.next) it.parcels);
-    rrrs = with_numbers_from (r.next + 2 + length it.parcels) (map_list (new_right_record (r.next + 1) r.next) it.rights);
+    rrrs = with_numbers_from (r.next + 2 + length it.parcels)
+        (map_list (new_right_record (r.next + 1) r.next) it.rights);
     sources = document_source r.next Administrative it.document;
   };
   ended = no_ended;

@@ -1,7 +1,8 @@
 -- The act `regroup`: the listed members replace those of a group.
 use Rattle.std.specs.Prelude.{ℤ, Bool, not, ◌||◌, List, [], ◌∷◌, Option, is_none}
 use Rattle.land_acts.specs.Mutations.Planning.{done_on}
-use Rattle.land_acts.specs.Sharing.{lists_no_single_party, are_too_fine, are_whole, lists_twice, members_of_list}
+use Rattle.land_acts.specs.Sharing.{lists_no_single_party, are_too_fine, are_whole, lists_twice}
+use Rattle.land_acts.specs.Sharing.{members_of_list}
 use Rattle.land_acts.specs.declared.mutations.refusal.Refusal.{Refusal}
 use Rattle.land_acts.specs.declared.mutations.refusal.Refusal.TheVariants.{NoSuchParty, SharesTooFine}
 use Rattle.land_acts.specs.declared.mutations.refusal.Refusal.TheVariants.{SharesNotWhole, ClockOut}

@@ -2,7 +2,8 @@
 ghost use Rattle.std.specs.Prelude.{◌≡◌, IfOk};
 ghost use Rattle.std.specs.List.{list_any};
 ghost use Rattle.land_acts.specs.FirstRights.{are_types_too_fine, are_types_whole, has_right_twice};
-ghost use Rattle.land_acts.specs.FirstRights.{rights_list_party, is_same_right, listed_of_type, lists_absent_party};
+ghost use Rattle.land_acts.specs.FirstRights.{rights_list_party, is_same_right, listed_of_type};
+ghost use Rattle.land_acts.specs.FirstRights.{lists_absent_party};
 ghost use Rattle.land_acts.specs.Sharing.{is_too_fine};
 ghost use Rattle.land_core.specs.Entries.{are_distinct};
 ghost use Rattle.land_core.specs.Units.{are_whole_or_none};

@@ -69,7 +69,11 @@ fn has_title(slice: &Slice, source: u64, title: &str) -> bool
 }
 
 /// Returns the receipt that a lodging got.
-fn receipt_of_lodging(alloc: Global, number: u64, mutation: &MutationRecord) -> Result<Done, AllocError>
+fn receipt_of_lodging(
+    alloc: Global,
+    number: u64,
+    mutation: &MutationRecord,
+) -> Result<Done, AllocError>
     ensures { IfOk result (λ told. told ≡ receipt_of_lodging (number, mutation.now)) }
 {
     Ok(Done {

@@ -1,6 +1,7 @@
 //! The act `mandate`: the caller lets another party see what it sees.
 ghost use Rattle.std.specs.Prelude.{◌≡◌, IfOk};
-ghost use Rattle.land_acts.specs.Mandating.{mandate_of_caller, mandate_refusals, mandate_change, mandate_done};
+ghost use Rattle.land_acts.specs.Mandating.{mandate_of_caller, mandate_refusals, mandate_change};
+ghost use Rattle.land_acts.specs.Mandating.{mandate_done};
 ghost use Rattle.land_acts.specs.Mutations.Planning.{IsPlanOf, first_refusal_of};
 
 use crate::mutations::planning::done_on;

@@ -2,12 +2,15 @@
 ghost use Rattle.std.specs.Prelude.{◌≡◌, ◌≤◌, ◌+◌, true, length, map as map_list, IfOk};
 ghost use Rattle.land_acts.specs.Mutations.Numbering.{with_numbers_from, numbers_from};
 ghost use Rattle.land_acts.specs.Mutations.Planning.{IsPlanOf, first_refusal_of, numbers_end};
-ghost use Rattle.land_acts.specs.Registering.{new_count, new_parcel_record, register_refusals, register_change};
+ghost use Rattle.land_acts.specs.Registering.{new_count, new_parcel_record, register_refusals};
+ghost use Rattle.land_acts.specs.Registering.{register_change};
 ghost use Rattle.land_acts.specs.Registering.{register_done, new_right_record};
 ghost use Rattle.land_core.specs.Acts.{is_new_unit};
 
-use crate::first_rights::{are_types_too_fine, are_types_whole, has_right_twice, lists_absent_party};
-use crate::mutations::planning::{document_source, runs_out_of_numbers, numbers_from};
+use crate::first_rights::{
+    are_types_too_fine, are_types_whole, has_right_twice, lists_absent_party,
+};
+use crate::mutations::planning::{document_source, numbers_from, runs_out_of_numbers};
 use crate::mutations::refusal::Refusal;
 use crate::slice::Slice;
 use land_core::act::{NewParcel, NewRight, NewUnit};
@@ -108,7 +111,8 @@ fn numbered_parcels(
     first: u64,
 ) -> Result<Sequence<(u64, ParcelRecord)>, AllocError>
     requires { first + length parcels.now ≤ numbers_end }
-    ensures { IfOk result (λ it. it ≡ with_numbers_from first (map_list (new_parcel_record unit source) parcels.now)) }
+    ensures { IfOk result
+        (λ it. it ≡ with_numbers_from first (map_list (new_parcel_record unit source) parcels.now)) }
 {
     let mut placed = Sequence::new(alloc);
     let mut number = first;
@@ -134,7 +138,8 @@ fn numbered_rights(
     first: u64,
 ) -> Result<Sequence<(u64, RrrRecord)>, AllocError>
     requires { first + length rights.now ≤ numbers_end }
-    ensures { IfOk result (λ it. it ≡ with_numbers_from first (map_list (new_right_record unit source) rights.now)) }
+    ensures { IfOk result
+        (λ it. it ≡ with_numbers_from first (map_list (new_right_record unit source) rights.now)) }
 {
     let mut placed = Sequence::new(alloc);
     let mut number = first;

@@ -60,7 +60,8 @@ fn records_in_slice<T: Duplicate>(
     register: &Register,
     act: &Act,
 ) -> Result<Records<T>, AllocError>
-    ensures { IfOk result (λ it. it ≡ entries_where (λ n value. reads_party register.now act.now n) records.now) }
+    ensures { IfOk result
+        (λ it. it ≡ entries_where (λ n value. reads_party register.now act.now n) records.now) }
 {
     let mut kept = Records::new(alloc);
     for (number, record) in records.iter() {
@@ -73,7 +74,8 @@ fn records_in_slice<T: Duplicate>(
 
 fn roles_in_slice(alloc: Global, register: &Register, act: &Act) -> Result<Roles, AllocError>
     ensures { IfOk result
-        (λ it. it ≡ entries_where (λ grant u. reads_party register.now act.now grant.party) register.now.roles) }
+        (λ it. it ≡ entries_where (λ grant u. reads_party register.now act.now grant.party)
+        register.now.roles) }
 {
     let mut kept = Roles::new(alloc);
     for grant in register.roles.iter() {
@@ -89,7 +91,8 @@ fn units_in_slice(
     register: &Register,
     act: &Act,
 ) -> Result<Records<UnitRecord>, AllocError>
-    ensures { IfOk result (λ it. it ≡ entries_where (λ n u. names_unit register.now act.now n) register.now.units) }
+    ensures { IfOk result
+        (λ it. it ≡ entries_where (λ n u. names_unit register.now act.now n) register.now.units) }
 {
     let mut kept = Records::new(alloc);
     for (number, unit) in register.units.iter() {
@@ -122,7 +125,8 @@ fn rrrs_in_slice(
     register: &Register,
     act: &Act,
 ) -> Result<Records<RrrRecord>, AllocError>
-    ensures { IfOk result (λ it. it ≡ entries_where (λ n e. reads_rrr register.now act.now n e) register.now.rrrs) }
+    ensures { IfOk result
+        (λ it. it ≡ entries_where (λ n e. reads_rrr register.now act.now n e) register.now.rrrs) }
 {
     let mut kept = Records::new(alloc);
     for (number, entry) in register.rrrs.iter() {

@@ -34,7 +34,8 @@ ExtractsFrom tl wanted old new r =
     old new r
 
 -- The extract is written from tables, if their store is honest. The register does not change.
-pub record ExtractsTables {S : Type 0} (g : Ghosts S) (from : TablesState S) (wanted : ExtractRequest) (to : TablesState S)
+pub record ExtractsTables {S : Type 0} (g : Ghosts S) (from : TablesState S) (wanted : ExtractRequest)
+    (to : TablesState S)
     (old new : Option (List ℕ)) (r : Result ℕ ExtractFault) : Type 0 where
   pub was : IsHonest g to → IsHonest g from
   pub same : IsHonestAndOpen (IsHonest g to) to.is_closed → held g to ≡ held g from

@@ -38,7 +38,8 @@ pub record IsCreatedIn {S : Type 0} (g : Ghosts S) (holds : State → Type 0) (o
   pub survives : Survives (state g was) (state g o.conn) (λ db. HoldsTimeline db new_timeline)
 
 -- A store was opened, and no register was created in it: its state is unchanged, or the last committed one.
-pub record IsNotCreated {S : Type 0} (g : Ghosts S) (holds : State → Type 0) (fault : ProgramFault) : Type 0 where
+pub record IsNotCreated {S : Type 0} (g : Ghosts S) (holds : State → Type 0)
+    (fault : ProgramFault) : Type 0 where
   pub was : Held S
   pub left : Held S
   pub why : StoreFault
@@ -78,7 +79,8 @@ abbrev pub IsNotOpenable : {S : Type 0} → Ghosts S → (holds : State → Type
 IsNotOpenable g holds fault = IsFaultOfOpeningExisting fault ⊎ IsNotOpened g holds fault
 
 -- A register is opened in a file, or cannot be.
-abbrev pub OpensRegister : {S : Type 0} → Ghosts S → (holds : State → Type 0) → Result (TablesState S) ProgramFault
+abbrev pub OpensRegister : {S : Type 0} → Ghosts S → (holds : State → Type 0)
+    → Result (TablesState S) ProgramFault
     → Type 0
 OpensRegister g holds (Ok o) = IsOpened g holds o
 OpensRegister g holds (Err fault) = IsNotOpenable g holds fault
@@ -111,11 +113,13 @@ ChecksRegister {S} g holds old new (Err fault) =
 -- `wanted` of the pending connections are served on tables, if their store is honest.
 pub record ServesTables {S C T : Type 0} (g : Ghosts S) (reads : C → ℤ → C
     → Type 0) (wanted : ℕ) (coming after : Option (List (Option (List ℕ))))
-    (from : TablesState S) (clock : C) (to : TablesState S) (clock_after : C) (r : Result T ServiceFault) : Type 0 where
+    (from : TablesState S) (clock : C) (to : TablesState S) (clock_after : C)
+    (r : Result T ServiceFault) : Type 0 where
   pub told : ReportsClosed r to.is_closed
   pub was : IsHonest g to → IsHonest g from
   pub served : IsHonest g to
-      → ServesConnections reads wanted (record { closed = from.is_closed; timeline = held g from; clock = clock })
+      → ServesConnections reads wanted
+      (record { closed = from.is_closed; timeline = held g from; clock = clock })
       (IsStateOf (IsHonest g to) to.is_closed (held g to) clock_after) coming after r
 
 -- A service: the clock, the number of connections to serve, and the pending connections and the clock before

@@ -114,7 +114,8 @@ module _ {S C : Type 0} (g : Ghosts S) (h : Files S) (reads : C → ℤ → C �
   RunsCommand (to_migrate file) input clock clock_after old new old_errors new_errors status =
       (done : Result (Unit {0}) ProgramFault) × IsMigrating g (h.holds file) h.is_closed old new done
       × ReportsDone done old_errors new_errors status
-  RunsCommand (to_extract file reading party role kind at) input clock clock_after old new old_errors new_errors status =
+  RunsCommand (to_extract file reading party role kind at) input clock clock_after old new old_errors
+      new_errors status =
       (done : Result (Unit {0}) CommandError)
       × ExtractsRegister g (h.holds file) (extract_request_of reading party role kind at) old new done
       × ReportsExtracted done old_errors new_errors status

@@ -1,6 +1,7 @@
 //! The commands `new`, `check` and `serve`, on files.
 ghost use Rattle.std.specs.Prelude.{◌≡◌, string_bytes, IfErr, IfOk, OnOk};
-ghost use Rattle.land_commands.specs.Filed.{ChecksRegister, ServesFile, OpensRegister, CreatesRegister, ServesTables};
+ghost use Rattle.land_commands.specs.Filed.{ChecksRegister, ServesFile, OpensRegister, CreatesRegister};
+ghost use Rattle.land_commands.specs.Filed.{ServesTables};
 ghost use Rattle.land_commands.specs.Filed.{check_text};
 ghost use Rattle.land_commands.specs.ProgramFaults.{IsFaultOfClosing};
 

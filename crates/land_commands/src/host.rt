@@ -1,7 +1,8 @@
 //! The host of the program: its memory, files and ports.
 ghost use Rattle.std.specs.Prelude.{◌≡◌, List, Option, ℕ, IfErr, IfOk, IfSome, OnOk};
 ghost use Rattle.land_commands.specs.Filed.{HoldsFileState};
-ghost use Rattle.land_commands.specs.ProgramFaults.{IsFaultOfClosing, IsFaultOfOpeningExisting, IsFaultOfOpening};
+ghost use Rattle.land_commands.specs.ProgramFaults.{IsFaultOfClosing, IsFaultOfOpeningExisting};
+ghost use Rattle.land_commands.specs.ProgramFaults.{IsFaultOfOpening};
 ghost use Rattle.sqlite.specs.Held.{Held};
 ghost use Rattle.sqlite.specs.State.{State};
 

@@ -4,12 +4,12 @@
 pub mod command_error;
 pub mod extract_command;
 pub mod file_commands;
+pub mod fixed_clock;
 pub mod host;
 pub mod local;
 pub mod local_host;
-pub mod migrate_command;
 pub mod main_with;
+pub mod migrate_command;
 pub mod program_fault;
 pub mod run;
-pub mod fixed_clock;
 pub mod words;

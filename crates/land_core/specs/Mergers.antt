@@ -24,15 +24,18 @@ lists_number numbers n = list_any (λ it. nat_eq it n) numbers
 
 -- there are at most 15 other units, strictly ascending, without the unit itself
 abbrev pub are_other_units : (unit : ℕ) → (others : List ℕ) → Bool
-are_other_units unit others = nat_le (length others) 15 && are_ascending_numbers others && not (lists_number others unit)
+are_other_units unit others = nat_le (length others) 15 && are_ascending_numbers others
+    && not (lists_number others unit)
 
 -- 2 to 16 parcels are merged
 abbrev pub are_merged_parcels : (parcels : List ℕ) → Bool
-are_merged_parcels parcels = nat_le 2 (length parcels) && nat_le (length parcels) 16 && are_ascending_numbers parcels
+are_merged_parcels parcels = nat_le 2 (length parcels) && nat_le (length parcels) 16
+    && are_ascending_numbers parcels
 
 -- a merger has valid numbers of a unit, other units and parcels, and a valid label
 abbrev pub is_merger : Merger → Bool
-is_merger it = is_number it.unit && are_other_units it.unit it.others && are_merged_parcels it.parcels && is_label it.label
+is_merger it = is_number it.unit && are_other_units it.unit it.others && are_merged_parcels it.parcels
+    && is_label it.label
 
 -- ---- which mergers are the same
 

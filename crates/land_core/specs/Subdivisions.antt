@@ -33,7 +33,8 @@ are_further_parts parts = is_further_part_count (length parts) && have_names par
 
 -- a subdivision has valid numbers of a unit and a parcel, and valid parts
 abbrev pub is_subdivision : Subdivision → Bool
-is_subdivision it = is_number it.unit && is_number it.parcel && is_label it.first.label && are_further_parts it.rest
+is_subdivision it = is_number it.unit && is_number it.parcel && is_label it.first.label
+    && are_further_parts it.rest
 
 -- ---- which subdivisions are the same
 

@@ -1,7 +1,8 @@
 //! Mergers: several parcels become one.
 ghost use Rattle.std.specs.Prelude.{◌≡◌};
 ghost use Rattle.std.specs.List.{list_all};
-ghost use Rattle.land_core.specs.Mergers.{are_merged_parcels, are_other_units, are_ascending_numbers, is_merger, is_same_merger};
+ghost use Rattle.land_core.specs.Mergers.{are_merged_parcels, are_other_units, are_ascending_numbers};
+ghost use Rattle.land_core.specs.Mergers.{is_merger, is_same_merger};
 ghost use Rattle.land_core.specs.Mergers.{lists_number, all_above};
 ghost use Rattle.land_core.specs.Numbers.{is_number};
 

@@ -96,13 +96,21 @@ impl Register {
         let put = &change.put;
         let ended = &change.ended;
         Ok(Register {
-            parties: self.parties.with_changes(alloc, &put.parties, &ended.parties)?,
+            parties: self
+                .parties
+                .with_changes(alloc, &put.parties, &ended.parties)?,
             roles: self.roles.with_changes(alloc, &put.roles, &ended.roles)?,
-            members: self.members.with_changes(alloc, &put.members, &ended.members)?,
+            members: self
+                .members
+                .with_changes(alloc, &put.members, &ended.members)?,
             units: self.units.with_changes(alloc, &put.units, &ended.units)?,
-            parcels: self.parcels.with_changes(alloc, &put.parcels, &ended.parcels)?,
+            parcels: self
+                .parcels
+                .with_changes(alloc, &put.parcels, &ended.parcels)?,
             rrrs: self.rrrs.with_changes(alloc, &put.rrrs, &ended.rrrs)?,
-            sources: self.sources.with_changes(alloc, &put.sources, &ended.sources)?,
+            sources: self
+                .sources
+                .with_changes(alloc, &put.sources, &ended.sources)?,
             mutations: self
                 .mutations
                 .with_changes(alloc, &put.mutations, &ended.mutations)?,

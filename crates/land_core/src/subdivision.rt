@@ -1,7 +1,9 @@
 //! Subdivisions: a parcel is divided into parts.
 ghost use Rattle.std.specs.Prelude.{◌≡◌, IfOk};
-ghost use Rattle.land_core.specs.Subdivisions.{are_same_parts, have_names, is_new_name, is_part, are_further_parts};
-ghost use Rattle.land_core.specs.Subdivisions.{is_further_part_count, is_same_name, is_same_parcel, is_same_part};
+ghost use Rattle.land_core.specs.Subdivisions.{are_same_parts, have_names, is_new_name, is_part};
+ghost use Rattle.land_core.specs.Subdivisions.{are_further_parts};
+ghost use Rattle.land_core.specs.Subdivisions.{is_further_part_count, is_same_name, is_same_parcel};
+ghost use Rattle.land_core.specs.Subdivisions.{is_same_part};
 ghost use Rattle.land_core.specs.Subdivisions.{is_same_subdivision, is_subdivision};
 
 use crate::act::NewParcel;

@@ -52,12 +52,14 @@ module _ {K C : Type 0} (g : Ghosts K) (reads : C → ℤ → C → Type 0) wher
       → (bytes : List ℕ) → (size : ℕ) → Response → Type 0
   AnswersRequest keeper clock after late bytes size response =
       (more : List ℕ) → Simulates g keeper clock after late (λ from to.
-      AnswersFirst (StepIfHonest (g.honest after) reads) (bytes ++ more) from response (drop size bytes ++ more) to)
+      AnswersFirst (StepIfHonest (g.honest after) reads) (bytes ++ more) from response
+      (drop size bytes ++ more) to)
 
   -- The response is the one for this request.
   abbrev pub RespondsToRequest : (keeper : K) → (clock : C) → (after : K) → (late : C)
       → Request → Response → (wants_close head : Bool) → Type 0
-  RespondsToRequest keeper clock after late request response wants_close head = Simulates g keeper clock after late
+  RespondsToRequest keeper clock after late request response wants_close head = Simulates g keeper clock after
+      late
       (RespondsBy (Handles (StepIfHonest (g.honest after) reads) (Ok request)) response wants_close head)
 
   -- The response is the one for the request or its first fault, or for 501. Parsing may have run out of
@@ -65,5 +67,6 @@ module _ {K C : Type 0} (g : Ghosts K) (reads : C → ℤ → C → Type 0) wher
   abbrev pub RespondsTo : (keeper : K) → (clock : C) → (after : K) → (late : C)
       → Result Request WireFault → Response → (wants_close head : Bool) → Type 0
   RespondsTo keeper clock after late request response wants_close head =
-      (q : Result Request WireFault) → Returns (λ asked. asked) request q → Simulates g keeper clock after late
+      (q : Result Request WireFault) → Returns (λ asked. asked) request q
+      → Simulates g keeper clock after late
       (RespondsBy (HandlesOr501 (StepIfHonest (g.honest after) reads) q) response wants_close head)

@@ -32,10 +32,12 @@ ServesTheConnection reads from x to = ServesConnection reads x.bytes x.old x.new
 
 -- Connections are served in order, with any outcomes. Each starts at the state in which the one before ended,
 -- and none is served on a store that is closed.
-abbrev pub ServesInOrder : {C : Type 0} → (reads : C → ℤ → C → Type 0) → State C → List Connection → State C → Type 0
+abbrev pub ServesInOrder : {C : Type 0} → (reads : C → ℤ → C → Type 0) → State C → List Connection → State C
+    → Type 0
 ServesInOrder reads from [] to = to ≡ from
 ServesInOrder {C} reads from (x ∷ xs) to =
-    (mid : State C) × (from.closed ≡ false) × ServesTheConnection reads from x mid × ServesInOrder reads mid xs to
+    (mid : State C) × (from.closed ≡ false) × ServesTheConnection reads from x mid
+    × ServesInOrder reads mid xs to
 
 -- These are the first of the pending connections, and the others are still pending.
 abbrev pub AreFirstConnections : List Connection → (coming after : Option (List (Option (List ℕ)))) → Type 0
@@ -60,11 +62,13 @@ abbrev pub ServesUpTo : {C : Type 0} → (reads : C → ℤ → C → Type 0) �
     → (coming after : Option (List (Option (List ℕ))))
     → (count : ℕ → Type 0) → Type 0
 ServesUpTo {C} reads from stands coming after count =
-    (xs : List Connection) × (to : State C) × ServesInOrder reads from xs to × stands to × AreFirstConnections xs coming after
+    (xs : List Connection) × (to : State C) × ServesInOrder reads from xs to × stands to
+    × AreFirstConnections xs coming after
     × count (length xs)
 
 -- The next connection is served, unless accepting failed.
-abbrev pub ServesNextConnection : {C T : Type 0} → (reads : C → ℤ → C → Type 0) → State C → (stands : State C → Type 0)
+abbrev pub ServesNextConnection : {C T : Type 0} → (reads : C → ℤ → C → Type 0) → State C
+    → (stands : State C → Type 0)
     → (coming after : Option (List (Option (List ℕ))))
     → Result T ServiceFault → Type 0
 ServesNextConnection reads from stands coming after result =

@@ -21,14 +21,17 @@ abbrev pub wire_bytes : ResponseBytes → List ℕ
 wire_bytes (Owned bytes) = bytes.items
 wire_bytes (Static bytes) = bytes.now
 
--- The response is the one for a reply. `wants_close`: the item closes the connection. `is_head`: the item is a HEAD
+-- The response is the one for a reply. `wants_close`: the item closes the connection. `is_head`: the item is
+-- a HEAD
 -- request.
 abbrev pub IsResponseTo : Response → Reply → (wants_close is_head : Bool) → Type 0
 IsResponseTo a r wants_close is_head =
-    IsResponse r (wants_close || closes r) is_head (wire_bytes a.bytes) × (a.close_after ≡ (wants_close || closes r))
+    IsResponse r (wants_close || closes r) is_head (wire_bytes a.bytes)
+    × (a.close_after ≡ (wants_close || closes r))
 
 -- The response is the one for a reply to the first item of the bytes.
-abbrev pub AnswersFirst : {C : Type 0} → Transition C → List ℕ → State C → Response → List ℕ → State C → Type 0
+abbrev pub AnswersFirst : {C : Type 0} → Transition C → List ℕ → State C → Response → List ℕ → State C
+    → Type 0
 AnswersFirst step bytes from a rest to =
     (x : Exchange) × ServesItem step bytes from x rest to × (x.sent ≡ wire_bytes a.bytes)
     × (closing x ≡ a.close_after)
@@ -39,7 +42,8 @@ after_reply true = next_item.Close
 after_reply false = next_item.KeepAlive
 
 -- A response is written, or a prefix of it if a write fails.
-abbrev pub SendsResponse : List ℕ → (close_after : Bool) → (old new : Option (List ℕ)) → Result AfterItem DeskFault
+abbrev pub SendsResponse : List ℕ → (close_after : Bool) → (old new : Option (List ℕ))
+    → Result AfterItem DeskFault
     → Type 0
 SendsResponse bytes close_after old new (Ok it) = (it ≡ after_reply close_after) × Appends old new bytes
 SendsResponse bytes close_after old new (Err desk.Write) = (n : ℕ) × Appends old new (take n bytes)
@@ -49,7 +53,8 @@ SendsResponse bytes close_after old new (Err desk.NoMemory) = ⊥
 -- Serving the first item of known bytes. `left`: the bytes that remain.
 abbrev pub ServesNext : {C : Type 0} → Transition C → List ℕ → State C → State C → (left : Option (List ℕ))
     → (old new : Option (List ℕ)) → Result AfterItem DeskFault → Type 0
-ServesNext step bytes from to left old new (Ok next_item.Eof) = (bytes ≡ []) × (to ≡ from) × Appends old new []
+ServesNext step bytes from to left old new (Ok next_item.Eof) = (bytes ≡ []) × (to ≡ from)
+    × Appends old new []
 ServesNext step bytes from to left old new (Ok next_item.Close) =
     (x : Exchange) × (rest : List ℕ) × ServesItem step bytes from x rest to × (closing x ≡ true)
     × Appends old new x.sent

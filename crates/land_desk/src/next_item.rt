@@ -29,7 +29,7 @@ use land_streams::counted_reader::CountedReader;
 use land_streams::send::send;
 use land_streams::stream_fault::StreamFault;
 use land_wire::fields::caller_at;
-use land_wire::framing::connection::{wants_close, is_head};
+use land_wire::framing::connection::{is_head, wants_close};
 use land_wire::framing::item::{NextItem, read_item};
 use land_wire::reading::read_routed;
 use land_wire::routes::table::Endpoint;
@@ -88,9 +88,7 @@ pub(crate) fn serve_next_item<R: Read, W: Write, K: Keeper, C: Clock>(
         Ok(NextItem::End) => Ok(AfterItem::Eof),
         Ok(NextItem::Fault(fault)) => write_response(writer, &reject(alloc, fault)),
         Ok(NextItem::Request(spans, length)) => {
-            let answer = answer_first(
-                alloc, router, keeper, clock, buffer, headers, spans, length,
-            );
+            let answer = answer_first(alloc, router, keeper, clock, buffer, headers, spans, length);
             let next_item = write_response(writer, &answer);
             consume_front(buffer, spans.len + length);
             next_item

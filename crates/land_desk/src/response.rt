@@ -1,6 +1,7 @@
 //! Builds HTTP responses.
 ghost use Rattle.std.specs.Prelude.{◌≡◌, ℕ, IfOk, true, false, string_bytes};
-ghost use Rattle.land_desk.specs.Responses.{HasValidMoment, IsBody, IsResponse, medium_of, medium_text, response};
+ghost use Rattle.land_desk.specs.Responses.{HasValidMoment, IsBody, IsResponse, medium_of, medium_text};
+ghost use Rattle.land_desk.specs.Responses.{response};
 ghost use Rattle.land_desk.specs.Responses.{status_of, status_text};
 ghost use Rattle.land_keep.specs.declared.reply.Reply.TheVariants as reply;
 ghost use Rattle.land_wire.specs.Replies.{IsStoreFault};

@@ -2,6 +2,6 @@
 
 pub mod callers;
 pub mod connections;
-pub mod system_clock;
 pub mod serving;
+pub mod system_clock;
 pub mod timer;

@@ -50,6 +50,7 @@ common_of shares = least_to max_denominator (λ m. is_common_multiple m shares)
 unfoldable pub wholeness : List Ratio → Whole
 wholeness shares =
     if is_none (common_of shares) then TooFine
-    else if is_some (least_to max_denominator (λ m. is_common_multiple m shares && nat_eq (parts_of m shares) m))
+    else if is_some (least_to max_denominator (λ m. is_common_multiple m shares
+    && nat_eq (parts_of m shares) m))
     then Yes
     else No

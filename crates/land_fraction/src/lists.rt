@@ -6,7 +6,7 @@ ghost use Rattle.land_fraction.specs.Ratio.{max_denominator};
 ghost use Rattle.land_fraction.specs.Wholeness.{IsCommon, IsCommonMultiple, IsWholeness, common_of, parts_of};
 ghost use Rattle.land_fraction.specs.Wholeness.{wholeness};
 
-use crate::bounded::{MAX_DENOMINATOR, Fraction};
+use crate::bounded::{Fraction, MAX_DENOMINATOR};
 use crate::divisor::greatest_divisor;
 
 /// Whether the fractions of a list sum to one.

@@ -12,7 +12,8 @@ state_of g keeper clock = record { closed = g.closed keeper; timeline = g.timeli
 
 -- the abstraction relation: the timeline is the state's if the store is honest and open
 abbrev pub Represents : {K C : Type 0} → Ghosts K → K → C → State C → Type 0
-Represents g keeper clock state = IsStateOf (g.honest keeper) (g.closed keeper) (g.timeline keeper) clock state
+Represents g keeper clock state = IsStateOf (g.honest keeper) (g.closed keeper)
+    (g.timeline keeper) clock state
 
 -- forward simulation: each state represented before a call steps to one represented after it
 abbrev pub Simulates : {K C : Type 0} → Ghosts K → (keeper : K) → (clock : C) → (after : K) → (late : C)

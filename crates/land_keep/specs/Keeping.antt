@@ -87,7 +87,8 @@ SheetHasMoment t r = IfSheet r (λ view. view.at ≡ t)
 
 -- a sheet has the moment that the request states, or else a valid moment
 abbrev pub SheetHasRequestedMoment : Ask → Reply → Type 0
-SheetHasRequestedMoment a r = IfSheet r (λ view. MatchOption (at_of a) (IsMoment view.at) (λ named. view.at ≡ named))
+SheetHasRequestedMoment a r = IfSheet r
+    (λ view. MatchOption (at_of a) (IsMoment view.at) (λ named. view.at ≡ named))
 
 -- ---- replies and runs
 

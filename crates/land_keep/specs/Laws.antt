@@ -59,7 +59,8 @@ OpenKeepersFailOnlyForMemory = (closed : Bool) (fault : StoreFault)
 -- nothing else of the timeline
 abbrev pub ReadsUseTwoRegisters : Type 0
 ReadsUseTwoRegisters = (clock : ℤ) (request : Request) (one other : Timeline)
-    → IsReadRequest request.ask → now_of clock one ≡ now_of clock other → last_register one ≡ last_register other
+    → IsReadRequest request.ask → now_of clock one ≡ now_of clock other
+    → last_register one ≡ last_register other
     → register_at one (moment_of request.ask (now_of clock one))
     ≡ register_at other (moment_of request.ask (now_of clock one))
     → (step clock request one).0 ≡ (step clock request other).0

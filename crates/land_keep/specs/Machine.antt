@@ -80,8 +80,10 @@ outcome_next (Err refusal) tl = (reply.Refused (number_of refusal), tl)
 abbrev pub next_if_allowed : (clock : ℤ) → Caller → Ask → (t : ℤ) → Timeline → Next
 next_if_allowed clock caller (ask.View k number at) t tl = (view_reply (register_at tl t) k number, tl)
 next_if_allowed clock caller (ask.List k at) t tl = (reply.Numbers (seen_of (register_at tl t) caller k), tl)
-next_if_allowed clock caller (ask.Sheet unit at) t tl = (sheet_reply (view_at (register_at tl t) caller unit t), tl)
-next_if_allowed clock caller (ask.Do it) t tl = outcome_next (outcome_of (last_register tl) caller it (stamp_of clock tl)) tl
+next_if_allowed clock caller
+    (ask.Sheet unit at) t tl = (sheet_reply (view_at (register_at tl t) caller unit t), tl)
+next_if_allowed clock caller (ask.Do it) t tl = outcome_next
+    (outcome_of (last_register tl) caller it (stamp_of clock tl)) tl
 
 -- the result by verdict; a denied request changes nothing
 abbrev pub next_by_verdict : Verdict → Next → Timeline → Next

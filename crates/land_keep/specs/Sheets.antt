@@ -44,5 +44,10 @@ visible_entries at caller unit =
 abbrev pub view_at : Register → Caller → (unit : ℕ) → (moment : ℤ) → Option View
 view_at at caller unit moment =
     option_map
-    (λ u. record { unit = u; parcels = parcels_at at unit; rrrs = visible_entries at caller unit; at = moment })
+    (λ u. record {
+      unit = u;
+      parcels = parcels_at at unit;
+      rrrs = visible_entries at caller unit;
+      at = moment;
+    })
     (unit_at at unit)

@@ -44,7 +44,8 @@ last_register tl = unwrap_or (option_map (λ v. v.register) (last_version tl)) n
 -- from a version on, stamps are strictly increasing and the next numbers never decrease
 abbrev pub IncreasesFrom : Version → Timeline → Type 0
 IncreasesFrom before [] = Unit {0}
-IncreasesFrom before (v ∷ vs) = (before.stamp <ℤ v.stamp) × (before.register.next ≤ v.register.next) × IncreasesFrom v vs
+IncreasesFrom before (v ∷ vs) = (before.stamp <ℤ v.stamp) × (before.register.next ≤ v.register.next)
+    × IncreasesFrom v vs
 
 -- the timeline has a version, and stamps are strictly increasing
 abbrev pub IsIncreasing : Timeline → Type 0

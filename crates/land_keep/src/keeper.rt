@@ -42,9 +42,11 @@ pub trait Keeper {
 
     /// Returns the stamp of the last accepted change; 0 in a new register.
     fn last(&self) -> i64
-        ensures last { IsHonestAndOpen (honest self.now) (closed self.now) → result ≡ last_stamp (timeline self.now) }
+        ensures last { IsHonestAndOpen (honest self.now) (closed self.now)
+            → result ≡ last_stamp (timeline self.now) }
         ensures moment { result ≤ℤ last_moment }
-        ensures sound { IsHonestAndOpen (honest self.now) (closed self.now) → IsSoundTimeline (timeline self.now) };
+        ensures sound { IsHonestAndOpen (honest self.now) (closed self.now)
+            → IsSoundTimeline (timeline self.now) };
 
     /// Whether the keeper is closed.
     fn is_closed(&self) -> bool
@@ -58,11 +60,13 @@ pub trait Keeper {
         ask: &Ask,
         now: i64,
     ) -> Result<Verdict, StoreFault>
-        requires last { IsHonestAndOpen (honest self.old) (closed self.old) → last_stamp (timeline self.old) ≤ℤ now }
+        requires last { IsHonestAndOpen (honest self.old) (closed self.old)
+            → last_stamp (timeline self.old) ≤ℤ now }
         requires asked { moment_of ask.now now ≤ℤ now }
         ensures value { honest self.new
             → IfOk result (λ it. it ≡ verdict_at (timeline self.old) caller ask.now now) }
-        ensures same { IsHonestAndOpen (honest self.new) (closed self.new) → timeline self.new ≡ timeline self.old }
+        ensures same { IsHonestAndOpen (honest self.new) (closed self.new)
+            → timeline self.new ≡ timeline self.old }
         ensures was { honest self.new → honest self.old }
         ensures closes { Closes (closed self.old) (closed self.new) result };
 
@@ -76,7 +80,8 @@ pub trait Keeper {
     ) -> Result<NumberList, StoreFault>
         ensures value { honest self.new
             → IfOk result (λ it. it ≡ seen_of (register_at (timeline self.old) at) caller kind) }
-        ensures same { IsHonestAndOpen (honest self.new) (closed self.new) → timeline self.new ≡ timeline self.old }
+        ensures same { IsHonestAndOpen (honest self.new) (closed self.new)
+            → timeline self.new ≡ timeline self.old }
         ensures was { honest self.new → honest self.old }
         ensures closes { Closes (closed self.old) (closed self.new) result };
 
@@ -90,7 +95,8 @@ pub trait Keeper {
     ) -> Result<Option<Object>, StoreFault>
         ensures value { honest self.new
             → IfOk result (λ it. it ≡ object_at (register_at (timeline self.old) at) kind number) }
-        ensures same { IsHonestAndOpen (honest self.new) (closed self.new) → timeline self.new ≡ timeline self.old }
+        ensures same { IsHonestAndOpen (honest self.new) (closed self.new)
+            → timeline self.new ≡ timeline self.old }
         ensures was { honest self.new → honest self.old }
         ensures closes { Closes (closed self.old) (closed self.new) result };
 
@@ -105,7 +111,8 @@ pub trait Keeper {
     ) -> Result<Sequence<NamedObject>, StoreFault>
         ensures value { honest self.new
             → IfOk result (λ it. it ≡ objects_at (register_at (timeline self.old) at) kind numbers.now) }
-        ensures same { IsHonestAndOpen (honest self.new) (closed self.new) → timeline self.new ≡ timeline self.old }
+        ensures same { IsHonestAndOpen (honest self.new) (closed self.new)
+            → timeline self.new ≡ timeline self.old }
         ensures was { honest self.new → honest self.old }
         ensures closes { Closes (closed self.old) (closed self.new) result };
 
@@ -121,7 +128,8 @@ pub trait Keeper {
         ensures value { honest self.new
             → IfOk result (λ it. it ≡ view_at (register_at (timeline self.old) at) caller unit at) }
         ensures moment { IfOk result (λ it. IfSome it (λ view. view.at ≡ at)) }
-        ensures same { IsHonestAndOpen (honest self.new) (closed self.new) → timeline self.new ≡ timeline self.old }
+        ensures same { IsHonestAndOpen (honest self.new) (closed self.new)
+            → timeline self.new ≡ timeline self.old }
         ensures was { honest self.new → honest self.old }
         ensures closes { Closes (closed self.old) (closed self.new) result };
 
@@ -129,7 +137,8 @@ pub trait Keeper {
     fn slice(&mut self, alloc: Global, caller: Caller, act: &Act) -> Result<Slice, StoreFault>
         ensures value { honest self.new
             → IfOk result (λ it. it ≡ slice_of (last_register (timeline self.old)) caller act.now) }
-        ensures same { IsHonestAndOpen (honest self.new) (closed self.new) → timeline self.new ≡ timeline self.old }
+        ensures same { IsHonestAndOpen (honest self.new) (closed self.new)
+            → timeline self.new ≡ timeline self.old }
         ensures was { honest self.new → honest self.old }
         ensures closes { Closes (closed self.old) (closed self.new) result };
 

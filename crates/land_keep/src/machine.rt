@@ -4,8 +4,10 @@ ghost use Rattle.land_acts.specs.Outcome.{outcome_of};
 ghost use Rattle.land_core.specs.Acts.{is_well_formed, is_well_formed_request};
 ghost use Rattle.land_core.specs.Register.{holds};
 ghost use Rattle.land_keep.specs.Keepers.{LeavesTimeline, WasHonest, state_of};
-ghost use Rattle.land_keep.specs.Keeping.{Closes, CanFinish, AnswersByStep, IsHonestAndOpen, CommitsStep, Commits, RunsToState};
-ghost use Rattle.land_keep.specs.Keeping.{SheetHasRequestedMoment, SheetHasMoment, ReportsClosing, prepared_of, apply_pending};
+ghost use Rattle.land_keep.specs.Keeping.{Closes, CanFinish, AnswersByStep, IsHonestAndOpen, CommitsStep};
+ghost use Rattle.land_keep.specs.Keeping.{Commits, RunsToState};
+ghost use Rattle.land_keep.specs.Keeping.{SheetHasRequestedMoment, SheetHasMoment, ReportsClosing};
+ghost use Rattle.land_keep.specs.Keeping.{prepared_of, apply_pending};
 ghost use Rattle.land_keep.specs.Machine.{stamp_of, next_if_allowed, outcome_next};
 ghost use Rattle.land_keep.specs.Timeline.{last_register};
 

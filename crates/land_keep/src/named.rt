@@ -46,7 +46,11 @@ fn listed(alloc: Global, object: Object) -> Object
 }
 
 /// Returns the name of an entry's party; an empty text for any other object.
-fn party_name_beside(alloc: Global, register: &Register, object: &Object) -> Result<Text, AllocError>
+fn party_name_beside(
+    alloc: Global,
+    register: &Register,
+    object: &Object,
+) -> Result<Text, AllocError>
     ensures { IfOk result (λ it. it ≡ party_name_beside register.now object.now) }
 {
     match object {

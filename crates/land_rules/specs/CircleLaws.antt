@@ -21,7 +21,8 @@ CirclesAreOfMandates = (at : Register) (party number : ℕ)
 
 -- without mandates, the circle of a party has only the party itself
 abbrev pub CirclesWithoutMandates : Type 0
-CirclesWithoutMandates = (at : Register) (party : ℕ) → at.mandates ≡ map.empty → circle_of at party ≡ party ∷ []
+CirclesWithoutMandates = (at : Register) (party : ℕ) → at.mandates ≡ map.empty
+    → circle_of at party ≡ party ∷ []
 
 -- the same register without its mandates
 abbrev pub without_mandates : Register → Register

@@ -106,4 +106,5 @@ sees_parties_of_entries caller =
 
 -- the set of the parties of the entries that a caller sees
 abbrev pub ArePartiesOfEntries : Register → Caller → BTreeSet ℕ → Type 0
-ArePartiesOfEntries at caller parties = (party : ℕ) → has_number parties party ≡ is_party_in_sight at caller party
+ArePartiesOfEntries at caller parties = (party : ℕ) → has_number parties party
+    ≡ is_party_in_sight at caller party

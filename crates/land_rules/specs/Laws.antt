@@ -16,7 +16,8 @@ use Rattle.land_core.specs.declared.role.Role.TheVariants.{Citizen, Conveyancer,
 use Rattle.land_core.specs.declared.role.Role.TheVariants.{CertifiedSurveyor, StateAdministrator}
 use Rattle.land_rules.specs.Circles.{circle_of, is_group_of, is_in_circle}
 use Rattle.land_rules.specs.Relations.{has_pending_mutation_on}
-use Rattle.land_rules.specs.Rules.{rules_on, verdict_of, denies, first_denial, all_above, is_ascending_list, sees}
+use Rattle.land_rules.specs.Rules.{rules_on, verdict_of, denies, first_denial, all_above, is_ascending_list}
+use Rattle.land_rules.specs.Rules.{sees}
 use Rattle.land_rules.specs.Rules.{seen_of, is_party_in_sight, view_rules}
 use Rattle.land_rules.specs.declared.verdict.Verdict.{Verdict}
 use Rattle.land_rules.specs.declared.verdict.Verdict.TheVariants.{Allowed, Denied}
@@ -60,7 +61,8 @@ citizen party = record { party = party; role = Citizen }
 -- the verdict on a citizen's view of a group: allowed if a member of the citizen's circle is a member of the
 -- group at the requested time; denied by rule 13 if neither this holds, nor the group is in the circle, nor
 -- it is the party of a visible entry
-pub record GroupIsVisible (now at : Register) (party group : ℕ) (moment : Option ℤ) (past : Bool) : Type 0 where
+pub record GroupIsVisible (now at : Register) (party group : ℕ) (moment : Option ℤ)
+    (past : Bool) : Type 0 where
   pub member : (one : ℕ) → is_in_circle at party one ≡ true → is_member at group one ≡ true
       → stands at kind.Party group ≡ true
       → verdict_of now at (citizen party) (ask.View kind.Party group moment) past ≡ Allowed

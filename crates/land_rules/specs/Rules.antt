@@ -129,7 +129,11 @@ rrr_rules at caller number =
     -- a bank sees an entry only if the unit is visible and the entry is not the mortgage of another creditor
     ∷ (16, is_role caller.role Bank && not (is_rrr_where (is_visible_to_bank at caller) at number))
     -- a conveyancer sees an entry only if the unit is visible
-    ∷ (20, is_role caller.role Conveyancer && not (is_rrr_where (is_visible_to_conveyancer at caller) at number))
+    ∷ (
+      20,
+      is_role caller.role Conveyancer
+          && not (is_rrr_where (is_visible_to_conveyancer at caller) at number),
+    )
     -- a certified surveyor sees no entries
     ∷ (23, is_role caller.role CertifiedSurveyor)
     -- the entry does not exist

@@ -27,7 +27,8 @@ abbrev pub is_registered_citizen : (now : Register) → (party : ℕ) → Bool
 is_registered_citizen now party = stands now kind.Party party && holds now party Citizen
 
 -- the verdict on a citizen's view of an object
-abbrev pub citizen_view_verdict : (now at : Register) → (party : ℕ) → Kind → (number : ℕ) → Option ℤ → (past : Bool)
+abbrev pub citizen_view_verdict : (now at : Register) → (party : ℕ) → Kind → (number : ℕ) → Option ℤ
+    → (past : Bool)
     → Verdict
 citizen_view_verdict now at party k number moment past =
     verdict_of now at (citizen party) (ask.View k number moment) past
@@ -81,7 +82,8 @@ MembersAreHolders = (now at : Register) (party one group unit : ℕ) (moment : O
 -- any state of the register now
 abbrev pub EndedEntriesGiveNoSight : Type 0
 EndedEntriesGiveNoSight =
-    (now at : Register) (party unit : ℕ) (moment : Option ℤ) (past : Bool) → is_registered_citizen now party ≡ true
+    (now at : Register) (party unit : ℕ) (moment : Option ℤ) (past : Bool)
+    → is_registered_citizen now party ≡ true
     → CircleHoldsNothingOfClass is_right at party unit
     → citizen_view_verdict now at party kind.Unit unit moment past ≡ Denied 11
 
@@ -118,7 +120,8 @@ pub record IsVisibleEntryOfBank (at : Register) (party number : ℕ) : Type 0 wh
 pub record BankSees (at : Register) (party : ℕ) : Type 0 where
   pub units : (unit : ℕ) → (sees at (bank party) kind.Unit unit ≡ true)
       ↔ ((stands at kind.Unit unit ≡ true) × HasEntryOfClass is_mortgage at party unit)
-  pub entries : (number : ℕ) → (sees at (bank party) kind.Rrr number ≡ true) ↔ IsVisibleEntryOfBank at party number
+  pub entries : (number : ℕ)
+      → (sees at (bank party) kind.Rrr number ≡ true) ↔ IsVisibleEntryOfBank at party number
 
 -- every bank sees exactly this
 abbrev pub BanksSeeByTheirMortgages : Type 0

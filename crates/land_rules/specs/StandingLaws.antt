@@ -87,13 +87,15 @@ pub record PastFollowsRole (now at : Register) (caller : Caller) (a : Ask) : Typ
 
 -- the law on rule 3
 abbrev pub ThreeRolesSeeOnlyThePresent : Type 0
-ThreeRolesSeeOnlyThePresent = (now at : Register) (caller : Caller) (a : Ask) → PastFollowsRole now at caller a
+ThreeRolesSeeOnlyThePresent = (now at : Register) (caller : Caller) (a : Ask)
+    → PastFollowsRole now at caller a
 
 -- ---- rules 4 to 7: acts that are reserved to some roles
 
 -- whether a caller may make requests: it holds its role now, and requests the past only if its role may
 abbrev pub may_make_request : (now : Register) → Caller → (past : Bool) → Bool
-may_make_request now caller past = is_in_role now caller && (not past || has_role_among roles_with_past caller)
+may_make_request now caller past = is_in_role now caller
+    && (not past || has_role_among roles_with_past caller)
 
 -- a caller that may make requests requests one of these acts, and its role is not one of these
 pub record RequestsOutOfRole (these : Ask → Type 0) (roles : List Role) (now : Register) (caller : Caller)
@@ -106,7 +108,8 @@ pub record RequestsOutOfRole (these : Ask → Type 0) (roles : List Role) (now :
 -- role; it denies nothing else; and none of these acts is ever allowed in another role
 pub record IsReservedTo (roles : List Role) (rule : ℕ) (these : Ask → Type 0) (now at : Register)
     (caller : Caller) (a : Ask) (past : Bool) : Type 0 where
-  pub denied : (verdict_of now at caller a past ≡ Denied rule) ↔ RequestsOutOfRole these roles now caller a past
+  pub denied : (verdict_of now at caller a past ≡ Denied rule) ↔ RequestsOutOfRole these roles now caller a
+      past
   pub allowed : these a → verdict_of now at caller a past ≡ Allowed → has_role_among roles caller ≡ true
 
 -- a caller that may make requests and has one of these roles is allowed each of these acts
@@ -226,7 +229,8 @@ pub record BankLodgesOwnMortgages (now at : Register) (caller : Caller) (a : Ask
 -- the law on rule 8
 abbrev pub BanksLodgeTheirOwnMortgages : Type 0
 BanksLodgeTheirOwnMortgages =
-    (now at : Register) (caller : Caller) (a : Ask) (past : Bool) → BankLodgesOwnMortgages now at caller a past
+    (now at : Register) (caller : Caller) (a : Ask) (past : Bool)
+    → BankLodgesOwnMortgages now at caller a past
 
 -- the request lodges the discharge of the mortgage with this number
 pub record LodgesDischarge (number : ℕ) (a : Ask) : Type 0 where
@@ -251,7 +255,8 @@ pub record DischargesOtherEntry (now : Register) (caller : Caller) (a : Ask) (pa
 
 -- rule 9: a bank is allowed the discharges of the mortgages that it has now, on any unit; the rule denies it
 -- every other discharge, and denies nothing else
-pub record BankDischargesOwnMortgages (now at : Register) (caller : Caller) (a : Ask) (past : Bool) : Type 0 where
+pub record BankDischargesOwnMortgages (now at : Register) (caller : Caller) (a : Ask)
+    (past : Bool) : Type 0 where
   pub own : (number : ℕ) → may_act_as_bank now caller past ≡ true → LodgesDischarge number a
       → HasMortgage now caller.party number
       → verdict_of now at caller a past ≡ Allowed
@@ -260,7 +265,8 @@ pub record BankDischargesOwnMortgages (now at : Register) (caller : Caller) (a :
 -- the law on rule 9
 abbrev pub BanksDischargeTheirOwnMortgages : Type 0
 BanksDischargeTheirOwnMortgages =
-    (now at : Register) (caller : Caller) (a : Ask) (past : Bool) → BankDischargesOwnMortgages now at caller a past
+    (now at : Register) (caller : Caller) (a : Ask) (past : Bool)
+    → BankDischargesOwnMortgages now at caller a past
 
 -- ---- rules 28 and 29: citizens give mandates, and withdraw those of which they are the principal or the
 -- agent

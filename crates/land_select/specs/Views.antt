@@ -29,7 +29,8 @@ use Rattle.sqlite_trees.specs.Tree.{Trees}
 -- If the tables hold a history that at time t represents a register, sound or empty, the value is this fact
 -- of it.
 abbrev pub AgreesWithRegister : {T : Type 0} → (Register → T) → (t : ℤ) → Trees → T → Type 0
-AgreesWithRegister shown t db it = HoldsOfHistory db (λ h. (r : Register) → IsSoundOrNothing r → IsRegisterAt t h r → it ≡ shown r)
+AgreesWithRegister shown t db it = HoldsOfHistory db (λ h. (r : Register) → IsSoundOrNothing r
+    → IsRegisterAt t h r → it ≡ shown r)
 
 -- the same, if a premise holds of that register
 abbrev pub AgreesIfGiven : {T : Type 0} → (Given : Register → Type 0) → (Register → T) → (t : ℤ) → Trees → T
@@ -67,7 +68,8 @@ AreGroupsAt callers t db groups = HoldsOfHistory db
 
 -- the list has exactly the names in which a citizen holds rights in that register
 abbrev pub AreNamesAt : Caller → (t : ℤ) → Trees → List ℕ → Type 0
-AreNamesAt caller t db names = HoldsOfHistory db (λ h. (r : Register) → IsRegisterAt t h r → AreNamesOf r caller names)
+AreNamesAt caller t db names = HoldsOfHistory db (λ h. (r : Register) → IsRegisterAt t h r
+    → AreNamesOf r caller names)
 
 -- the entries of a unit that the caller's interest in the unit shows
 abbrev pub entries_by_interest : Register → Caller → Entries → Entries

@@ -44,13 +44,15 @@ where
 {
     /// Builds a register with these records only.
     fn alone(alloc: Global, found: Records<Self>) -> Register
-        ensures { (r : Whole) (first last : ℕ) → found ≡ entries_where (λ n v. is_within first last n) (Self.part r)
+        ensures { (r : Whole) (first last : ℕ) → found ≡ entries_where (λ n v. is_within first last n)
+            (Self.part r)
             → ListsAlike Self.KIND first last result r };
 }
 
 impl Listed for PartyRecord {
     fn alone(alloc: Global, found: Records<PartyRecord>) -> Register
-        ensures { (r : Whole) (first last : ℕ) → found ≡ entries_where (λ n v. is_within first last n) r.parties
+        ensures { (r : Whole) (first last : ℕ) → found ≡ entries_where
+            (λ n v. is_within first last n) r.parties
             → ListsAlike kinds.Party first last result r }
     {
         Register {
@@ -74,7 +76,8 @@ impl Listed for UnitRecord {
 
 impl Listed for ParcelRecord {
     fn alone(alloc: Global, found: Records<ParcelRecord>) -> Register
-        ensures { (r : Whole) (first last : ℕ) → found ≡ entries_where (λ n v. is_within first last n) r.parcels
+        ensures { (r : Whole) (first last : ℕ) → found ≡ entries_where
+            (λ n v. is_within first last n) r.parcels
             → ListsAlike kinds.Parcel first last result r }
     {
         Register {
@@ -86,7 +89,8 @@ impl Listed for ParcelRecord {
 
 impl Listed for SourceRecord {
     fn alone(alloc: Global, found: Records<SourceRecord>) -> Register
-        ensures { (r : Whole) (first last : ℕ) → found ≡ entries_where (λ n v. is_within first last n) r.sources
+        ensures { (r : Whole) (first last : ℕ) → found ≡ entries_where
+            (λ n v. is_within first last n) r.sources
             → ListsAlike kinds.Source first last result r }
     {
         Register {
@@ -98,7 +102,8 @@ impl Listed for SourceRecord {
 
 impl Listed for MutationRecord {
     fn alone(alloc: Global, found: Records<MutationRecord>) -> Register
-        ensures { (r : Whole) (first last : ℕ) → found ≡ entries_where (λ n v. is_within first last n) r.mutations
+        ensures { (r : Whole) (first last : ℕ) → found ≡ entries_where
+            (λ n v. is_within first last n) r.mutations
             → ListsAlike kinds.Mutation first last result r }
     {
         Register {
@@ -222,7 +227,8 @@ fn objects<S: Alter>(
     at: i64,
 ) -> Result<Sequence<NamedObject>, ReadFault>
     requires has_tables { HasRegisterTables S.Store conn.old }
-    ensures reads_only { ReadsTables S.Store result (ReadsPart (λ r. objects_at r kind numbers.now) at) conn.old
+    ensures reads_only { ReadsTables S.Store result (ReadsPart (λ r. objects_at r kind numbers.now) at)
+        conn.old
         conn.new }
     ensures autocommit { LeavesAutocommit conn.old conn.new }
 {

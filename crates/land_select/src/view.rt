@@ -7,7 +7,8 @@ ghost use Rattle.land_core.specs.declared.caller.Caller.{Caller as Who};
 ghost use Rattle.land_core.specs.declared.kind.Kind.TheVariants as kinds;
 ghost use Rattle.land_keep.specs.Sheets.{visible_entries, parcels_at, numbered_parcel, view_at};
 ghost use Rattle.land_select.specs.Cache.{IsValueOf, IsObjectValueOf};
-ghost use Rattle.land_select.specs.Views.{AgreesWithRegister, AgreesIfGiven, visible_rrrs, name_among, named_among};
+ghost use Rattle.land_select.specs.Views.{AgreesWithRegister, AgreesIfGiven, visible_rrrs, name_among};
+ghost use Rattle.land_select.specs.Views.{named_among};
 ghost use Rattle.land_select.specs.Views.{named_at, view_from, with_name};
 ghost use Rattle.land_select_queries.specs.Lookups.Parts.{ReadsPart};
 ghost use Rattle.land_select_queries.specs.TableReads.{ReadsTables};
@@ -167,7 +168,8 @@ fn read_visible_entries<S: Alter>(
 ) -> Result<Records<RrrRecord>, ReadFault>
     requires open { IsUsable S.Store conn.old }
     requires has_tables { HasRegisterTables S.Store conn.old }
-    ensures reads_only { ReadsTables S.Store result (AgreesWithRegister (λ r. visible_rrrs r caller unit) at) conn.old
+    ensures reads_only { ReadsTables S.Store result (AgreesWithRegister (λ r. visible_rrrs r caller unit) at)
+        conn.old
         conn.new }
     ensures autocommit { LeavesAutocommit conn.old conn.new }
 {
@@ -200,7 +202,8 @@ fn attach_names<S: Alter>(
 ) -> Result<Sequence<NamedRrr>, ReadFault>
     requires has_tables { HasRegisterTables S.Store conn.old }
     ensures reads_only { (caller : Who) → ReadsTables S.Store result
-        (AgreesIfGiven (λ r. entries.now ≡ visible_rrrs r caller unit) (λ r. visible_entries r caller unit) at)
+        (AgreesIfGiven (λ r. entries.now ≡ visible_rrrs r caller unit)
+        (λ r. visible_entries r caller unit) at)
         conn.old conn.new }
     ensures autocommit { LeavesAutocommit conn.old conn.new }
 {
@@ -221,7 +224,8 @@ fn read_named_entries<S: Alter>(
     requires open { IsUsable S.Store conn.old }
     requires has_tables { HasRegisterTables S.Store conn.old }
     ensures reads_only { ReadsTables S.Store result
-        (AgreesIfGiven (λ r. IsValueOf r caller kinds.Unit unit found.now) (λ r. visible_entries r caller unit) at)
+        (AgreesIfGiven (λ r. IsValueOf r caller kinds.Unit unit found.now)
+        (λ r. visible_entries r caller unit) at)
         conn.old conn.new }
     ensures autocommit { LeavesAutocommit conn.old conn.new }
 {

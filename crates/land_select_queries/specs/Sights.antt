@@ -12,7 +12,8 @@ use Rattle.land_select_queries.specs.declared.sights.selection.Selection.{Select
 use Rattle.land_select_queries.specs.declared.sights.selection.Selection.TheVariants.{All, Itself, ItsGroups}
 use Rattle.land_select_queries.specs.declared.sights.selection.Selection.TheVariants.{ItsLodgings, HeldUnits}
 use Rattle.land_select_queries.specs.declared.sights.selection.Selection.TheVariants.{GroupUnits, HeldEntries}
-use Rattle.land_select_queries.specs.declared.sights.selection.Selection.TheVariants.{GroupEntries, HeldParties}
+use Rattle.land_select_queries.specs.declared.sights.selection.Selection.TheVariants.{GroupEntries}
+use Rattle.land_select_queries.specs.declared.sights.selection.Selection.TheVariants.{HeldParties}
 use Rattle.land_select_queries.specs.declared.sights.selection.Selection.TheVariants.{GroupParties}
 use Rattle.land_select_queries.specs.declared.sights.selection.Selection.TheVariants.{HeldMutations}
 use Rattle.land_select_queries.specs.declared.sights.selection.Selection.TheVariants.{GroupMutations}

@@ -74,9 +74,11 @@ HasFault Number text = HasBodyWhere text (λ tagged rings. HasWord IsNotNumber r
 HasFault Range text = HasBodyWhere text (λ tagged rings. HasWord IsOutOfRange rings)
 HasFault FewPoints text = ListsPlacesWhere text (λ places. length places < 4)
 HasFault ManyPoints text = ListsPlacesWhere text (λ places. 201 < length places)
-HasFault NotClosed text = ListsPlacesWhere text (λ places. ¬ (place_at places (length places - 1) ≡ place_at places 0))
+HasFault NotClosed text = ListsPlacesWhere text
+    (λ places. ¬ (place_at places (length places - 1) ≡ place_at places 0))
 HasFault NotSimple text = ListsPlacesWhere text (λ places. ¬ IsSimple (ring_of places))
-HasFault AreaTooLarge text = ListsPlacesWhere text (λ places. 1000000000000000000 < doubled_area (ring_of places))
+HasFault AreaTooLarge text = ListsPlacesWhere text
+    (λ places. 1000000000000000000 < doubled_area (ring_of places))
 HasFault NoMemory text = ⊥
 
 -- ---- results

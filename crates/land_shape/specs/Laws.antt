@@ -15,7 +15,8 @@ pub record PrintedLaw : Type 0 where
 pub record OneAnswerLaw : Type 0 where
   pub one_ring : (text : List ℕ) (ring other : List Place) → Denotes text ring → Denotes text other
       → ring ≡ other
-  pub one_fault : (text : List ℕ) (fault other : ShapeFault) → IsFirstFault text fault → IsFirstFault text other
+  pub one_fault : (text : List ℕ) (fault other : ShapeFault) → IsFirstFault text fault
+      → IsFirstFault text other
       → fault ≡ other
   pub not_both : (text : List ℕ) (ring : List Place) (fault : ShapeFault) → Denotes text ring
       → ¬ IsFirstFault text fault

@@ -83,7 +83,8 @@ is_only_empty_word (Word w ∷ []) = is_empty_word w
 is_only_empty_word ts = false
 
 abbrev pub polygon_after : Bool × List Token → Option Polygon
-polygon_after rest = if is_only_empty_word rest.1 then Some empty else option_map (body rest.0) (body_of rest.1)
+polygon_after rest = if is_only_empty_word rest.1 then Some empty else option_map (body rest.0)
+    (body_of rest.1)
 
 abbrev pub polygon_of : List Token → Option Polygon
 polygon_of tokens = option_and_then polygon_after (split_head tokens)

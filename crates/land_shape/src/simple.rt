@@ -1,7 +1,8 @@
 //! Simple rings.
 
 ghost use Rattle.std.specs.Prelude.{◌≡◌, ◌↔◌, ◌<◌, ◌≤◌, ◌+◌, length, IsTrue, ℕ};
-ghost use Rattle.land_shape.specs.Simple.{place_of, places, place_at, next_at, MeetOnlyAtJoint, AllMeetOnlyAtJoints};
+ghost use Rattle.land_shape.specs.Simple.{place_of, places, place_at, next_at, MeetOnlyAtJoint};
+ghost use Rattle.land_shape.specs.Simple.{AllMeetOnlyAtJoints};
 ghost use Rattle.land_shape.specs.Simple.{HaveLength};
 ghost use Rattle.land_shape.specs.Segment.{MeetOnlyAt, HaveCommonPoint};
 
@@ -68,7 +69,8 @@ fn meet_only_at_joint(points: &[Point], i: usize, j: usize) -> bool
 fn earlier_meet_only_at_joint(points: &[Point], start: usize, end: usize, j: usize) -> bool
     requires within { j < length points.now }
     requires long { HaveLength (places points.now) }
-    ensures { IsTrue result ↔ ((i : ℕ) → start ≤ i → i < end → i < j → MeetOnlyAtJoint (places points.now) i j) }
+    ensures { IsTrue result ↔ ((i : ℕ) → start ≤ i → i < end → i < j
+        → MeetOnlyAtJoint (places points.now) i j) }
 {
     for i in start..end {
         if i < j && !meet_only_at_joint(points, i, j) {

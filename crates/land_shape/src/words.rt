@@ -20,14 +20,18 @@ pub(crate) fn is_keyword(word: &[u8]) -> bool
 pub(crate) fn is_tag(word: &[u8]) -> bool
     ensures { result ≡ is_tag word.now }
 {
-    equals_ignoring_case(word, b"z") || equals_ignoring_case(word, b"m") || equals_ignoring_case(word, b"zm")
+    equals_ignoring_case(word, b"z")
+        || equals_ignoring_case(word, b"m")
+        || equals_ignoring_case(word, b"zm")
 }
 
 /// Whether a word is the keyword with a tag joined to it.
 pub(crate) fn is_tagged_keyword(word: &[u8]) -> bool
     ensures { result ≡ is_tagged_keyword word.now }
 {
-    equals_ignoring_case(word, b"polygonz") || equals_ignoring_case(word, b"polygonm") || equals_ignoring_case(word, b"polygonzm")
+    equals_ignoring_case(word, b"polygonz")
+        || equals_ignoring_case(word, b"polygonm")
+        || equals_ignoring_case(word, b"polygonzm")
 }
 
 pub(crate) fn is_empty_word(word: &[u8]) -> bool

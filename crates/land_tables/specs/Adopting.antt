@@ -4,7 +4,8 @@ use Rattle.land_keep.specs.Timeline.{IsSoundTimeline, Timeline, last_register, l
 use Rattle.land_tables.specs.Calls.{StaysOpenAndSame}
 use Rattle.land_tables.specs.TableContents.{Finds, ReadsTablesV1, is_one_edition, is_version}
 use Rattle.land_tables.specs.TablesState.{IsHonest, IsConsistentState, TablesState}
-use Rattle.land_tables.specs.Registers.{HasValidIntervals, IsOfVersion, HasRegisterSchema, IsRegister, MayBeRegister, SchemaVersion}
+use Rattle.land_tables.specs.Registers.{HasValidIntervals, IsOfVersion, HasRegisterSchema, IsRegister}
+use Rattle.land_tables.specs.Registers.{MayBeRegister, SchemaVersion}
 use Rattle.land_tables.specs.Registers.{version_2}
 use Rattle.land_tables.specs.Standing.{HoldsTimeline, decoded_timeline}
 use Rattle.land_tables.specs.declared.fault.AdoptFault.{AdoptFault}
@@ -55,7 +56,8 @@ pub record IsReadFrom (version : ℕ) (db : Database) (found : TableContents) : 
 -- or why they cannot be read
 abbrev pub IsNotOfVersion : ℕ → AdoptFault → Database → Type 0
 IsNotOfVersion version fault.NotOurs db = ¬ MayBeRegister db
-IsNotOfVersion version fault.Version db = MayBeRegister db × (is_version version (decode_rows editions db.trees) ≡ false)
+IsNotOfVersion version fault.Version db = MayBeRegister db
+    × (is_version version (decode_rows editions db.trees) ≡ false)
 IsNotOfVersion version fault.Interval db = ⊥
 IsNotOfVersion version fault.Unsound db = ⊥
 IsNotOfVersion version fault.NoMemory db = ⊤
@@ -76,7 +78,8 @@ pub record IsRegisterTo (shapes : SchemaVersion) (db : Database) (latest : Momen
 
 -- A store is validated: it has a register, or is refused. A store that is open is unchanged, and it is open
 -- unless the fault is 502. In either case nothing is committed, and a crash leaves the same states as before.
-pub record IsValidation (shapes : SchemaVersion) (r : Result Moment AdoptFault) (old new : State) : Type 0 where
+pub record IsValidation (shapes : SchemaVersion) (r : Result Moment AdoptFault)
+    (old new : State) : Type 0 where
   pub register : HasCleanDisk new → IfOk r (IsRegisterTo shapes old.now)
   pub refused : HasCleanDisk new → IfErr r (λ why. IsRefused shapes why old.now)
   pub same : HasCleanDisk new → r ≢ Err fault.Store → StaysOpenAndSame old new

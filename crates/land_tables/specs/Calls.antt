@@ -27,7 +27,8 @@ pub record IsSafeRead {X : Type 0} (r : Result X StoreFault) (Given : X → Type
 
 -- a state that a crash may leave in addition to the old ones: the tables with the change
 abbrev pub MayWriteChange : Change → (next : ℕ) → (stamp : ℤ) → (old : Database) → Trees → Type 0
-MayWriteChange change next stamp old db = (new : Database) × WritesChange change next stamp old new × (db ≡ new.trees)
+MayWriteChange change next stamp old db = (new : Database) × WritesChange change next stamp old new
+    × (db ≡ new.trees)
 
 -- A write to an open store that is fully committed: if it succeeds, this was done and committed. Otherwise
 -- the store is unchanged unless the fault is 502. A crash leaves the same states as before, or the committed

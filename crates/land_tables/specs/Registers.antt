@@ -59,7 +59,8 @@ pub record IsOfVersion (shapes : SchemaVersion) (db : Database) : Type 0 where
 -- each lifespan begins at a stamp, and ends at a later stamp or never; lifespans of one key are disjoint
 pub record HasValidIntervals (shapes : SchemaVersion) (db : Database) : Type 0 where
   pub made : IsOfVersion shapes db
-  pub intervals : has_intervals (decode_rows moments (shapes.rows db.trees)) (decoded_history (shapes.rows db.trees))
+  pub intervals : has_intervals (decode_rows moments (shapes.rows db.trees))
+      (decoded_history (shapes.rows db.trees))
       ≡ true
 
 -- the tables hold a sound timeline

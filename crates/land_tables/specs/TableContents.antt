@@ -11,7 +11,8 @@ use Rattle.land_tables_history.specs.ValidHistory.{IsValidHistory}
 use Rattle.land_tables_history.specs.Moments.{last}
 use Rattle.land_tables_history.specs.declared.moment.Moment.{Moment}
 use Rattle.land_tables_history.specs.declared.version.Version.{Version}
-use Rattle.land_tables_rows.specs.Listing.Reading.{Says, DecodesHistoryV1, DecodesHistory, editions, mandates, moments}
+use Rattle.land_tables_rows.specs.Listing.Reading.{Says, DecodesHistoryV1, DecodesHistory, editions, mandates}
+use Rattle.land_tables_rows.specs.Listing.Reading.{moments}
 use Rattle.land_tables_rows.specs.Rowids.{HaveUniqueRowidsV1, HasUniqueRowids}
 use Rattle.land_tables_rows.specs.declared.edition.reading.Edition.{Edition}
 use Rattle.land_tables_schema.specs.Tables.{mandate}

@@ -74,7 +74,8 @@ abbrev pub CrashKeeps : {S : Type 0} → Ghosts S → TablesState S → Type 0
 CrashKeeps g o = o.is_closed ≡ false → CrashLeaves g o (λ db. HoldsTimeline db (held g o))
 
 -- if no call had failed before, a crash leaves one of these two timelines
-abbrev pub CrashLeavesOneOf : {S : Type 0} → Ghosts S → (old new : TablesState S) → (before after : Timeline) → Type 0
+abbrev pub CrashLeavesOneOf : {S : Type 0} → Ghosts S → (old new : TablesState S) → (before after : Timeline)
+    → Type 0
 CrashLeavesOneOf g old new before after =
     old.is_closed ≡ false → CrashLeaves g new (λ db. HoldsTimeline db before ⊎ HoldsTimeline db after)
 
@@ -107,4 +108,5 @@ CrashLeavesOldOrNew old new =
 
 -- a store that is open after a fault has its old content, or the last committed content
 abbrev pub IsOldOrCommitted : (old new : State) → Type 0
-IsOldOrCommitted old new = HasCleanDisk new → IsTrue new.is_open → (new.now ≡ old.now) ⊎ (new.now ≡ old.committed)
+IsOldOrCommitted old new = HasCleanDisk new → IsTrue new.is_open → (new.now ≡ old.now)
+    ⊎ (new.now ≡ old.committed)

@@ -14,8 +14,8 @@ use crate::failed_reads::fault_after;
 use land_core::change::Change;
 use land_core::limits::LAST_MOMENT;
 use land_keep::store_fault::StoreFault;
-use land_tables_rows::listing::fault::ReadFault;
 use land_tables_rows::change_writing::change::{fits, write_change};
+use land_tables_rows::listing::fault::ReadFault;
 use sqlite::{Alter, Connection, Error};
 use std::alloc::Global;
 

@@ -1,16 +1,16 @@
 //! The register's timeline in versioned tables of `sqlite`.
 #![tactic(auto)]
 
-mod opening;
+mod committing;
 mod creating;
 pub mod failed_reads;
 pub mod fault;
-mod table_contents;
-mod validation;
 mod migrating;
+mod opening;
 mod register;
 mod store_versions;
+mod table_contents;
 pub mod table_keeper;
 pub mod tables;
 pub mod timelines;
-mod committing;
+mod validation;

@@ -10,16 +10,16 @@ ghost use Rattle.land_tables_schema.specs.Rows.SchemaMigration.{MayMigrate, Migr
 ghost use Rattle.sqlite.specs.Held.{state};
 ghost use Rattle.sqlite.specs.State.{HasCleanDisk, IsUnchanged, Survives};
 
-use crate::opening::open_v1_store;
 use crate::failed_reads::fault_after;
 use crate::fault::AdoptFault;
-use crate::timelines::laws::{order_does_not_matter, histories_represent_one_timeline};
+use crate::opening::open_v1_store;
+use crate::timelines::laws::{histories_represent_one_timeline, order_does_not_matter};
 use land_keep::store_fault::StoreFault;
 use land_tables_history::moment::Moment;
-use land_tables_rows::listing::fault::ReadFault;
 use land_tables_rows::committing::laws::migrated_registers_are_held;
-use land_tables_schema::schema_v1::can_migrate;
+use land_tables_rows::listing::fault::ReadFault;
 use land_tables_schema::rows::schema_migration::migrate_register;
+use land_tables_schema::schema_v1::can_migrate;
 use sqlite::{Alter, Connection, Error};
 use std::alloc::Global;
 

@@ -10,13 +10,13 @@ ghost use Rattle.sqlite.specs.Held.{state};
 ghost use Rattle.sqlite.specs.State.{HasCleanDisk, IsUnchanged};
 
 use crate::fault::AdoptFault;
-use crate::validation::validate;
 use crate::store_versions::{read_store_v1, read_store_v2};
-use crate::timelines::validation_laws::{order_keeps_intervals, sound_timelines_are_valid};
 use crate::timelines::laws::{
-    valid_histories_represent_timelines, order_does_not_matter, the_last_moment_is_the_last_stamp,
-    histories_represent_one_timeline,
+    histories_represent_one_timeline, order_does_not_matter, the_last_moment_is_the_last_stamp,
+    valid_histories_represent_timelines,
 };
+use crate::timelines::validation_laws::{order_keeps_intervals, sound_timelines_are_valid};
+use crate::validation::validate;
 use land_tables_history::moment::Moment;
 use land_tables_schema::rows::openness::is_open;
 use sqlite::{Alter, Connection};

@@ -12,7 +12,7 @@ ghost use Rattle.sqlite.specs.State.{HasCleanDisk};
 
 use crate::failed_reads::fault_after;
 use crate::timelines::laws::{
-    order_does_not_matter, reading_is_the_register, histories_represent_one_timeline,
+    histories_represent_one_timeline, order_does_not_matter, reading_is_the_register,
 };
 use land_core::limits::LAST_MOMENT;
 use land_core::register::Register;
@@ -72,7 +72,8 @@ pub(crate) fn register_in<S: Alter>(
     requires { HasCleanDisk (state S.Store conn.old) → HoldsRegister (state S.Store conn.old) }
     ensures open { result ≢ Err store.Closed }
     ensures safe { IsSafeRead result
-        (λ it. it ≡ register_at (decoded_timeline (state S.Store conn.old).now.trees) at) (state S.Store conn.old)
+        (λ it. it ≡ register_at (decoded_timeline (state S.Store conn.old).now.trees) at)
+        (state S.Store conn.old)
         (state S.Store conn.new) }
     ensures autocommit { LeavesAutocommit conn.old conn.new }
 {

@@ -8,10 +8,10 @@ ghost use Rattle.sqlite.specs.Held.{state};
 ghost use Rattle.sqlite.specs.State.{HasCleanDisk};
 
 use crate::fault::AdoptFault;
-use crate::table_contents::{TableContents, read_tables_v1, read_mandates, add_mandates};
+use crate::table_contents::{TableContents, add_mandates, read_mandates, read_tables_v1};
 use crate::validation::check_edition;
-use land_tables_schema::schema_v1::{is_schema_v1, may_be_register_schema};
 use land_tables_schema::schema::is_schema_v2;
+use land_tables_schema::schema_v1::{is_schema_v1, may_be_register_schema};
 use sqlite::{Alter, Connection};
 use std::alloc::Global;
 

@@ -33,7 +33,10 @@ pub(crate) struct TableContents {
 }
 
 /// Reads all rows of the tables of schema version 1, which has no mandates.
-fn read_rows_v1<S: Alter>(alloc: Global, conn: &mut Connection<S>) -> Result<TableContents, ReadFault>
+fn read_rows_v1<S: Alter>(
+    alloc: Global,
+    conn: &mut Connection<S>,
+) -> Result<TableContents, ReadFault>
     requires { HasV1Tables S.Store conn.old }
     ensures reads_only { ReadsTables S.Store result DecodesRowsV1 conn.old conn.new }
     ensures unreadable { FailsOnlyIfNone S.Store result DecodesRowsV1 conn.old conn.new }
@@ -78,7 +81,8 @@ pub(crate) fn read_tables_v1<S: Alter>(
 /// Checks that the rows of mandates have unique rowids.
 fn check_mandate_rowids<S: Alter>(alloc: Global, conn: &mut Connection<S>) -> Result<(), ReadFault>
     requires { HasRegisterTables S.Store conn.old }
-    ensures reads_only { ReadsTables S.Store result (λ db _. HasUniqueRowids table.mandate db) conn.old conn.new }
+    ensures reads_only { ReadsTables S.Store result (λ db _. HasUniqueRowids table.mandate db) conn.old
+        conn.new }
     ensures read { IfErr result (λ fault. fault ≢ Unreadable) }
     ensures autocommit { LeavesAutocommit conn.old conn.new }
 {
@@ -102,7 +106,10 @@ pub(crate) fn read_mandates<S: Alter>(
 }
 
 /// Adds mandates to the contents of the tables of schema version 1.
-pub(crate) fn add_mandates(found: TableContents, listed: Sequence<Version<Mandate>>) -> TableContents
+pub(crate) fn add_mandates(
+    found: TableContents,
+    listed: Sequence<Version<Mandate>>,
+) -> TableContents
     ensures { result ≡ record found { history = record found.history { mandates = listed } } }
 {
     let mut found = found;

@@ -8,7 +8,8 @@ ghost use Rattle.land_keep.specs.Timeline.{register_at};
 ghost use Rattle.land_keep.specs.declared.store_fault.StoreFault.TheVariants as store;
 ghost use Rattle.land_tables.specs.Adopting.{HoldsNoRegister, IsAdopted, IsRefused};
 ghost use Rattle.land_tables.specs.Calls.{StaysOpenAndSame};
-ghost use Rattle.land_tables.specs.Migrating.{IsMigratedFrom, IsMigrated, CrashLeavesOldOrMigrated, StaysSameAfterCrash};
+ghost use Rattle.land_tables.specs.Migrating.{IsMigratedFrom, IsMigrated, CrashLeavesOldOrMigrated};
+ghost use Rattle.land_tables.specs.Migrating.{StaysSameAfterCrash};
 ghost use Rattle.land_tables.specs.Registers.{IsRegister, version_1, version_2};
 ghost use Rattle.land_tables.specs.Standing.{HoldsTimeline};
 ghost use Rattle.land_tables.specs.declared.fault.AdoptFault.TheVariants as why;
@@ -16,14 +17,14 @@ ghost use Rattle.land_tables_schema.specs.Schemas.{no_schema};
 ghost use Rattle.sqlite.specs.Held.{state};
 ghost use Rattle.sqlite.specs.State.{HasCleanDisk, Survives};
 
-use crate::opening::open_v2_store;
+use crate::committing::record;
 use crate::creating::create_tables;
 use crate::fault::AdoptFault;
 use crate::migrating::migrate_store;
+use crate::opening::open_v2_store;
 use crate::register::register_in;
-use crate::timelines::laws::{order_does_not_matter, histories_represent_one_timeline};
+use crate::timelines::laws::{histories_represent_one_timeline, order_does_not_matter};
 use crate::timelines::writing_laws::writes_represent_timelines;
-use crate::committing::record;
 use land_core::change::Change;
 use land_core::register::Register;
 use land_keep::laws::writing_keeps_soundness;
@@ -68,7 +69,8 @@ impl<S: Alter + Drop> Drop for Tables<S> {
 }
 
 impl<S: Alter> Tables<S> {
-    ghost use Rattle.land_tables.specs.TablesState.{IsCreated, IsHonest, IsWorking, IsOldOrCommitted, CrashLeavesOneOf};
+    ghost use Rattle.land_tables.specs.TablesState.{IsCreated, IsHonest, IsWorking, IsOldOrCommitted};
+    ghost use Rattle.land_tables.specs.TablesState.{CrashLeavesOneOf};
     ghost use Rattle.land_tables.specs.TablesState.{CrashLeavesOldOrNew};
     ghost use Rattle.land_tables.specs.TablesState.{CrashKeeps, StaysUntouchedByCrash, held};
 
@@ -169,7 +171,8 @@ impl<S: Alter> Tables<S> {
             (λ e. HasCleanDisk (state S.Store e.0) → IsTrue (state S.Store e.0).is_open
             → StaysSameAfterCrash (state S.Store conn) (state S.Store e.0)) }
         ensures crash_after { IfOk result
-            (λ t. Survives (state S.Store conn) (state S.Store t.conn) (IsMigratedFrom (state S.Store conn).now)) }
+            (λ t. Survives (state S.Store conn) (state S.Store t.conn)
+            (IsMigratedFrom (state S.Store conn).now)) }
         ensures crash { IfErr result
             (λ e. Survives (state S.Store conn) (state S.Store e.0) (IsMigratedFrom (state S.Store conn).now)) }
         ensures rests { IfOk result (CrashKeeps S.Store) }

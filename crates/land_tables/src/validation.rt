@@ -1,7 +1,8 @@
 //! Validates the decoded tables.
 ghost use Rattle.std.specs.Prelude.{◌≡◌, ◌≤ℤ◌, true, Some, IfOk};
 ghost use Rattle.land_keep.specs.Moments.{last_moment};
-ghost use Rattle.land_tables.specs.TableContents.{IsEditionOf, IsValidated, IsLatest, is_one_edition, is_version};
+ghost use Rattle.land_tables.specs.TableContents.{IsEditionOf, IsValidated, IsLatest, is_one_edition};
+ghost use Rattle.land_tables.specs.TableContents.{is_version};
 ghost use Rattle.land_tables_history.specs.Intervals.{has_intervals};
 ghost use Rattle.land_tables_history.specs.Moments.{last};
 
@@ -11,8 +12,8 @@ use land_core::limits::LAST_MOMENT;
 use land_tables_history::intervals::has_intervals;
 use land_tables_history::moment::Moment;
 use land_tables_history::moments::last;
-use land_tables_validity::valid_history::is_valid_history;
 use land_tables_rows::edition::reading::Edition;
+use land_tables_validity::valid_history::is_valid_history;
 use std::alloc::Global;
 
 /// Checks that there is exactly one edition, of this version. Errors: `NotOurs` (520) if there is not exactly
@@ -46,7 +47,11 @@ pub(crate) fn validate(alloc: Global, found: &TableContents) -> Result<Moment, A
 
 /// Applies the last test to a history with valid intervals, and returns its latest moment. Errors: `Unsound`
 /// (522) if the history is not valid; `NoMemory` (501).
-fn validate_history(alloc: Global, found: &TableContents, latest: Moment) -> Result<Moment, AdoptFault>
+fn validate_history(
+    alloc: Global,
+    found: &TableContents,
+    latest: Moment,
+) -> Result<Moment, AdoptFault>
     requires intervals { has_intervals found.now.moments found.now.history ≡ true }
     requires last { last found.now.moments ≡ Some latest }
     requires moment { latest.stamp ≤ℤ last_moment }

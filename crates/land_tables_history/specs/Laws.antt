@@ -29,7 +29,8 @@ pub record PutsMutations (r : Register) (change : Change) : Type 0 where
 -- a change leaves the register at all earlier moments unchanged
 abbrev pub ChangesKeepThePast : Type 0
 ChangesKeepThePast = (next : ℕ) (change : Change) (stamp t : ℤ) (history : History) (r : Register)
-    → t <ℤ stamp → t <ℤ never → IsRegisterAt t history r → IsRegisterAt t (changed next change stamp history) r
+    → t <ℤ stamp → t <ℤ never → IsRegisterAt t history r
+    → IsRegisterAt t (changed next change stamp history) r
 
 -- from its stamp on, the register is the one after the change, if the last change was before that
 abbrev pub ChangesTakeEffect : Type 0

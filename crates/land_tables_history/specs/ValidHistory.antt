@@ -30,7 +30,8 @@ never_decreases moments = list_all (λ a. list_all (λ b. not (decreases a b)) m
 
 -- there is a commit, stamps are distinct, and the next number never decreases
 abbrev pub are_moments : List Moment → Bool
-are_moments moments = nat_lt 0 (length moments) && are_distinct is_same_stamp moments && never_decreases moments
+are_moments moments = nat_lt 0 (length moments) && are_distinct is_same_stamp moments
+    && never_decreases moments
 
 -- ---- current values
 

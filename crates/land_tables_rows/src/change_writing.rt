@@ -2,9 +2,9 @@
 
 pub mod all;
 pub mod change;
-mod units_and_entries;
 mod kinds;
 mod lists;
-mod sources_and_mutations;
 mod parties_and_roles;
+mod sources_and_mutations;
+mod units_and_entries;
 pub mod versioned;

@@ -1,5 +1,5 @@
 //! Mandates that parties have given.
 
-pub mod reading;
 pub mod change_writing;
+pub mod reading;
 pub mod writing;

@@ -1,5 +1,5 @@
 //! Members of groups, with their shares (LA_PartyMember).
 
-pub mod reading;
 pub mod change_writing;
+pub mod reading;
 pub mod writing;

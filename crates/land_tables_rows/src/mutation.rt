@@ -1,6 +1,6 @@
 //! Mutations: their content and their state.
 
 pub mod cells;
-pub mod reading;
 pub mod change_writing;
+pub mod reading;
 pub mod writing;

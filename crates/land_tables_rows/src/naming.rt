@@ -1,5 +1,5 @@
 //! Links of mutations to units.
 
-pub mod reading;
 pub mod change_writing;
+pub mod reading;
 pub mod writing;

@@ -1,5 +1,5 @@
 //! Parties (LA_Party).
 
-pub mod reading;
 pub mod change_writing;
+pub mod reading;
 pub mod writing;

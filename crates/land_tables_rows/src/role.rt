@@ -1,5 +1,5 @@
 //! Roles of parties.
 
-pub mod reading;
 pub mod change_writing;
+pub mod reading;
 pub mod writing;

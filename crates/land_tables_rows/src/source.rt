@@ -1,5 +1,5 @@
 //! Sources: the documents on which changes are based (LA_Source).
 
-pub mod reading;
 pub mod change_writing;
+pub mod reading;
 pub mod writing;

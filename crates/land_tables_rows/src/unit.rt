@@ -1,5 +1,5 @@
 //! Basic administrative units (LA_BAUnit).
 
-pub mod reading;
 pub mod change_writing;
+pub mod reading;
 pub mod writing;

@@ -2,8 +2,10 @@
 use Rattle.std.specs.List.{list_all}
 use Rattle.std.specs.Prelude.{◌≡◌, ◌↔◌, ◌++◌, ℕ, List, Ok, drop, map, take, true}
 use Rattle.land_tables_schema.specs.Definitions.{AreDefinitions, made}
-use Rattle.land_tables_schema.specs.Schemas.{ContainsSchemaV1, IsSchemaV1, IsSchemaV2, IsMigratable, MayBeRegisterSchema}
-use Rattle.land_tables_schema.specs.Schemas.{v1_schema, schema_v2_with, v2_schema, no_schema, adds_no_constraint}
+use Rattle.land_tables_schema.specs.Schemas.{ContainsSchemaV1, IsSchemaV1, IsSchemaV2, IsMigratable}
+use Rattle.land_tables_schema.specs.Schemas.{MayBeRegisterSchema}
+use Rattle.land_tables_schema.specs.Schemas.{v1_schema, schema_v2_with, v2_schema, no_schema}
+use Rattle.land_tables_schema.specs.Schemas.{adds_no_constraint}
 use Rattle.land_tables_schema.specs.Schemas.{with_mandates, without_lookup_indexes}
 use Rattle.land_tables_schema.specs.Tables as table
 use Rattle.land_tables_schema.specs.Tables.{land_tables}

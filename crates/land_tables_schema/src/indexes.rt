@@ -1,8 +1,10 @@
 //! Checks that the indexes of a schema reject no row that the primary keys of its tables allow.
 ghost use Rattle.std.specs.List.{list_all, list_any};
 ghost use Rattle.std.specs.Prelude.{◌≡◌};
-ghost use Rattle.land_tables_schema.specs.Schemas.{are_apart, precedes_mandates, is_apart, is_lookup_index, is_key_of};
-ghost use Rattle.land_tables_schema.specs.Schemas.{is_last_key_index, is_on, adds_no_constraint, constrains_no_row_of};
+ghost use Rattle.land_tables_schema.specs.Schemas.{are_apart, precedes_mandates, is_apart, is_lookup_index};
+ghost use Rattle.land_tables_schema.specs.Schemas.{is_key_of};
+ghost use Rattle.land_tables_schema.specs.Schemas.{is_last_key_index, is_on, adds_no_constraint};
+ghost use Rattle.land_tables_schema.specs.Schemas.{constrains_no_row_of};
 ghost use Rattle.sqlite_schema.specs.Names.{same_name};
 
 use crate::tables::{lookup_index_names, mandate};
@@ -34,7 +36,9 @@ fn adds_no_constraint(tables: &[Table], index: &Index) -> bool
 pub fn add_no_constraints(tables: &[Table], indexes: &[Index]) -> bool
     ensures { result ≡ list_all (adds_no_constraint tables.now) indexes.now }
 {
-    indexes.iter().all(|index| adds_no_constraint(tables, index))
+    indexes
+        .iter()
+        .all(|index| adds_no_constraint(tables, index))
 }
 
 /// Returns whether an index is on one of these tables.
@@ -55,7 +59,9 @@ fn constrains_no_row_of(tables: &[Table], index: &Index) -> bool
 pub fn constrain_no_rows_of(tables: &[Table], indexes: &[Index]) -> bool
     ensures { result ≡ list_all (constrains_no_row_of tables.now) indexes.now }
 {
-    indexes.iter().all(|index| constrains_no_row_of(tables, index))
+    indexes
+        .iter()
+        .all(|index| constrains_no_row_of(tables, index))
 }
 
 /// Returns whether an index has one of these names. SQLite compares names case-insensitively.

@@ -3,13 +3,13 @@
 #![tactic(auto)]
 
 pub mod columns;
-pub mod schema_v1;
 pub mod indexes;
 pub mod keys;
 pub mod laws;
 pub mod making;
 pub mod rows;
 pub mod schema;
+pub mod schema_v1;
 pub mod shape;
 pub mod tables;
 pub mod terms;

@@ -2,7 +2,9 @@
 ghost use Rattle.std.specs.Prelude.{◌↔◌, IsTrue};
 ghost use Rattle.land_tables_schema.specs.Schemas.{IsSchemaV1, IsMigratable, MayBeRegisterSchema};
 
-use crate::indexes::{are_apart, precede_mandates, has_last_key_index, add_no_constraints, constrain_no_rows_of};
+use crate::indexes::{
+    add_no_constraints, are_apart, constrain_no_rows_of, has_last_key_index, precede_mandates,
+};
 use crate::schema::are_tables;
 use crate::tables::v1_shapes;
 use sqlite_schema::schema::Schema;

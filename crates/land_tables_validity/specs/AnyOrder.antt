@@ -71,17 +71,20 @@ pub group_permuted : (xs ys : List Ratio) → IsPermutation xs ys → are_group_
 group_permuted xs ys p =
     ap₂ (λ n w. is_group_size n && is_yes w) (sym (length_permutation xs ys p)) (wholeness-permuted xs ys p)
 
-marked_permuted : {T : Type 0} (set_entries : T → Bool) (test : List T → Bool) (xs ys : List T) → test xs ≡ test ys
+marked_permuted : {T : Type 0} (set_entries : T → Bool) (test : List T → Bool) (xs ys : List T)
+    → test xs ≡ test ys
     → IsPermutation xs ys
     → if_any_marked set_entries test xs ≡ if_any_marked set_entries test ys
-marked_permuted set_entries test xs ys same p = ap₂ (λ a b. not a || b) (list_any-IsPermutation set_entries xs ys p) same
+marked_permuted set_entries test xs ys same p = ap₂ (λ a b. not a || b)
+    (list_any-IsPermutation set_entries xs ys p) same
 
 -- ---- values of a unit
 
 shares_permuted : (type : RightType) (xs ys : List Holding) → IsPermutation xs ys
     → are_whole_or_none (holding_shares type xs) ≡ are_whole_or_none (holding_shares type ys)
 shares_permuted type xs ys p =
-    whole_permuted (holding_shares type xs) (holding_shares type ys) (filter_map_permuted (holding_share type) xs ys p)
+    whole_permuted (holding_shares type xs) (holding_shares type ys)
+    (filter_map_permuted (holding_share type) xs ys p)
 
 all_shares_permuted : (xs ys : List Holding) → IsPermutation xs ys → are_shares_whole xs ≡ are_shares_whole ys
 all_shares_permuted xs ys p =

@@ -1,8 +1,10 @@
 -- The conditions on a history at all commits, in four parts.
 use Rattle.std.specs.Prelude.{Bool, not, List}
 use Rattle.land_core.specs.Soundness.{has_administrator, has_bare_unit, has_broken_group, has_clash}
-use Rattle.land_core.specs.Soundness.{has_crowded_unit, has_dangling_grant, has_dangling_mandate, has_dangling_members}
-use Rattle.land_core.specs.Soundness.{has_dangling_mutation, has_dangling_parcel, has_rank_out_of_range, has_dangling_rrr}
+use Rattle.land_core.specs.Soundness.{has_crowded_unit, has_dangling_grant, has_dangling_mandate}
+use Rattle.land_core.specs.Soundness.{has_dangling_members}
+use Rattle.land_core.specs.Soundness.{has_dangling_mutation, has_dangling_parcel, has_rank_out_of_range}
+use Rattle.land_core.specs.Soundness.{has_dangling_rrr}
 use Rattle.land_core.specs.Soundness.{has_reused_reference, has_unit_without_whole_shares, has_unused_number}
 use Rattle.land_core.specs.Soundness.{exceeds_last_number}
 use Rattle.land_core.specs.declared.register.Register.{Register}

@@ -7,10 +7,12 @@ use Rattle.land_tables_history.specs.declared.version.Version.{Version}
 use Rattle.land_tables_history.specs.declared.sweeps.cover.CoverageSpan.{CoverageSpan}
 
 abbrev pub provided_at : (key : ℕ) → (since until : ℤ) → CoverageSpan
-provided_at key since until = record { first = key; second = 0; since = since; required = false; until = until }
+provided_at key since until = record
+    { first = key; second = 0; since = since; required = false; until = until }
 
 abbrev pub required_at : (key : ℕ) → (since until : ℤ) → CoverageSpan
-required_at key since until = record { first = key; second = 0; since = since; required = true; until = until }
+required_at key since until = record
+    { first = key; second = 0; since = since; required = true; until = until }
 
 -- a version provides its key during its lifespan
 abbrev pub provided_span : {X : Type 0} → (key : X → ℕ) → Version X → CoverageSpan
@@ -20,9 +22,11 @@ provided_span key v = provided_at (key v.what) v.since v.until
 abbrev pub required_span : {X : Type 0} → (key : X → ℕ) → Version X → CoverageSpan
 required_span key v = required_at (key v.what) v.since v.until
 
-abbrev pub coverage_spans : {X Y : Type 0} → (provided : X → ℕ) → List (Version X) → (required : Y → ℕ) → List (Version Y)
+abbrev pub coverage_spans : {X Y : Type 0} → (provided : X → ℕ) → List (Version X) → (required : Y → ℕ)
+    → List (Version Y)
     → List CoverageSpan
-coverage_spans provided xs required ys = map_list (provided_span provided) xs ++ map_list (required_span required) ys
+coverage_spans provided xs required ys = map_list (provided_span provided) xs
+    ++ map_list (required_span required) ys
 
 -- each span starts before it ends
 abbrev pub AreNonempty : List CoverageSpan → Type 0

@@ -9,7 +9,8 @@ pair_at required first second since until =
     record { first = first; second = second; since = since; required = required; until = until }
 
 -- a version requires or provides its keys during its lifespan
-abbrev pub paired : {X : Type 0} → (required : Bool) → (keys : X → List (ℕ × ℕ)) → Version X → List CoverageSpan
+abbrev pub paired : {X : Type 0} → (required : Bool) → (keys : X → List (ℕ × ℕ)) → Version X
+    → List CoverageSpan
 paired required keys v = map_list (λ k. pair_at required k.0 k.1 v.since v.until) (keys v.what)
 
 -- some versions provide their keys, and others require theirs

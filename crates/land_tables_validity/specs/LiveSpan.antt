@@ -13,7 +13,8 @@ abbrev pub live_span : {X T : Type 0} → (key : X → ℕ) → (what : X → T)
 live_span key what v = live_span_at (key v.what) (what v.what) v.since v.until
 
 -- likewise for each version of a list
-abbrev pub live_spans_of : {X T : Type 0} → (key : X → ℕ) → (what : X → T) → List (Version X) → List (LiveSpan T)
+abbrev pub live_spans_of : {X T : Type 0} → (key : X → ℕ) → (what : X → T) → List (Version X)
+    → List (LiveSpan T)
 live_spans_of key what vs = map_list (live_span key what) vs
 
 -- only the values

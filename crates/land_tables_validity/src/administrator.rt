@@ -5,7 +5,8 @@ ghost use Rattle.land_core.specs.Soundness.{has_administrator};
 ghost use Rattle.land_core.specs.declared.role.Role.TheVariants.{StateAdministrator};
 ghost use Rattle.land_tables_history.specs.Intervals.{has_intervals};
 ghost use Rattle.land_tables_history.specs.Open.{never};
-ghost use Rattle.land_tables_validity.specs.Administrator.{required_instants, instant, provided_administrators};
+ghost use Rattle.land_tables_validity.specs.Administrator.{required_instants, instant};
+ghost use Rattle.land_tables_validity.specs.Administrator.{provided_administrators};
 ghost use Rattle.land_tables_validity.specs.Never.{Never};
 ghost use Rattle.land_tables_validity.specs.CoverageSpans.{are_in_range, required_span};
 
@@ -37,8 +38,12 @@ pub(crate) fn has_administrators(
 }
 
 /// Adds a provided span for each state administrator, under one key.
-fn provide_administrators(coverage_spans: &mut Vec<CoverageSpan>, roles: &[Version<Grant>]) -> Result<(), AllocError>
-    ensures { IfOk result (λ it. coverage_spans.new.items ≡ coverage_spans.old.items ++ provided_administrators roles.now) }
+fn provide_administrators(
+    coverage_spans: &mut Vec<CoverageSpan>,
+    roles: &[Version<Grant>],
+) -> Result<(), AllocError>
+    ensures { IfOk result (λ it. coverage_spans.new.items ≡ coverage_spans.old.items
+        ++ provided_administrators roles.now) }
 {
     for role in roles {
         if is_administrator(role.what.role) {
@@ -55,9 +60,13 @@ fn is_administrator(role: Role) -> bool
 }
 
 /// Adds a required span for each commit.
-fn require_at_moments(coverage_spans: &mut Vec<CoverageSpan>, moments: &[Moment]) -> Result<(), AllocError>
+fn require_at_moments(
+    coverage_spans: &mut Vec<CoverageSpan>,
+    moments: &[Moment],
+) -> Result<(), AllocError>
     requires { are_in_range moments.now ≡ true }
-    ensures { IfOk result (λ it. coverage_spans.new.items ≡ coverage_spans.old.items ++ required_instants moments.now) }
+    ensures { IfOk result (λ it. coverage_spans.new.items ≡ coverage_spans.old.items
+        ++ required_instants moments.now) }
 {
     for moment in moments {
         coverage_spans.push(required_at(moment))?;

@@ -4,7 +4,8 @@ ghost use Rattle.land_core.specs.Soundness.{has_bare_unit};
 ghost use Rattle.land_tables_history.specs.Intervals.{has_intervals};
 ghost use Rattle.land_tables_validity.specs.BareUnits.{entry_unit, number_of, ownerships, owns, parcel_unit};
 ghost use Rattle.land_tables_validity.specs.Never.{Never};
-ghost use Rattle.land_tables_validity.specs.CoverageSpans.{AreNonempty, are_in_range, provided_span, coverage_spans};
+ghost use Rattle.land_tables_validity.specs.CoverageSpans.{AreNonempty, are_in_range, provided_span};
+ghost use Rattle.land_tables_validity.specs.CoverageSpans.{coverage_spans};
 ghost use Rattle.land_tables_history.specs.Sweeps.Cover.{IsCovered};
 
 use crate::coverage_spans::provided;
@@ -47,7 +48,8 @@ fn have_parcels(alloc: Global, history: &History) -> Result<bool, AllocError>
 
 /// Returns whether each unit has an owner throughout its lifespan.
 fn have_owners(alloc: Global, history: &History) -> Result<bool, AllocError>
-    requires { AreNonempty (coverage_spans entry_unit (ownerships history.now.rrrs) number_of history.now.units) }
+    requires { AreNonempty
+        (coverage_spans entry_unit (ownerships history.now.rrrs) number_of history.now.units) }
     ensures { IfOk result (λ it. (it ≡ true) ↔ IsCovered
         (coverage_spans entry_unit (ownerships history.now.rrrs) number_of history.now.units)) }
 {

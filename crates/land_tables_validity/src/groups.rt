@@ -7,8 +7,10 @@ ghost use Rattle.land_fraction.specs.Wholeness.{wholeness};
 ghost use Rattle.land_tables_history.specs.Intervals.{has_intervals};
 ghost use Rattle.land_tables_validity.specs.AnyOrder.{joined_in_any_order};
 ghost use Rattle.land_tables_validity.specs.LiveSpan.{span_values};
-ghost use Rattle.land_tables_validity.specs.Memberships.{are_members_sound, are_members_whole, group_live_spans};
-ghost use Rattle.land_tables_validity.specs.Memberships.{is_group, member_share, member_shares, member_live_spans};
+ghost use Rattle.land_tables_validity.specs.Memberships.{are_members_sound, are_members_whole};
+ghost use Rattle.land_tables_validity.specs.Memberships.{group_live_spans};
+ghost use Rattle.land_tables_validity.specs.Memberships.{is_group, member_share, member_shares};
+ghost use Rattle.land_tables_validity.specs.Memberships.{member_live_spans};
 ghost use Rattle.land_tables_validity.specs.Never.{Never};
 ghost use Rattle.land_tables_validity.specs.CoverageSpans.{are_in_range};
 
@@ -19,7 +21,7 @@ use land_fraction::{Fraction, Whole, is_whole};
 use land_tables_history::group_member::GroupMember;
 use land_tables_history::history::History;
 use land_tables_history::moment::Moment;
-use land_tables_history::sweeps::sweep::{SweepItem, LiveSpan, are_sound};
+use land_tables_history::sweeps::sweep::{LiveSpan, SweepItem, are_sound};
 use land_tables_history::version::Version;
 use std::alloc::{AllocError, Global};
 

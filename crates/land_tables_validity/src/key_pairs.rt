@@ -6,7 +6,12 @@ use land_tables_history::sweeps::cover::CoverageSpan;
 use land_tables_history::version::Version;
 
 /// Returns a span that requires or provides a key of two numbers during the lifespan of a version.
-pub(crate) fn pair_span<X>(required: bool, first: u64, second: u64, version: &Version<X>) -> CoverageSpan
+pub(crate) fn pair_span<X>(
+    required: bool,
+    first: u64,
+    second: u64,
+    version: &Version<X>,
+) -> CoverageSpan
     ensures { result ≡ pair_at required first second version.now.since version.now.until }
 {
     CoverageSpan {

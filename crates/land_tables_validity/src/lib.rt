@@ -4,22 +4,22 @@
 
 mod administrator;
 mod bare_units;
+mod coverage_spans;
 mod duplicate_rights;
 mod entries;
 mod groups;
-mod share_sums;
-pub mod valid_history;
+mod key_pairs;
 mod live_spans;
-mod unique_references;
 mod mandates;
 mod members;
 mod moments;
 mod mutations;
 mod namings;
 mod number_range;
-mod key_pairs;
 mod parcels;
-mod coverage_spans;
 mod references_exist;
 mod roles;
+mod share_sums;
+mod unique_references;
 mod units;
+pub mod valid_history;

@@ -58,7 +58,8 @@ fn are_single_parties<W, F: Fn(&W) -> u64>(
     ghost number_of: { W → ℕ }
     requires callable { F.IsAlwaysCallable number }
     requires computes { (what : W) (n : ℕ) → FnReturnsAt F.Fn number what n → n ≡ number_of what }
-    requires nonempty { AreNonempty (coverage_spans (λ e. e.0) (single_parties parties.now) number_of versions.now) }
+    requires nonempty { AreNonempty
+        (coverage_spans (λ e. e.0) (single_parties parties.now) number_of versions.now) }
     ensures { IfOk result (λ it. (it ≡ true) ↔ IsCovered
         (coverage_spans (λ e. e.0) (single_parties parties.now) number_of versions.now)) }
 {

@@ -2,7 +2,8 @@
 ghost use Rattle.std.specs.List.Sorted.{IsPermutation, IsSorted};
 ghost use Rattle.std.specs.Prelude.{◌≡◌, IfOk};
 ghost use Rattle.land_tables_history.specs.ValidHistory.{are_moments};
-ghost use Rattle.land_tables_validity.specs.Chains.{precedes, precedes_first, is_increasing, is_chain, stamp_cmp};
+ghost use Rattle.land_tables_validity.specs.Chains.{precedes, precedes_first, is_increasing, is_chain};
+ghost use Rattle.land_tables_validity.specs.Chains.{stamp_cmp};
 
 use land_tables_history::moment::Moment;
 use std::alloc::{AllocError, Global};

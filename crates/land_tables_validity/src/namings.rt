@@ -92,7 +92,8 @@ fn add_mutation(
     required: bool,
     mutation: &Version<(u64, MutationRecord)>,
 ) -> Result<(), AllocError>
-    ensures { OnOk result (coverage_spans.new.items ≡ coverage_spans.old.items ++ paired required named_pairs mutation.now) }
+    ensures { OnOk result (coverage_spans.new.items ≡ coverage_spans.old.items
+        ++ paired required named_pairs mutation.now) }
 {
     match &mutation.what.1.content {
         Content::Transfer(it) => add_unit(coverage_spans, required, mutation, it.unit),

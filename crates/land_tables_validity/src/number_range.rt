@@ -7,9 +7,11 @@ ghost use Rattle.land_tables_history.specs.Intervals.{has_intervals};
 ghost use Rattle.land_tables_history.specs.ValidHistory.{are_moments};
 ghost use Rattle.land_tables_validity.specs.Chains.{is_increasing, stamp_cmp};
 ghost use Rattle.land_tables_validity.specs.Never.{Never};
-ghost use Rattle.land_tables_validity.specs.NumbersInUse.{are_all_in_range, are_numbers_left, has_number_in_range};
+ghost use Rattle.land_tables_validity.specs.NumbersInUse.{are_all_in_range, are_numbers_left};
+ghost use Rattle.land_tables_validity.specs.NumbersInUse.{has_number_in_range};
 ghost use Rattle.land_tables_validity.specs.NumbersInUse.{has_numbers_in_range};
-ghost use Rattle.land_tables_validity.specs.NumbersInUse.{is_used, is_rank_in_range, next_since, passes_since};
+ghost use Rattle.land_tables_validity.specs.NumbersInUse.{is_used, is_rank_in_range, next_since};
+ghost use Rattle.land_tables_validity.specs.NumbersInUse.{passes_since};
 
 use crate::moments::in_order;
 use land_core::rrr::RrrRecord;
@@ -29,7 +31,8 @@ pub(crate) fn are_numbers_in_range(
     requires intervals { has_intervals moments.now history.now ≡ true }
     requires moments { are_moments moments.now ≡ true }
     ensures { IfOk result (λ it. (it ≡ true) ↔ (Never exceeds_last_number moments.now history.now
-        × Never has_unused_number moments.now history.now × Never has_rank_out_of_range moments.now history.now)) }
+        × Never has_unused_number moments.now history.now
+        × Never has_rank_out_of_range moments.now history.now)) }
 {
     let sorted = in_order(alloc, moments)?;
     Ok(are_all_in_range(history, sorted.as_slice()))

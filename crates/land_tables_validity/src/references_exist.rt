@@ -3,10 +3,11 @@
 //! the coverage.
 ghost use Rattle.std.specs.Fn.{FnReturnsAt};
 ghost use Rattle.std.specs.Prelude.{◌≡◌, ◌↔◌, ◌++◌, ℕ, true, IfOk, map as map_list};
-ghost use Rattle.land_tables_validity.specs.CoverageSpans.{AreNonempty, required_span, provided_span, coverage_spans};
+ghost use Rattle.land_tables_validity.specs.CoverageSpans.{AreNonempty, required_span, provided_span};
+ghost use Rattle.land_tables_validity.specs.CoverageSpans.{coverage_spans};
 ghost use Rattle.land_tables_history.specs.Sweeps.Cover.{IsCovered};
 
-use crate::coverage_spans::{required, provided};
+use crate::coverage_spans::{provided, required};
 use land_core::sequence::Sequence;
 use land_tables_history::sweeps::cover::{CoverageSpan, is_covered};
 use land_tables_history::version::Version;

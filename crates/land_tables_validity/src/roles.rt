@@ -30,7 +30,11 @@ pub(crate) fn roles_refs_exist(
 {
     let mut coverage_spans = Vec::new(alloc);
     provide_single_parties(&mut coverage_spans, history.parties.as_slice())?;
-    require_numbers(&mut coverage_spans, history.roles.as_slice(), |role| role.party)?;
+    require_numbers(
+        &mut coverage_spans,
+        history.roles.as_slice(),
+        |role| role.party,
+    )?;
     Ok(is_covered(&mut coverage_spans))
 }
 

@@ -4,7 +4,8 @@ ghost use Rattle.std.specs.List.{list_any};
 ghost use Rattle.std.specs.Prelude.{◌≡◌, IfOk};
 ghost use Rattle.land_core.specs.Units.{are_whole_or_none};
 ghost use Rattle.land_tables_validity.specs.Holdings.{are_few, are_shares_whole, class_holding, is_checked};
-ghost use Rattle.land_tables_validity.specs.Holdings.{is_entry, is_parcel, is_unit, right_holding, holding_share};
+ghost use Rattle.land_tables_validity.specs.Holdings.{is_entry, is_parcel, is_unit, right_holding};
+ghost use Rattle.land_tables_validity.specs.Holdings.{holding_share};
 ghost use Rattle.land_tables_validity.specs.Holdings.{holding_shares};
 ghost use Rattle.land_tables_validity.specs.LiveSpan.{span_values, if_any_marked};
 

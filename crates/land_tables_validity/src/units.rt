@@ -8,14 +8,14 @@ ghost use Rattle.land_tables_validity.specs.Holdings.{unit_spans};
 ghost use Rattle.land_tables_validity.specs.Never.{Never};
 ghost use Rattle.land_tables_validity.specs.CoverageSpans.{are_in_range};
 
-use crate::share_sums::{Holding, are_few_in_unit, are_whole_in_checked_unit};
 use crate::live_spans::live_span;
+use crate::share_sums::{Holding, are_few_in_unit, are_whole_in_checked_unit};
 use land_core::parcel::ParcelRecord;
 use land_core::rrr::RrrRecord;
 use land_core::unit::UnitRecord;
 use land_tables_history::history::History;
 use land_tables_history::moment::Moment;
-use land_tables_history::sweeps::sweep::{SweepItem, LiveSpan, are_sound};
+use land_tables_history::sweeps::sweep::{LiveSpan, SweepItem, are_sound};
 use land_tables_history::version::Version;
 use std::alloc::{AllocError, Global};
 

@@ -10,7 +10,6 @@ use crate::bare_units::have_parcels_and_owners;
 use crate::duplicate_rights::have_no_duplicate_rights;
 use crate::entries::entries_refs_exist;
 use crate::groups::are_groups_whole;
-use crate::unique_references::are_references_unique;
 use crate::mandates::mandates_refs_exist;
 use crate::members::members_refs_exist;
 use crate::moments::are_moments;
@@ -19,6 +18,7 @@ use crate::namings::match_mutation_units;
 use crate::number_range::are_numbers_in_range;
 use crate::parcels::parcels_refs_exist;
 use crate::roles::roles_refs_exist;
+use crate::unique_references::are_references_unique;
 use crate::units::are_units_whole;
 use land_tables_history::history::History;
 use land_tables_history::moment::Moment;
@@ -29,7 +29,11 @@ use std::alloc::{AllocError, Global};
 /// commit. Each condition is checked for all commits in one sort and one pass, because a check of each
 /// version of the register would take quadratic time. Requires valid intervals and stamps before `NEVER`.
 /// Returns an error only if it is out of memory.
-pub fn is_valid_history(alloc: Global, history: &History, moments: &[Moment]) -> Result<bool, AllocError>
+pub fn is_valid_history(
+    alloc: Global,
+    history: &History,
+    moments: &[Moment],
+) -> Result<bool, AllocError>
     requires intervals { has_intervals moments.now history.now ≡ true }
     requires in_time { are_in_range moments.now ≡ true }
     ensures { IfOk result (λ it. (it ≡ true) ↔ IsValidHistory moments.now history.now) }
@@ -79,7 +83,11 @@ fn have_valid_sums(alloc: Global, history: &History, moments: &[Moment]) -> Resu
 }
 
 /// Returns whether no entry and no reference of a lodger is duplicated.
-fn have_no_duplicates(alloc: Global, history: &History, moments: &[Moment]) -> Result<bool, AllocError>
+fn have_no_duplicates(
+    alloc: Global,
+    history: &History,
+    moments: &[Moment],
+) -> Result<bool, AllocError>
     requires { has_intervals moments.now history.now ≡ true }
     ensures { IfOk result (λ it. (it ≡ true) ↔ HaveNoDuplicates moments.now history.now) }
 {

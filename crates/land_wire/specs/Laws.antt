@@ -98,4 +98,5 @@ ObjectTexts = (it : Object) → reply_text (reply.Object it) ≡ Some (object_re
 
 -- a text determines its reply, if the reply is within its limits
 abbrev pub TextsDetermineReplies : Type 0
-TextsDetermineReplies = (a b : Reply) → IsReplyWithin a → IsReplyWithin b → reply_text a ≡ reply_text b → a ≡ b
+TextsDetermineReplies = (a b : Reply) → IsReplyWithin a → IsReplyWithin b → reply_text a ≡ reply_text b
+    → a ≡ b

@@ -5,7 +5,8 @@ ghost use Rattle.http_header.specs.FieldName.{IsFieldName};
 ghost use Rattle.http_header.specs.FieldValue.{IsFieldValue};
 ghost use Rattle.http_header.specs.HeaderMap.{RefusesAppend, get_all};
 ghost use Rattle.http_header.specs.Token.{lowercase};
-ghost use Rattle.land_wire.specs.Fields.{AreWithin, caller_in, fields_at, only_value, party_in, role_in, with_field};
+ghost use Rattle.land_wire.specs.Fields.{AreWithin, caller_in, fields_at, only_value, party_in, role_in};
+ghost use Rattle.land_wire.specs.Fields.{with_field};
 ghost use Rattle.land_wire_json.specs.Bodies.WireFaults.{map_ok};
 
 use crate::framing::named::{Occurrence, find_field};

@@ -2,7 +2,8 @@
 ghost use Rattle.land_wire.specs.Laws.{BodiesOfReadsAreIgnored, GetsDoNothing, OtherMethodsRequestActs};
 ghost use Rattle.land_wire.specs.Laws.{ReadingsAreWellFormed};
 ghost use Rattle.land_wire.specs.Laws.{RequestMomentsAreValid, FieldNamesIgnoreCase, QueryMomentsAreValid};
-ghost use Rattle.land_wire.specs.Laws.{DoneTexts, NumbersTexts, TextsDetermineReplies, ShortTexts, ObjectTexts};
+ghost use Rattle.land_wire.specs.Laws.{DoneTexts, NumbersTexts, TextsDetermineReplies, ShortTexts};
+ghost use Rattle.land_wire.specs.Laws.{ObjectTexts};
 
 /// Each request that was read is within the limits of its fields.
 pub fn readings_are_well_formed()

@@ -3,7 +3,8 @@ ghost use Rattle.std.specs.Prelude.{◌≡◌, [], IfOk, true};
 ghost use Rattle.land_core.specs.Acts.{is_well_formed_request};
 ghost use Rattle.land_keep.specs.Machine.{at_of};
 ghost use Rattle.land_wire.specs.Laws.{IsExplicitMoment};
-ghost use Rattle.land_wire.specs.Reading.{require_method, ask_of, parts_reading, reading, reading_by, require_resource};
+ghost use Rattle.land_wire.specs.Reading.{require_method, ask_of, parts_reading, reading, reading_by};
+ghost use Rattle.land_wire.specs.Reading.{require_resource};
 ghost use Rattle.land_wire.specs.Routes.{act, list, resource, sheet, view};
 ghost use Rattle.land_wire.specs.Routes.Table.{RoutesCorrectly};
 ghost use Rattle.land_wire_json.specs.Bodies.WireFaults.{Returns, map_ok};
@@ -141,7 +142,12 @@ fn read_sheet(part: &[u8], query: &[u8]) -> Result<Ask, WireFault>
     Ok(Ask::Sheet { unit, at })
 }
 
-fn read_act_request(alloc: Global, word: ActWord, query: &[u8], body: &[u8]) -> Result<Ask, WireFault>
+fn read_act_request(
+    alloc: Global,
+    word: ActWord,
+    query: &[u8],
+    body: &[u8],
+) -> Result<Ask, WireFault>
     ensures { Returns (λ it. it) result (ask_of (act word) query.now body.now) }
 {
     check_no_query(query)?;

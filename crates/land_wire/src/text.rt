@@ -46,7 +46,10 @@ const NUMBER_CAPACITY: usize = 11;
 fn numbers_text(alloc: Global, numbers: &[u64]) -> Result<String, AllocError>
     ensures { IfOk result (λ text. string_bytes text ≡ numbers_text numbers.now) }
 {
-    let room = numbers.len().saturating_mul(NUMBER_CAPACITY).saturating_add(16);
+    let room = numbers
+        .len()
+        .saturating_mul(NUMBER_CAPACITY)
+        .saturating_add(16);
     let mut text = String::with_capacity(alloc, room)?;
     text.push_str("{\"numbers\":[")?;
     if let [first, later @ ..] = numbers {

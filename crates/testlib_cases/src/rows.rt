@@ -118,7 +118,11 @@ fn first_wrong_row(alloc: Global, rows: &[&Row]) -> Result<Option<usize>, Stop> 
     wrong_reply(alloc, rows, requests.as_slice())
 }
 
-fn first_wrong_row_of_all(alloc: Global, base: &[&[Row]], rows: &[Row]) -> Result<Option<usize>, Stop> {
+fn first_wrong_row_of_all(
+    alloc: Global,
+    base: &[&[Row]],
+    rows: &[Row],
+) -> Result<Option<usize>, Stop> {
     let rows = all_of(alloc, base, rows)?;
     first_wrong_row(alloc, rows.as_slice())
 }

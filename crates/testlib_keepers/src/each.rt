@@ -5,9 +5,9 @@ use land_keep::plain_keeper::PlainKeeper;
 use land_select::sql_keeper::SqlKeeper;
 use land_tables::table_keeper::TableKeeper;
 use land_tables::tables::Tables;
-use testlib_scenario::stop::Stop;
 use sqlite::{Connection, MemStore};
 use std::alloc::Global;
+use testlib_scenario::stop::Stop;
 
 /// Creates the tables of a new register.
 pub fn new_tables(alloc: Global) -> Result<Tables<MemStore>, Stop> {

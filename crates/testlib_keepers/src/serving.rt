@@ -1,8 +1,8 @@
 //! Streams of requests to a keeper.
 use land_desk::serve::{DeskFault, Served, serve};
 use land_keep::keeper::Keeper;
-use testlib_scenario::doubles::{ChunkReader, ClockReadings, Sink};
 use std::alloc::Global;
+use testlib_scenario::doubles::{ChunkReader, ClockReadings, Sink};
 
 /// Serves a stream with a keeper and the clock at 1000. Clears the output of the stream before.
 pub fn serve_stream<K: Keeper>(

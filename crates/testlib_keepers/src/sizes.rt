@@ -10,11 +10,11 @@ use land_keep::store_fault::StoreFault;
 use land_select::sql_keeper::SqlKeeper;
 use land_sheet::extracts::extract::extract_to;
 use land_sheet::extracts::fault::ExtractFault;
+use std::alloc::{AllocError, Global};
+use std::fmt::Write;
 use testlib_scenario::run_scenario::{open_sink, play};
 use testlib_scenario::stop::{Stop, expect};
 use testlib_scenario::talk::{OFFICE, Transcript};
-use std::alloc::{AllocError, Global};
-use std::fmt::Write;
 
 /// Requests with their replies, and the next number and stamp of the register that gets them.
 #[derive(Drop)]

@@ -12,8 +12,8 @@ use land_core::rrr::RightType::{Lease, Ownership};
 use land_core::soundness::Unsound;
 use land_rules::rules::verdict;
 use land_rules::verdict::Verdict;
-use testlib_cases::stop::{Stop, expect};
 use std::alloc::Global;
+use testlib_cases::stop::{Stop, expect};
 
 pub mod banks;
 pub mod lists;

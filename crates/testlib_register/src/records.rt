@@ -6,8 +6,8 @@ use crate::facts::registers::{fault, tell_all};
 use land_core::kind::PartyKind::{Group, NaturalPerson};
 use land_core::register::Register;
 use land_core::soundness::Unsound;
-use testlib_cases::stop::{Stop, expect};
 use std::alloc::Global;
+use testlib_cases::stop::{Stop, expect};
 
 pub mod changing;
 pub mod copies;

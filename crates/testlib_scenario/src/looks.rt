@@ -222,11 +222,17 @@ pub fn look_at<S: Alter>(
 }
 
 /// Checks the rows after `STEPS`.
-pub fn expect_rows_after_steps<S: Alter>(alloc: Global, conn: &mut Connection<S>) -> Result<(), Stop> {
+pub fn expect_rows_after_steps<S: Alter>(
+    alloc: Global,
+    conn: &mut Connection<S>,
+) -> Result<(), Stop> {
     look_at(alloc, conn, QUERIES)
 }
 
 /// Checks the rows that `MORE` changed.
-pub fn expect_rows_after_more<S: Alter>(alloc: Global, conn: &mut Connection<S>) -> Result<(), Stop> {
+pub fn expect_rows_after_more<S: Alter>(
+    alloc: Global,
+    conn: &mut Connection<S>,
+) -> Result<(), Stop> {
     look_at(alloc, conn, QUERIES_AFTER_MORE)
 }

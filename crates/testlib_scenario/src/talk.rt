@@ -142,10 +142,31 @@ impl Transcript {
     pub fn tell(&mut self, told: ExpectedReply, ends: bool) -> Result<(), AllocError> {
         match told {
             ExpectedReply::Shown(text) => write_reply(&mut self.output, "200 OK", JSON, ends, text),
-            ExpectedReply::Sheet(text) => write_reply(&mut self.output, "200 OK", PLAIN, ends, text),
-            ExpectedReply::Denied(number) => self.expect_number("403 Forbidden", "denied", number, ends),
-            ExpectedReply::Refused(number) => self.expect_number("409 Conflict", "refused", number, ends),
-            ExpectedReply::Fault(number) => self.expect_number("400 Bad Request", "fault", number, ends),
+            ExpectedReply::Sheet(text) => write_reply(
+                &mut self.output,
+                "200 OK",
+                PLAIN,
+                ends,
+                text,
+            ),
+            ExpectedReply::Denied(number) => self.expect_number(
+                "403 Forbidden",
+                "denied",
+                number,
+                ends,
+            ),
+            ExpectedReply::Refused(number) => self.expect_number(
+                "409 Conflict",
+                "refused",
+                number,
+                ends,
+            ),
+            ExpectedReply::Fault(number) => self.expect_number(
+                "400 Bad Request",
+                "fault",
+                number,
+                ends,
+            ),
             ExpectedReply::HeadFault(length) => {
                 write_head(&mut self.output, "400 Bad Request", JSON, ends, length)
             }

@@ -10,13 +10,13 @@ use land_core::kind::Kind;
 use land_core::role::Role;
 use land_select::sql_keeper::SqlKeeper;
 use land_tables::tables::Tables;
-use testlib_scenario::doubles::{ClockReadings, Sink};
-use testlib_scenario::run_scenario::{open_sink, play_steps};
-use testlib_scenario::stop::{Stop, expect};
 use sqlite::{Alter, Connection};
 use std::fs;
 use std::net::TcpListener;
 use std::rt::HostRuntime;
+use testlib_scenario::doubles::{ClockReadings, Sink};
+use testlib_scenario::run_scenario::{open_sink, play_steps};
+use testlib_scenario::stop::{Stop, expect};
 
 /// The paths of a test's file and of its write-ahead log.
 #[derive(Clone, Copy)]
@@ -121,7 +121,12 @@ fn run_step_with<H: Host>(
 }
 
 /// Runs a step and checks its result.
-fn run_step<H: Host>(host: &mut H, file: &'static str, place: usize, step: Step) -> Result<(), Stop> {
+fn run_step<H: Host>(
+    host: &mut H,
+    file: &'static str,
+    place: usize,
+    step: Step,
+) -> Result<(), Stop> {
     let mut output = open_sink(host.alloc(), 64)?;
     run_step_with(host, file, place, step, &mut output)
 }
@@ -334,7 +339,12 @@ fn play_v1<H: Host>(rt: &HostRuntime, host: &mut H) -> Result<(), Stop> {
 /// A register of schema version 1 is migrated once, and then has version 2.
 const MIGRATED: &[Step] = &[
     Step(FileCommand::Check, 1, "", OTHER_VERSION),
-    Step(FileCommand::Migrate, 0, "migrated: last 1017, next 30\n", ""),
+    Step(
+        FileCommand::Migrate,
+        0,
+        "migrated: last 1017, next 30\n",
+        "",
+    ),
     Step(FileCommand::Check, 0, "sound: last 1017, next 30\n", ""),
     Step(FileCommand::Migrate, 1, "", OTHER_VERSION),
     Step(FileCommand::Check, 0, "sound: last 1017, next 30\n", ""),
@@ -361,7 +371,12 @@ const CANNOT_BE_OPENED: &[Step] = &[
     Step(FileCommand::Check, 1, "", CANNOT_OPEN),
     Step(FileCommand::Migrate, 1, "", CANNOT_OPEN),
     Step(FileCommand::Serve(1), 1, "", CANNOT_OPEN),
-    Step(FileCommand::Extract(1, Role::Citizen, None), 1, "", CANNOT_OPEN),
+    Step(
+        FileCommand::Extract(1, Role::Citizen, None),
+        1,
+        "",
+        CANNOT_OPEN,
+    ),
 ];
 
 /// And none is created.

@@ -9,13 +9,13 @@ use land_commands::words::command::Command;
 use land_desk::service::connections::Connections;
 use land_keep::store_fault::StoreFault;
 use land_tables::tables::Tables;
+use sqlite::{Connection, MemStore};
+use std::alloc::Global;
+use std::io;
 use testlib_scenario::calls::{CALLS, Call, Calls, expect_all_outputs, sinks};
 use testlib_scenario::doubles::{ClockReadings, Sink};
 use testlib_scenario::run_scenario::open_sink;
 use testlib_scenario::stop::{Stop, expect};
-use sqlite::{Connection, MemStore};
-use std::alloc::Global;
-use std::io;
 
 /// A host with a register in memory under every name, and with connections that are accepted once.
 #[derive(Drop)]

@@ -4,12 +4,12 @@
 
 mod cell;
 pub mod contents;
-pub mod wrong_values;
 mod field;
 mod histories;
-pub mod valid_history;
 pub mod lifespans;
-mod sample;
 pub mod representations;
+mod sample;
 mod table;
+pub mod valid_history;
 pub mod words;
+pub mod wrong_values;

@@ -2,10 +2,10 @@
 use crate::cases::run_scenario::tables_after_scenario;
 use crate::cases::stores::{expect_fault, run_on, store_after_sql};
 use land_tables::tables::Tables;
-use testlib_scenario::looks::expect_rows_after_steps;
-use testlib_scenario::stop::Stop;
 use sqlite::{Connection, MemStore};
 use std::alloc::Global;
+use testlib_scenario::looks::expect_rows_after_steps;
+use testlib_scenario::stop::Stop;
 
 /// SQL statements on the tables after the scenario, others that undo them, and the fault that `adopt` returns
 /// in between, 0 if it accepts the tables.
@@ -324,8 +324,13 @@ const OTHERS: &[&str] = &[
 fn adopt_fault(alloc: Global, conn: Connection<MemStore>) -> (u16, Connection<MemStore>) {
     match Tables::adopt(alloc, conn) {
         Ok(tables) => {
-            let has_scenario_end = tables.last() == 1017 && tables.next() == 30 && !tables.is_closed();
-            (if has_scenario_end { 0 } else { 1 }, tables.into_connection())
+            let has_scenario_end = tables.last() == 1017
+                && tables.next() == 30
+                && !tables.is_closed();
+            (
+                if has_scenario_end { 0 } else { 1 },
+                tables.into_connection(),
+            )
         }
         Err((conn, fault)) => (fault.number(), conn),
     }

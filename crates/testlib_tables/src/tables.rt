@@ -3,8 +3,8 @@
 //! Corrupted tables are in `damage`, disks that stop in `testlib_stops`.
 
 pub mod again;
-pub mod creating;
 pub mod continuing;
+pub mod creating;
 pub mod migrating;
 pub mod replies;
 pub mod rows;

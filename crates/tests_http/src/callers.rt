@@ -3,8 +3,6 @@ use crate::conclusion::conclude;
 use crate::connections::serve_new_register;
 use land_desk::service::callers::Callers;
 use land_desk::service::timer::RequestTimer;
-use testlib_scenario::calls::{ENROL, ENROLLED, expect_output};
-use testlib_scenario::stop::{Stop, expect};
 use std::alloc::{AllocError, Global};
 use std::cell::Cell;
 use std::io::{Read, Write};
@@ -13,6 +11,8 @@ use std::rt::HostRuntime;
 use std::test::Fail;
 use std::time::Duration;
 use std::{io, time};
+use testlib_scenario::calls::{ENROL, ENROLLED, expect_output};
+use testlib_scenario::stop::{Stop, expect};
 
 /// A clock that advances by a number of seconds at each reading.
 #[derive(Drop)]

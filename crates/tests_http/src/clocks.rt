@@ -46,7 +46,10 @@ struct Reading(StoppedClock, i64);
 const READINGS: &[Reading] = &[
     Reading(StoppedClock::Broken, 0),
     Reading(StoppedClock::Milliseconds(0), 0),
-    Reading(StoppedClock::Milliseconds(1_795_540_511_204), 1_795_540_511_204),
+    Reading(
+        StoppedClock::Milliseconds(1_795_540_511_204),
+        1_795_540_511_204,
+    ),
     // Fractions of a millisecond are truncated.
     Reading(StoppedClock::Nanoseconds(999_999), 0),
     Reading(StoppedClock::Nanoseconds(1_000_000), 1),

@@ -1,7 +1,7 @@
 //! The result of a test.
-use testlib_scenario::stop::Stop;
 use std::process::Abort;
 use std::test::Fail;
+use testlib_scenario::stop::Stop;
 
 /// Ends a test: panics if a check failed, and returns an error only if memory ran out.
 pub fn conclude(rt: &impl Abort, outcome: Result<(), Stop>) -> Result<(), Fail> {

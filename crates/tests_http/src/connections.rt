@@ -3,12 +3,12 @@ use crate::conclusion::conclude;
 use land_desk::service::connections::Connections;
 use land_desk::service::serving::{ServiceFault, serve_connections};
 use land_keep::plain_keeper::PlainKeeper;
-use testlib_scenario::calls::{CALLS, Call, Calls, expect_all_outputs, serve_calls, sinks};
-use testlib_scenario::doubles::ClockReadings;
-use testlib_scenario::stop::{Stop, expect};
 use std::alloc::Global;
 use std::rt::HostRuntime;
 use std::test::Fail;
+use testlib_scenario::calls::{CALLS, Call, Calls, expect_all_outputs, serve_calls, sinks};
+use testlib_scenario::doubles::ClockReadings;
+use testlib_scenario::stop::{Stop, expect};
 
 /// Serves a number of connections with a new register.
 pub(crate) fn serve_new_register<L: Connections>(

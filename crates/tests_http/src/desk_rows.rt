@@ -1,10 +1,10 @@
 //! Requests and replies as bytes, and streams of them.
 use crate::conclusion::conclude;
+use std::test::Fail;
 use testlib_desk::desk::{
     exchanges, failures, last_reads, long_requests, long_streams, mandates, readings, replies,
     streams,
 };
-use std::test::Fail;
 
 #[test]
 fn requests_and_replies_as_bytes(rt: HostRuntime) -> Result<(), Fail> {
@@ -99,10 +99,7 @@ fn readers_fail(rt: HostRuntime) -> Result<(), Fail> {
 
 #[test]
 fn read_ahead_is_not_read_again(rt: HostRuntime) -> Result<(), Fail> {
-    conclude(
-        &rt,
-        streams::read_ahead_is_not_read_again(rt.alloc()),
-    )
+    conclude(&rt, streams::read_ahead_is_not_read_again(rt.alloc()))
 }
 
 #[test]

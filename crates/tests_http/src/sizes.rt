@@ -1,7 +1,7 @@
 //! Sizes that only these tests reach. `.ci/oom-tests` leaves them out, since they allocate too often.
 use crate::conclusion::conclude;
-use testlib_desk::desk::{failures, long_streams};
 use std::test::Fail;
+use testlib_desk::desk::{failures, long_streams};
 
 #[test]
 fn twenty_thousand_requests_are_answered(rt: HostRuntime) -> Result<(), Fail> {

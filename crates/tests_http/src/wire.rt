@@ -1,7 +1,7 @@
 //! Routes, bodies, contents, title sheets, rows of extracts.
 use crate::conclusion::conclude;
-use testlib_desk::wire::{bodies, contents, extracts, faults, routes};
 use std::test::Fail;
+use testlib_desk::wire::{bodies, contents, extracts, faults, routes};
 
 #[test]
 fn the_bodies_of_the_scenario_are_read(rt: HostRuntime) -> Result<(), Fail> {

@@ -19,12 +19,12 @@ use land_core::role::Role;
 use land_core::roles::Grant;
 use land_core::soundness::Unsound;
 use land_core::soundness::check::check;
-use testlib_cases::asked::{OFFICE, RowAct, act, text};
-use testlib_cases::stop::{Stop, expect};
-use testlib_cases::told::write_done;
 use std::alloc::{AllocError, Global};
 use std::process::Abort;
 use std::test::Fail;
+use testlib_cases::asked::{OFFICE, RowAct, act, text};
+use testlib_cases::stop::{Stop, expect};
+use testlib_cases::told::write_done;
 
 mod burdens;
 mod crowd;

@@ -1,13 +1,13 @@
 //! Worlds that look alike to a caller give it the same replies.
 use crate::conclusion::conclude;
 use land_core::kind::Kind::{Mutation, Parcel, Party, Rrr, Source, Unit};
+use std::test::Fail;
 use testlib_cases::asked::RowAsk::{List, View};
 use testlib_cases::rows::{Row, play_rows};
 use testlib_cases::steps::{ANNA, NORA_HERSELF, WITH_FIELD, WITH_GARDEN, WITH_MANDATE};
 use testlib_cases::worlds::{
     a_mandate_is_told_to_its_agent_alone, are_alike_to_whom_they_look_alike,
 };
-use std::test::Fail;
 
 /// The replies to Nora, who has no rights, in the role citizen.
 const OF_NEITHER: &[Row] = &[

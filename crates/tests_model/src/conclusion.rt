@@ -1,7 +1,7 @@
 //! The end of a test.
-use testlib_cases::stop::Stop;
 use std::process::Abort;
 use std::test::Fail;
+use testlib_cases::stop::Stop;
 
 /// Ends a test by the outcome of its trial: fails an assertion if a result is wrong, and returns `Err` only
 /// if memory ran out.

@@ -6,12 +6,12 @@ use land_core::kind::Kind::Party;
 use land_core::kind::PartyKind::NaturalPerson;
 use land_core::limits::LAST_MOMENT;
 use land_core::role::Role::{Citizen, StateAdministrator};
+use std::test::Fail;
 use testlib_cases::asked::RowAct::Enrol;
 use testlib_cases::asked::RowAsk::{Do, List, View};
 use testlib_cases::asked::{OFFICE, RowAsk};
 use testlib_cases::rows::Row;
 use testlib_cases::steps::{ANNA, BEN, play_on_new_register};
-use std::test::Fail;
 
 const ENROL: RowAsk = Do(Enrol(NaturalPerson, "Anna"));
 

@@ -4,12 +4,12 @@ use crate::end_of_time::END;
 use land_core::caller::Caller;
 use land_core::kind::Kind::Party;
 use land_core::role::Role::{Bank, Citizen, Notary, StateAdministrator};
+use std::test::Fail;
 use testlib_cases::asked::RowAct::{Grant, Group, Regroup, Revoke};
 use testlib_cases::asked::RowAsk::{Do, List, View};
 use testlib_cases::asked::{OFFICE, RowAsk, Share};
 use testlib_cases::rows::Row;
 use testlib_cases::steps::{ANNA, BANK_ITSELF, BEN, NORA, play_with_group, play_with_parties};
-use std::test::Fail;
 
 const THIRDS: &[Share] = &[(2, 1, 3), (3, 1, 3), (4, 1, 3)];
 

@@ -9,13 +9,13 @@ use land_core::sequence::Sequence;
 use land_fraction::Fraction;
 use land_keep::reply::Reply;
 use land_keep::view::{NamedRrr, View};
+use std::alloc::{AllocError, Global};
+use std::test::Fail;
 use testlib_cases::asked::RowAct::Enrol;
 use testlib_cases::asked::RowAsk::{Do, Sheet};
 use testlib_cases::asked::{GARDEN, OFFICE, RowAsk, new_unit};
 use testlib_cases::rows::{answered, request};
 use testlib_cases::stop::{Stop, expect};
-use std::alloc::{AllocError, Global};
-use std::test::Fail;
 
 const ENROL: RowAsk = Do(Enrol(NaturalPerson, "Anna"));
 

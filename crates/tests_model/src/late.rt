@@ -4,12 +4,12 @@ use crate::end_of_time::END;
 use land_core::kind::Kind::{Party, Rrr, Unit};
 use land_core::limits::LAST_MOMENT;
 use land_core::rrr::RightType::{Ownership, Usufruct};
+use std::test::Fail;
 use testlib_cases::asked::RowAct::{Approve, Group, RegisterAs};
 use testlib_cases::asked::RowAsk::{Do, List, Sheet, View};
 use testlib_cases::asked::{OFFICE, Right, Share};
 use testlib_cases::rows::{Row, play_rows};
 use testlib_cases::steps::{ANNA, BANK, BANK_ITSELF, LOAN, SAM, WITH_GARDEN, play_with_group};
-use std::test::Fail;
 
 /// If the clock is after the last stamp, its reading is now. So 1500 is in the past, although nothing has
 /// changed since.

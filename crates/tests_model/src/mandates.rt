@@ -3,6 +3,7 @@ use crate::conclusion::conclude;
 use crate::end_of_time::END;
 use land_core::kind::Kind::{Party, Rrr, Unit};
 use land_core::role::Role::{Citizen, Notary};
+use std::test::Fail;
 use testlib_cases::asked::RowAct::{Grant, Mandate, Revoke, Withdraw};
 use testlib_cases::asked::RowAsk::{self, Do, List, View};
 use testlib_cases::asked::{OFFICE, RowAct};
@@ -10,7 +11,6 @@ use testlib_cases::rows::Row;
 use testlib_cases::steps::{
     ANNA, BANK, BANK_ITSELF, BEN, NORA, NORA_HERSELF, play_with_group, play_with_mortgage,
 };
-use std::test::Fail;
 
 const UNIT: &str = "unit 9 Garden true";
 

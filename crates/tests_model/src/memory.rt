@@ -16,6 +16,9 @@ use land_keep::machine::{answer, finish, prepare};
 use land_keep::plain_keeper::PlainKeeper;
 use land_keep::reply::Reply;
 use land_keep::store_fault::StoreFault;
+use std::alloc::{AllocError, Global};
+use std::process::Abort;
+use std::test::Fail;
 use testlib_cases::asked::RowAct::{
     Approve, Burden, Enrol, Grant, Group, Lodge, Register, Regroup, Revoke,
 };
@@ -26,9 +29,6 @@ use testlib_cases::lodged::{RowParcel, RowPart};
 use testlib_cases::rows::request;
 use testlib_cases::stop::{Stop, expect};
 use testlib_cases::told::is_told;
-use std::alloc::{AllocError, Global};
-use std::process::Abort;
-use std::test::Fail;
 
 const ENROL: RowAsk = Do(Enrol(NaturalPerson, "Anna"));
 

@@ -1,10 +1,10 @@
 //! The policy: each test calls the cases of one rule or of one group of rules.
 use crate::conclusion::conclude;
+use std::test::Fail;
 use testlib_register::policy;
 use testlib_register::policy::{
     banks, lists, mandates, mutations, parcels, standing, usufructs, views,
 };
-use std::test::Fail;
 
 #[test]
 fn the_farm_and_the_house_are_soundly_registered(rt: HostRuntime) -> Result<(), Fail> {
@@ -16,7 +16,10 @@ fn the_farm_and_the_house_are_soundly_registered(rt: HostRuntime) -> Result<(), 
 
 #[test]
 fn holders_see_the_contents_of_their_units(rt: HostRuntime) -> Result<(), Fail> {
-    conclude(&rt, lists::holders_see_the_contents_of_their_units(rt.alloc()))
+    conclude(
+        &rt,
+        lists::holders_see_the_contents_of_their_units(rt.alloc()),
+    )
 }
 
 #[test]
@@ -113,7 +116,10 @@ fn roles_lodge_their_contents(rt: HostRuntime) -> Result<(), Fail> {
 
 #[test]
 fn no_party_decides_on_its_own_lodging(rt: HostRuntime) -> Result<(), Fail> {
-    conclude(&rt, mutations::no_party_decides_on_its_own_lodging(rt.alloc()))
+    conclude(
+        &rt,
+        mutations::no_party_decides_on_its_own_lodging(rt.alloc()),
+    )
 }
 
 #[test]
@@ -155,10 +161,7 @@ fn strangers_and_missing_roles_are_denied(rt: HostRuntime) -> Result<(), Fail> {
 
 #[test]
 fn some_roles_see_only_the_present(rt: HostRuntime) -> Result<(), Fail> {
-    conclude(
-        &rt,
-        standing::some_roles_see_only_the_present(rt.alloc()),
-    )
+    conclude(&rt, standing::some_roles_see_only_the_present(rt.alloc()))
 }
 
 #[test]
@@ -208,7 +211,10 @@ fn a_surveyor_is_denied_by_rules_23_and_24(rt: HostRuntime) -> Result<(), Fail> 
 
 #[test]
 fn missing_objects_are_denied_by_rule_27(rt: HostRuntime) -> Result<(), Fail> {
-    conclude(&rt, views::missing_objects_are_denied_by_rule_27(rt.alloc()))
+    conclude(
+        &rt,
+        views::missing_objects_are_denied_by_rule_27(rt.alloc()),
+    )
 }
 
 #[test]

@@ -1,9 +1,9 @@
 //! Registers with each fault of soundness, their objects, and changes of them.
 use crate::conclusion::conclude;
+use std::test::Fail;
 use testlib_register::records::{
     changing, copies, crowds, faults, mandates, mutation_faults, objects, right_faults, unit_faults,
 };
-use std::test::Fail;
 
 #[test]
 fn out_of_memory_leaves_the_changed_register(rt: HostRuntime) -> Result<(), Fail> {
@@ -183,10 +183,7 @@ fn objects_are_shown(rt: HostRuntime) -> Result<(), Fail> {
 
 #[test]
 fn missing_objects_are_not_shown(rt: HostRuntime) -> Result<(), Fail> {
-    conclude(
-        &rt,
-        objects::missing_objects_are_not_shown(rt.alloc()),
-    )
+    conclude(&rt, objects::missing_objects_are_not_shown(rt.alloc()))
 }
 
 #[test]
@@ -223,12 +220,18 @@ fn mortgages_of_a_unit_have_ranks_of_their_own(rt: HostRuntime) -> Result<(), Fa
 
 #[test]
 fn parcels_refer_to_existing_objects(rt: HostRuntime) -> Result<(), Fail> {
-    conclude(&rt, unit_faults::parcels_refer_to_existing_objects(rt.alloc()))
+    conclude(
+        &rt,
+        unit_faults::parcels_refer_to_existing_objects(rt.alloc()),
+    )
 }
 
 #[test]
 fn entries_refer_to_existing_objects(rt: HostRuntime) -> Result<(), Fail> {
-    conclude(&rt, unit_faults::entries_refer_to_existing_objects(rt.alloc()))
+    conclude(
+        &rt,
+        unit_faults::entries_refer_to_existing_objects(rt.alloc()),
+    )
 }
 
 #[test]

@@ -7,7 +7,7 @@ ghost use Rattle.std.specs.Prelude.{◌≡◌, true, false, refl, int_lt, nat_le
 
 use land_tables_history::sweeps::apart::{Span, are_apart};
 use land_tables_history::sweeps::cover::{CoverageSpan, is_covered};
-use land_tables_history::sweeps::sweep::{SweepItem, LiveSpan, are_sound};
+use land_tables_history::sweeps::sweep::{LiveSpan, SweepItem, are_sound};
 use std::alloc::{AllocError, Global};
 use std::test::Fail;
 

@@ -5,6 +5,7 @@ use land_core::caller::Caller;
 use land_core::kind::Kind::{Parcel, Party, Rrr, Source, Unit};
 use land_core::role::Role::{Citizen, Conveyancer};
 use land_core::rrr::RightType::Ownership;
+use std::test::Fail;
 use testlib_cases::asked::RowAct::{Burden, Grant, Lift, Register};
 use testlib_cases::asked::RowAsk::{Do, List, Sheet, View};
 use testlib_cases::asked::{OFFICE, Right, RowAsk};
@@ -12,7 +13,6 @@ use testlib_cases::rows::Row;
 use testlib_cases::steps::{
     ANNA, BANK, BANK_ITSELF, BEN, NORA, NORA_HERSELF, SAM, SHARED, SURVEYOR, play_with_garden,
 };
-use std::test::Fail;
 
 const HALF_AND_THIRD: &[Right] = &[(2, Ownership, 1, 2), (3, Ownership, 1, 3)];
 

@@ -1,8 +1,8 @@
 //! Verdicts, objects, title sheets and slices, read from whole tables and with queries, and objects and
 //! sheets after their verdict: `.ci/alloc-counts` counts the allocations of each.
 use crate::conclusion::conclude;
-use testlib_keepers::growths::{calls_read_less, once};
 use std::test::Fail;
+use testlib_keepers::growths::{calls_read_less, once};
 
 #[test]
 fn calls_by_tables(rt: HostRuntime) -> Result<(), Fail> {

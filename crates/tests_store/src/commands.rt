@@ -1,7 +1,7 @@
 //! Commands on files.
 use crate::conclusion::conclude;
-use testlib_store::commands;
 use std::test::Fail;
+use testlib_store::commands;
 
 #[test]
 fn a_new_register_is_sound(rt: HostRuntime) -> Result<(), Fail> {
@@ -15,10 +15,7 @@ fn the_scenario_leaves_a_sound_register(rt: HostRuntime) -> Result<(), Fail> {
 
 #[test]
 fn a_v1_register_is_migrated_once(rt: HostRuntime) -> Result<(), Fail> {
-    conclude(
-        &rt,
-        commands::a_v1_register_is_migrated_once(&rt),
-    )
+    conclude(&rt, commands::a_v1_register_is_migrated_once(&rt))
 }
 
 #[test]
@@ -33,10 +30,7 @@ fn non_files_cannot_be_opened(rt: HostRuntime) -> Result<(), Fail> {
 
 #[test]
 fn an_empty_file_stays_empty(rt: HostRuntime) -> Result<(), Fail> {
-    conclude(
-        &rt,
-        commands::an_empty_file_stays_empty(&rt),
-    )
+    conclude(&rt, commands::an_empty_file_stays_empty(&rt))
 }
 
 #[test]
@@ -54,16 +48,10 @@ fn a_store_of_another_application_is_refused(rt: HostRuntime) -> Result<(), Fail
 
 #[test]
 fn an_open_file_cannot_be_opened_again(rt: HostRuntime) -> Result<(), Fail> {
-    conclude(
-        &rt,
-        commands::an_open_file_cannot_be_opened_again(&rt),
-    )
+    conclude(&rt, commands::an_open_file_cannot_be_opened_again(&rt))
 }
 
 #[test]
 fn a_used_port_cannot_be_listened_on(rt: HostRuntime) -> Result<(), Fail> {
-    conclude(
-        &rt,
-        commands::a_used_port_cannot_be_listened_on(&rt),
-    )
+    conclude(&rt, commands::a_used_port_cannot_be_listened_on(&rt))
 }

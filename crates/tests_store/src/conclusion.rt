@@ -1,7 +1,7 @@
 //! How a test ends.
-use testlib_scenario::stop::Stop;
 use std::process::Abort;
 use std::test::Fail;
+use testlib_scenario::stop::Stop;
 
 /// Ends a test: with a failed assertion if a result is not the expected one, and with an `Err` only if out of
 /// memory.

@@ -1,7 +1,7 @@
 //! Stores that are opened as registers, and corrupted ones that are refused.
 use crate::conclusion::conclude;
-use testlib_tables::damage;
 use std::test::Fail;
+use testlib_tables::damage;
 
 #[test]
 fn damaged_tables_have_their_faults(rt: HostRuntime) -> Result<(), Fail> {

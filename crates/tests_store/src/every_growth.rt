@@ -1,7 +1,7 @@
 //! Requests of which each allocation fails in turn, by `.ci/oom-requests`.
 use crate::conclusion::conclude;
-use testlib_keepers::every_growth::requests;
 use std::test::Fail;
+use testlib_keepers::every_growth::requests;
 
 #[test]
 fn an_enrolment_in_memory(rt: HostRuntime) -> Result<(), Fail> {

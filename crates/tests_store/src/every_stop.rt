@@ -1,7 +1,7 @@
 //! Changes and migrations on files whose disks stop, after each of their calls.
 use crate::conclusion::conclude;
-use testlib_stops::every_stop::{changes, migrations};
 use std::test::Fail;
+use testlib_stops::every_stop::{changes, migrations};
 
 #[test]
 fn a_registration_over_tables(rt: HostRuntime) -> Result<(), Fail> {

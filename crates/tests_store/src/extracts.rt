@@ -1,7 +1,7 @@
 //! Extracts, and rows that are lent one at a time.
 use crate::conclusion::conclude;
-use testlib_keepers::extracts::lent_rows;
 use std::test::Fail;
+use testlib_keepers::extracts::lent_rows;
 
 #[test]
 fn extract_rows(rt: HostRuntime) -> Result<(), Fail> {

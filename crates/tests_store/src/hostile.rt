@@ -1,7 +1,7 @@
 //! Malformed and extreme input, for each keeper.
 use crate::conclusion::conclude;
-use testlib_keepers::hostile;
 use std::test::Fail;
+use testlib_keepers::hostile;
 
 #[test]
 fn every_cut(rt: HostRuntime) -> Result<(), Fail> {

@@ -1,7 +1,7 @@
 //! The view of a small register by each role, with queries.
 use crate::conclusion::conclude;
-use testlib_store::joins::sights;
 use std::test::Fail;
+use testlib_store::joins::sights;
 
 #[test]
 fn a_small_register_is_seen_by_role(rt: HostRuntime) -> Result<(), Fail> {

@@ -1,7 +1,7 @@
 //! Randomly generated registers, for each keeper.
 use crate::conclusion::conclude;
-use testlib_keepers::random::registers;
 use std::test::Fail;
+use testlib_keepers::random::registers;
 
 #[test]
 fn the_register_of_seed_1(rt: HostRuntime) -> Result<(), Fail> {

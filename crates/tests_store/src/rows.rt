@@ -1,7 +1,7 @@
 //! Tables in SQLite, row by row.
 use crate::conclusion::conclude;
-use testlib_store::rows::{openness, register, versions};
 use std::test::Fail;
+use testlib_store::rows::{openness, register, versions};
 
 #[test]
 fn a_store_is_open_when_out_of_memory(rt: HostRuntime) -> Result<(), Fail> {
@@ -23,8 +23,5 @@ fn versions_are_inserted_and_closed(rt: HostRuntime) -> Result<(), Fail> {
 
 #[test]
 fn uncommitted_rows_do_not_exist(rt: HostRuntime) -> Result<(), Fail> {
-    conclude(
-        &rt,
-        versions::uncommitted_rows_do_not_exist(rt.alloc()),
-    )
+    conclude(&rt, versions::uncommitted_rows_do_not_exist(rt.alloc()))
 }

@@ -1,14 +1,11 @@
 //! The queries for a list, or for the view of a party.
 use crate::conclusion::conclude;
-use testlib_keepers::sights::{parties_are_seen, texts_are_run};
 use std::test::Fail;
+use testlib_keepers::sights::{parties_are_seen, texts_are_run};
 
 #[test]
 fn lists_run_their_statements(rt: HostRuntime) -> Result<(), Fail> {
-    conclude(
-        &rt,
-        texts_are_run::lists_run_their_statements(rt.alloc()),
-    )
+    conclude(&rt, texts_are_run::lists_run_their_statements(rt.alloc()))
 }
 
 #[test]

@@ -1,7 +1,7 @@
 //! Sizes that no other test reaches. `.ci/oom-tests` omits them, since they allocate too often.
 use crate::conclusion::conclude;
-use testlib_keepers::sizes;
 use std::test::Fail;
+use testlib_keepers::sizes;
 
 #[test]
 fn a_long_list_is_returned(rt: HostRuntime) -> Result<(), Fail> {

@@ -1,7 +1,7 @@
 //! The register in tables.
 use crate::conclusion::conclude;
-use testlib_tables::tables::{again, creating, continuing, migrating, replies, rows, stamps};
 use std::test::Fail;
+use testlib_tables::tables::{again, continuing, creating, migrating, replies, rows, stamps};
 
 #[test]
 fn calls_that_lacked_memory_are_made_again(rt: HostRuntime) -> Result<(), Fail> {
@@ -31,10 +31,7 @@ fn a_new_register_goes_on(rt: HostRuntime) -> Result<(), Fail> {
 
 #[test]
 fn a_v1_register_is_migrated_once(rt: HostRuntime) -> Result<(), Fail> {
-    conclude(
-        &rt,
-        migrating::a_v1_register_is_migrated_once(rt.alloc()),
-    )
+    conclude(&rt, migrating::a_v1_register_is_migrated_once(rt.alloc()))
 }
 
 #[test]

@@ -1,7 +1,7 @@
 //! Lists from whole tables and with queries: `.ci/alloc-counts` counts the allocations of each.
 use crate::conclusion::conclude;
-use testlib_keepers::growths::texts_read_less;
 use std::test::Fail;
+use testlib_keepers::growths::texts_read_less;
 
 #[test]
 fn lists_by_tables(rt: HostRuntime) -> Result<(), Fail> {

@@ -1,7 +1,7 @@
 //! The command `serve`.
 use crate::conclusion::conclude;
-use testlib_store::town;
 use std::test::Fail;
+use testlib_store::town;
 
 #[test]
 fn a_command_serves_connections(rt: HostRuntime) -> Result<(), Fail> {
@@ -10,8 +10,5 @@ fn a_command_serves_connections(rt: HostRuntime) -> Result<(), Fail> {
 
 #[test]
 fn a_failed_accept_ends_the_command(rt: HostRuntime) -> Result<(), Fail> {
-    conclude(
-        &rt,
-        town::a_failed_accept_ends_the_command(rt.alloc()),
-    )
+    conclude(&rt, town::a_failed_accept_ends_the_command(rt.alloc()))
 }

@@ -1,22 +1,16 @@
 //! The worked rows as bytes, for each keeper.
 use crate::conclusion::conclude;
-use testlib_keepers::keepers::two_keepers;
 use std::test::Fail;
+use testlib_keepers::keepers::two_keepers;
 
 #[test]
 fn requests_get_their_first_fault(rt: HostRuntime) -> Result<(), Fail> {
-    conclude(
-        &rt,
-        two_keepers::requests_get_their_first_fault(rt.alloc()),
-    )
+    conclude(&rt, two_keepers::requests_get_their_first_fault(rt.alloc()))
 }
 
 #[test]
 fn bodies_get_their_first_fault(rt: HostRuntime) -> Result<(), Fail> {
-    conclude(
-        &rt,
-        two_keepers::bodies_get_their_first_fault(rt.alloc()),
-    )
+    conclude(&rt, two_keepers::bodies_get_their_first_fault(rt.alloc()))
 }
 
 #[test]

@@ -1,7 +1,9 @@
 //! Decoded rows of the tables, and which histories are valid.
 use crate::conclusion::conclude;
-use testlib_store::versions::{contents, wrong_values, valid_history, lifespans, representations, words};
 use std::test::Fail;
+use testlib_store::versions::{
+    contents, lifespans, representations, valid_history, words, wrong_values,
+};
 
 #[test]
 fn contents_are_read_by_their_act(rt: HostRuntime) -> Result<(), Fail> {
@@ -44,7 +46,10 @@ fn lifespans_of_one_key_do_not_overlap(rt: HostRuntime) -> Result<(), Fail> {
 
 #[test]
 fn other_keys_have_their_own_lifespans(rt: HostRuntime) -> Result<(), Fail> {
-    conclude(&rt, lifespans::other_keys_have_their_own_lifespans(rt.alloc()))
+    conclude(
+        &rt,
+        lifespans::other_keys_have_their_own_lifespans(rt.alloc()),
+    )
 }
 
 #[test]

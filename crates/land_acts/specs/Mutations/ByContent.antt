@@ -6,7 +6,8 @@ use Rattle.land_acts.specs.Mutations.Mortgaging.{greatest, mortgage_refusals, mo
 use Rattle.land_acts.specs.Mutations.Mortgaging.{ranks_in}
 use Rattle.land_acts.specs.Mutations.Subdividing.{subdivision_refusals, subdivision_change, subdivision_count}
 use Rattle.land_acts.specs.Mutations.Subdividing.{subdivision_made}
-use Rattle.land_acts.specs.Mutations.Transferring.{transfer_refusals, move_change, right_of_receiver, right_at}
+use Rattle.land_acts.specs.Mutations.Transferring.{transfer_refusals, move_change, right_of_receiver}
+use Rattle.land_acts.specs.Mutations.Transferring.{right_at}
 use Rattle.land_acts.specs.Mutations.Transferring.{new_rights, number_after}
 use Rattle.land_acts.specs.declared.mutations.refusal.Refusal.{Refusal}
 use Rattle.land_acts.specs.declared.mutations.transfer.HeldRight.{HeldRight}
@@ -55,7 +56,8 @@ content_made r (content.Discharge it) = []
 -- the numbers and the rank that a content creates are in range
 abbrev pub StaysInRange : Register → Content → Type 0
 StaysInRange r (content.Transfer it) =
-    (from : HeldRight) → right_at r it.unit it.right ≡ Some from → number_after r (right_of_receiver r it from) ≤ numbers_end
+    (from : HeldRight) → right_at r it.unit it.right ≡ Some from
+    → number_after r (right_of_receiver r it from) ≤ numbers_end
 StaysInRange r (content.Subdivision it) = r.next + subdivision_count r it ≤ numbers_end
 StaysInRange r (content.Merger it) = r.next ≤ 1000000000
 StaysInRange r (content.Mortgage it) = (r.next ≤ 1000000000) × (next_rank r it.unit ≤ 1000000000)

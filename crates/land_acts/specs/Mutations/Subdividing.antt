@@ -41,7 +41,13 @@ pub record Origin : Type 0 where
 -- this data of the unit of a subdivision
 abbrev pub origin_of : Register → (source : ℕ) → Subdivision → Origin
 origin_of r source it =
-    record { unit = it.unit; checked = is_checked r it.unit; entries = list_entries_of r it.unit; source = source }
+    record {
+      unit = it.unit;
+      checked = is_checked r it.unit;
+      entries = list_entries_of r it.unit;
+      source
+          = source;
+    }
 
 -- a copy of an entry for another unit, with the same party, class and source
 abbrev pub in_unit : (unit : ℕ) → RrrRecord → RrrRecord
@@ -77,7 +83,8 @@ parcel_made origin first part (Some name) = (first + 1, parcel_in origin first p
 -- then copies of the entries, in their order
 abbrev pub entries_made : Origin → (first : ℕ) → (new_unit : Option (List ℕ)) → List (ℕ × RrrRecord)
 entries_made origin first None = []
-entries_made origin first (Some name) = with_numbers_from (first + 2) (map_list (in_unit first) origin.entries)
+entries_made origin first (Some name) = with_numbers_from (first + 2)
+    (map_list (in_unit first) origin.entries)
 
 -- ---- the objects of all parts, in their order
 
@@ -148,7 +155,8 @@ outlines_of parts = map_list (λ part. part.outline) parts
 
 -- the number of parcels of a unit, except those that end
 abbrev pub count_other_parcels : Register → (unit : ℕ) → (ended : List ℕ) → ℕ
-count_other_parcels r unit ended = count_where (λ n p. nat_eq p.unit unit && not (lists_number ended n)) r.parcels
+count_other_parcels r unit ended = count_where (λ n p. nat_eq p.unit unit && not (lists_number ended n))
+    r.parcels
 
 -- the number of parts that stay in the unit
 abbrev pub count_staying : List Part → ℕ
@@ -157,7 +165,8 @@ count_staying parts = length (filter (λ part. is_none part.unit) parts)
 -- whether the unit would have more than 256 parcels; a new unit has one parcel, and no more entries than the
 -- old one
 abbrev pub would_have_many_parcels : Register → Subdivision → Bool
-would_have_many_parcels r it = nat_lt 256 (count_other_parcels r it.unit (it.parcel ∷ []) + count_staying (all_parts it))
+would_have_many_parcels r it = nat_lt 256
+    (count_other_parcels r it.unit (it.parcel ∷ []) + count_staying (all_parts it))
 
 -- the refusals with their conditions, in ascending order
 abbrev pub subdivision_refusals : Register → Subdivision → Option ℤ → List (Refusal × Bool)

@@ -101,12 +101,15 @@ ended_rights from (Ok share) = []
 ended_rights from (Err fault) = from.number ∷ []
 
 -- the receiver's right with its increased share
-abbrev pub increased_entry : (source : ℕ) → Transfer → HeldRight → Result Ratio FractionFault → List (ℕ × RrrRecord)
-increased_entry source it to (Ok share) = (to.number, right_entry it.unit it.receiver to.right_type share source) ∷ []
+abbrev pub increased_entry : (source : ℕ) → Transfer → HeldRight → Result Ratio FractionFault
+    → List (ℕ × RrrRecord)
+increased_entry source it to
+    (Ok share) = (to.number, right_entry it.unit it.receiver to.right_type share source) ∷ []
 increased_entry source it to (Err fault) = []
 
 -- the receiver's right with its increased share, or a new right
-abbrev pub entries_of_receiver : Register → (source : ℕ) → Transfer → HeldRight → Option HeldRight → List (ℕ × RrrRecord)
+abbrev pub entries_of_receiver : Register → (source : ℕ) → Transfer → HeldRight → Option HeldRight
+    → List (ℕ × RrrRecord)
 entries_of_receiver r source it from None =
     (r.next, right_entry it.unit it.receiver from.right_type it.share source) ∷ []
 entries_of_receiver r source it from (Some to) = increased_entry source it to (increased_share it to)

@@ -1,6 +1,7 @@
 //! Dispatches on the content of a mutation: its refusals, its change, and the numbers that it creates.
 ghost use Rattle.std.specs.Prelude.{◌≡◌, IfOk};
-ghost use Rattle.land_acts.specs.Mutations.ByContent.{StaysInRange, content_change, content_made, content_refusals};
+ghost use Rattle.land_acts.specs.Mutations.ByContent.{StaysInRange, content_change, content_made};
+ghost use Rattle.land_acts.specs.Mutations.ByContent.{content_refusals};
 ghost use Rattle.land_acts.specs.Mutations.ByContent.{has_room};
 ghost use Rattle.land_acts.specs.Mutations.Planning.{first_refusal_of};
 

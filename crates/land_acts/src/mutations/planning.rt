@@ -1,7 +1,8 @@
 //! The parts that all plans share.
 ghost use Rattle.std.specs.Prelude.{◌≡◌, ◌≤◌, ◌+◌, IfOk};
 ghost use Rattle.land_acts.specs.Mutations.Numbering.{numbers_from};
-ghost use Rattle.land_acts.specs.Mutations.Planning.{document_source, done_on, runs_out_of_numbers, numbers_end};
+ghost use Rattle.land_acts.specs.Mutations.Planning.{document_source, done_on, runs_out_of_numbers};
+ghost use Rattle.land_acts.specs.Mutations.Planning.{numbers_end};
 ghost use Rattle.land_acts.specs.Mutations.Planning.{would_exceed_entries};
 
 use land_core::change::Done;

@@ -3,11 +3,14 @@ ghost use Rattle.std.specs.Prelude.{◌≡◌, ◌≤◌, ◌++◌, ◌∷◌, [
 ghost use Rattle.std.specs.Option.{option_map_or};
 ghost use Rattle.land_acts.specs.Mutations.Planning.{first_refusal_of, numbers_end};
 ghost use Rattle.land_acts.specs.Mutations.Transferring.{are_too_fine, are_too_fine_after, are_too_many};
-ghost use Rattle.land_acts.specs.Mutations.Transferring.{ended_rights, right_of_receiver, right_at, right_by_party, right_in_unit};
+ghost use Rattle.land_acts.specs.Mutations.Transferring.{ended_rights, right_of_receiver, right_at};
+ghost use Rattle.land_acts.specs.Mutations.Transferring.{right_by_party, right_in_unit};
 ghost use Rattle.land_acts.specs.Mutations.Transferring.{right_of_class, is_above, is_above_one, is_checked};
-ghost use Rattle.land_acts.specs.Mutations.Transferring.{is_right_held_by, gives_to_itself, is_too_fine, is_too_large};
+ghost use Rattle.land_acts.specs.Mutations.Transferring.{is_right_held_by, gives_to_itself, is_too_fine};
+ghost use Rattle.land_acts.specs.Mutations.Transferring.{is_too_large};
 ghost use Rattle.land_acts.specs.Mutations.Transferring.{kept, move_change, new_rights, number_after};
-ghost use Rattle.land_acts.specs.Mutations.Transferring.{entries_of_receiver, right_entry, increased_share, remaining_share};
+ghost use Rattle.land_acts.specs.Mutations.Transferring.{entries_of_receiver, right_entry, increased_share};
+ghost use Rattle.land_acts.specs.Mutations.Transferring.{remaining_share};
 ghost use Rattle.land_acts.specs.Mutations.Transferring.{transfer_refusals};
 ghost use Rattle.land_acts.specs.declared.mutations.refusal.Refusal.TheVariants.{ClockOut, SameParty};
 ghost use Rattle.land_core.specs.Changes.{after};
@@ -72,7 +75,8 @@ pub(crate) fn refusal(
 
 /// Returns the refusals after 210: 217 or 219.
 fn last_refusal(it: &Transfer, from: &HeldRight, stamp: Option<i64>) -> Option<Refusal>
-    ensures { result ≡ first_refusal_of ((ClockOut, is_none stamp) ∷ (SameParty, gives_to_itself it.now from.now)
+    ensures { result ≡ first_refusal_of
+        ((ClockOut, is_none stamp) ∷ (SameParty, gives_to_itself it.now from.now)
         ∷ []) }
 {
     if stamp.is_none() {
@@ -263,7 +267,12 @@ fn are_too_fine_after(
 }
 
 /// Returns the slice after the transfer, except for its next number. The only error is out of memory.
-fn after_move(alloc: Global, slice: &Slice, it: &Transfer, from: &HeldRight) -> Result<Slice, AllocError>
+fn after_move(
+    alloc: Global,
+    slice: &Slice,
+    it: &Transfer,
+    from: &HeldRight,
+) -> Result<Slice, AllocError>
     ensures { IfOk result (λ changed. changed
         ≡ after (record (move_change slice.now 0 it.now from.now) { next = slice.now.next }) slice.now) }
 {

@@ -36,7 +36,8 @@ HasOptionalNumber rows option least most None = first_of option rows ≡ None
 -- The number of an optional option, or its value is not valid.
 abbrev pub IsOptionalNumber : List Row → Text → (least most : ℤ) → Option (Option ℤ) → Type 0
 IsOptionalNumber rows option least most (Some maybe) = HasOptionalNumber rows option least most maybe
-IsOptionalNumber rows option least most None = (maybe : Option ℤ) → HasOptionalNumber rows option least most maybe → ⊥
+IsOptionalNumber rows option least most None = (maybe : Option ℤ)
+    → HasOptionalNumber rows option least most maybe → ⊥
 
 -- The value whose word is given for an option, or the word is of no value.
 module _ {A : Type 0} (spell : A → Text) where

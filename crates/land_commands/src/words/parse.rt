@@ -2,14 +2,15 @@
 ghost use Rattle.std.specs.Prelude.{map, pos, codes, option_map, string_bytes};
 ghost use Rattle.clap.specs.Words.{found_of, rows_of, subcommand_rows_of};
 ghost use Rattle.land_commands.specs.Words.Choices.{IsWordOf, kind_word, role_word};
-ghost use Rattle.land_commands.specs.Words.Names.{IsCallerOption, IsChoiceOf, IsOptionalNumber, FindsCommand, IsOptionNumber};
+ghost use Rattle.land_commands.specs.Words.Names.{IsCallerOption, IsChoiceOf, IsOptionalNumber, FindsCommand};
+ghost use Rattle.land_commands.specs.Words.Names.{IsOptionNumber};
 ghost use Rattle.land_commands.specs.Words.Names.{HasOptionsOf};
 ghost use Rattle.land_commands.specs.Words.Names.{IsReading, IsFaultOfError};
 ghost use Rattle.land_commands.specs.Words.PlainCommands.{order_of};
 ghost use Rattle.land_keep.specs.Moments.{last_moment};
 
 use crate::words::choices::all_choices;
-use crate::words::clap_matches::{subcommand_found, matches, number_of, text_of};
+use crate::words::clap_matches::{matches, number_of, subcommand_found, text_of};
 use crate::words::command::Command;
 use crate::words::options::{LAST_PARTY, LAST_PORT, MAX_CONNECTIONS};
 use crate::words::words_fault::WordsFault;

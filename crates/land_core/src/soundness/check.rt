@@ -4,8 +4,10 @@ ghost use Rattle.land_core.specs.Members.{are_group_shares};
 ghost use Rattle.land_core.specs.Register.{shares_of};
 ghost use Rattle.land_core.specs.Soundness.{IsSound, has_fault, has_unused, has_unused_number};
 ghost use Rattle.land_core.specs.Soundness.{has_dangling_grant, has_dangling_mandate, has_dangling_members};
-ghost use Rattle.land_core.specs.Soundness.{has_dangling_parcel, has_dangling_rrr, is_dangling_mandate, are_dangling_members};
-ghost use Rattle.land_core.specs.Soundness.{has_dangling_member, has_broken_group, has_administrator, is_used};
+ghost use Rattle.land_core.specs.Soundness.{has_dangling_parcel, has_dangling_rrr, is_dangling_mandate};
+ghost use Rattle.land_core.specs.Soundness.{are_dangling_members};
+ghost use Rattle.land_core.specs.Soundness.{has_dangling_member, has_broken_group, has_administrator};
+ghost use Rattle.land_core.specs.Soundness.{is_used};
 
 use crate::kind::{Kind, PartyKind};
 use crate::limits::LAST_NEXT;
@@ -120,10 +122,7 @@ fn is_dangling_mandate(register: &Register, mandate: Mandate) -> bool
 fn has_dangling_members(register: &Register) -> bool
     ensures { result ≡ has_dangling_members register.now }
 {
-    register
-        .members
-        .iter()
-        .any(|(group, members)| are_dangling_members(register, *group, members))
+    register.members.iter().any(|(group, members)| are_dangling_members(register, *group, members))
 }
 
 fn are_dangling_members(register: &Register, group: u64, members: &Members) -> bool

@@ -1,6 +1,7 @@
 //! The conditions of soundness on mutations.
 ghost use Rattle.std.specs.Prelude.{◌≡◌, IfOk};
-ghost use Rattle.land_core.specs.Soundness.{has_dangling_mutation, has_reused_reference, is_dangling_mutation};
+ghost use Rattle.land_core.specs.Soundness.{has_dangling_mutation, has_reused_reference};
+ghost use Rattle.land_core.specs.Soundness.{is_dangling_mutation};
 
 use crate::kind::Kind;
 use crate::mutation::MutationRecord;

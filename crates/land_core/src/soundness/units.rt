@@ -117,10 +117,7 @@ fn clashes(claim: Claim, others: &[Claim]) -> bool
 fn has_rank_out_of_range(register: &Register) -> bool
     ensures { result ≡ has_rank_out_of_range register.now }
 {
-    register
-        .rrrs
-        .iter()
-        .any(|(_, entry)| is_rank_out_of_range(register, entry.class.rank()))
+    register.rrrs.iter().any(|(_, entry)| is_rank_out_of_range(register, entry.class.rank()))
 }
 
 fn is_rank_out_of_range(register: &Register, rank: Option<u64>) -> bool

@@ -57,7 +57,8 @@ interest_of_citizen is_name entries =
 
 -- a bank that has a mortgage on a unit is a creditor
 abbrev pub interest_of_bank : (party : ℕ) → Entries → Interest
-interest_of_bank party entries = if some (λ n e. is_mortgage_for party e) entries then Creditor else NoInterest
+interest_of_bank party entries = if some (λ n e. is_mortgage_for party e) entries then Creditor else
+    NoInterest
 
 -- the interest of a caller; roles other than citizen and bank have no such interest
 abbrev pub interest_of : (is_name : ℕ → Bool) → Caller → Entries → Interest
@@ -92,7 +93,8 @@ interest_at at caller unit =
 
 -- whether a mutation refers to a unit that the caller's interest makes visible
 abbrev pub names_visible_unit : Register → Caller → MutationRecord → Bool
-names_visible_unit at caller m = refers_to_unit_where (λ unit. shows_unit (interest_at at caller unit)) m.content
+names_visible_unit at caller m = refers_to_unit_where (λ unit. shows_unit (interest_at at caller unit))
+    m.content
 
 -- whether an interest makes an object visible: a unit by the interest in it; an entry that exists by the
 -- interest in its unit; a mutation that exists by the interest in a unit to which it refers
@@ -103,7 +105,8 @@ is_shown_by_interest at caller kind.Parcel number = false
 is_shown_by_interest at caller kind.Rrr number =
     is_rrr_where (λ e. shows_entry (interest_at at caller e.unit) caller.party e) at number
 is_shown_by_interest at caller kind.Source number = false
-is_shown_by_interest at caller kind.Mutation number = is_mutation_where (names_visible_unit at caller) at number
+is_shown_by_interest at caller kind.Mutation number = is_mutation_where
+    (names_visible_unit at caller) at number
 
 -- citizens and banks see units and entries by interest, and citizens see mutations by interest
 abbrev pub sees_by_interest : Role → Kind → Bool

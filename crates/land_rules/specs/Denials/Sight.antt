@@ -36,7 +36,8 @@ verdict_given_sight in_sight awaited caller k number = if in_sight then Allowed
 abbrev pub SightDecidesVerdicts : Type 0
 SightDecidesVerdicts = (at : Register) → IsSoundOrNothing at → (caller : Caller) (k : Kind) (number : ℕ)
     → first_denial (view_rules at caller k number)
-    ≡ verdict_given_sight (sees at caller k number) (has_pending_mutation_on at caller.party number) caller k number
+    ≡ verdict_given_sight (sees at caller k number) (has_pending_mutation_on at caller.party number) caller k
+    number
 
 -- all roles see all parcels, and notaries and state administrators see all objects of all kinds
 abbrev pub sees_all : Role → Kind → Bool
@@ -81,9 +82,11 @@ sees_by_pending role kind.Mutation = false
 -- which one refers
 abbrev pub is_visible_by_pending : Register → Caller → Kind → (number : ℕ) → Bool
 is_visible_by_pending at caller kind.Party number = false
-is_visible_by_pending at caller kind.Unit number = has_pending_mutation_on at caller.party number && stands at kind.Unit number
+is_visible_by_pending at caller kind.Unit number = has_pending_mutation_on at caller.party number
+    && stands at kind.Unit number
 is_visible_by_pending at caller kind.Parcel number = false
-is_visible_by_pending at caller kind.Rrr number = is_rrr_where (λ e. has_pending_mutation_on at caller.party e.unit) at number
+is_visible_by_pending at caller kind.Rrr number = is_rrr_where
+    (λ e. has_pending_mutation_on at caller.party e.unit) at number
 is_visible_by_pending at caller kind.Source number = false
 is_visible_by_pending at caller kind.Mutation number = false
 

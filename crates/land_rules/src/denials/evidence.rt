@@ -2,7 +2,7 @@
 ghost use Rattle.std.specs.Prelude.{◌≡◌, Some, IfOk};
 ghost use Rattle.land_rules.specs.Denials.Standing.{evidence_of, at_most_one};
 
-use crate::denials::standing::{mutation_of_ask, entry_of_ask};
+use crate::denials::standing::{entry_of_ask, mutation_of_ask};
 use land_core::ask::Ask;
 use land_core::caller::Caller;
 use land_core::mutation::MutationRecord;

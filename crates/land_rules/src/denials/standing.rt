@@ -1,6 +1,7 @@
 //! The standing rules, decided from the evidence.
 ghost use Rattle.std.specs.Prelude.{◌≡◌};
-ghost use Rattle.land_rules.specs.Denials.Standing.{mutation_of_ask, entry_of_ask, entry_of_act, entry_of_content};
+ghost use Rattle.land_rules.specs.Denials.Standing.{mutation_of_ask, entry_of_ask, entry_of_act};
+ghost use Rattle.land_rules.specs.Denials.Standing.{entry_of_content};
 ghost use Rattle.land_rules.specs.Denials.Standing.{mutation_of_act};
 ghost use Rattle.land_rules.specs.Rules.{first_denial, standing_rules};
 

@@ -5,7 +5,8 @@ ghost use Rattle.std.specs.List.{list_any};
 ghost use Rattle.land_core.specs.Contents.{refers_to_unit_where};
 ghost use Rattle.land_core.specs.declared.kind.Kind.TheVariants as kind;
 ghost use Rattle.land_rules.specs.Circles.{circle_of, is_held_by};
-ghost use Rattle.land_rules.specs.Holdings.{AreHoldings, ArePartiesOfEntries, AreOfInterest, is_name_of_caller, sees_parties_of_entries};
+ghost use Rattle.land_rules.specs.Holdings.{AreHoldings, ArePartiesOfEntries, AreOfInterest};
+ghost use Rattle.land_rules.specs.Holdings.{is_name_of_caller, sees_parties_of_entries};
 ghost use Rattle.land_rules.specs.Rules.{sees, seen_of};
 ghost use Rattle.land_rules.specs.declared.rules.holdings.Interest.TheVariants.{Holder};
 
@@ -220,7 +221,12 @@ fn citizen_sees_mutation(at: &Register, caller: Caller, holdings: &Holdings, num
     ensures { result ≡ sees at.now caller kind.Mutation number }
 {
     match at.mutations.get(number) {
-        Some(mutation) => content_names_held_unit(at, caller.party, &holdings.held, &mutation.content),
+        Some(mutation) => content_names_held_unit(
+            at,
+            caller.party,
+            &holdings.held,
+            &mutation.content,
+        ),
         None => false,
     }
 }
@@ -234,7 +240,12 @@ fn holds_any(at: &Register, party: u64, held: &BTreeSet<u64>, units: &[u64]) -> 
 }
 
 /// Returns whether a content refers to a unit in which a member of the circle of a party is a holder.
-fn content_names_held_unit(at: &Register, party: u64, held: &BTreeSet<u64>, content: &Content) -> bool
+fn content_names_held_unit(
+    at: &Register,
+    party: u64,
+    held: &BTreeSet<u64>,
+    content: &Content,
+) -> bool
     requires { AreOfInterest Holder at.now party held.now }
     ensures { result ≡ refers_to_unit_where (is_held_by at.now (circle_of at.now party)) content.now }
 {

@@ -84,12 +84,14 @@ with_source known n source = record { sources = put_one known.sources n source }
 -- If the tables hold a history that at time t represents a register without empty groups, the property holds
 -- of that register.
 abbrev pub HoldsOfRegister : (Register → Type 0) → (t : ℤ) → Trees → Type 0
-HoldsOfRegister holds t db = HoldsOfHistory db (λ h. (r : Register) → HaveMembers r.members → IsRegisterAt t h r → holds r)
+HoldsOfRegister holds t db = HoldsOfHistory db (λ h. (r : Register) → HaveMembers r.members
+    → IsRegisterAt t h r → holds r)
 
 -- a part that is correct for a set of numbers is correct for a larger set after the read
 abbrev pub KnowsMore : {T : Type 0} → (Register → (ℕ → Bool) → T → Type 0) → (more : (ℕ → Bool) → ℕ → Bool)
     → (from it : T) → (t : ℤ) → Trees → Type 0
-KnowsMore knows more from it t db = HoldsOfRegister (λ r. (asked : ℕ → Bool) → knows r asked from → knows r (more asked) it)
+KnowsMore knows more from it t db = HoldsOfRegister (λ r. (asked : ℕ → Bool) → knows r asked from
+    → knows r (more asked) it)
     t db
 
 -- the parts of a slice that are read first, before its sources and the lifted entry, are those of the

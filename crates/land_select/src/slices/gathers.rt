@@ -23,7 +23,8 @@ pub(crate) trait Gathers: Sized {
         at: i64,
     ) -> Result<Self, ReadFault>
         requires has_tables { HasRegisterTables S.Store conn.old }
-        ensures reads_only { ReadsTables S.Store result (λ db it. KnowsMore knows (with_number number) self it at db)
+        ensures reads_only { ReadsTables S.Store result
+            (λ db it. KnowsMore knows (with_number number) self it at db)
             conn.old conn.new }
         ensures autocommit { LeavesAutocommit conn.old conn.new };
 }

@@ -24,7 +24,8 @@ fn read_mutation_records<S: Alter>(
     at: i64,
 ) -> Result<Records<MutationRecord>, ReadFault>
     requires has_tables { HasRegisterTables S.Store conn.old }
-    ensures reads_only { ReadsTables S.Store result (ReadsPart (λ r. entries_where (λ n m. nat_eq n number) r.mutations) at)
+    ensures reads_only { ReadsTables S.Store result
+        (ReadsPart (λ r. entries_where (λ n m. nat_eq n number) r.mutations) at)
         conn.old conn.new }
     ensures autocommit { LeavesAutocommit conn.old conn.new }
 {
@@ -43,7 +44,8 @@ pub(crate) fn mutations_of<S: Alter>(
 ) -> Result<Records<MutationRecord>, ReadFault>
     requires open { IsUsable S.Store conn.old }
     requires has_tables { HasRegisterTables S.Store conn.old }
-    ensures reads_only { ReadsTables S.Store result (ReadsPart (λ r. mutations_in_slice r caller act.now) at) conn.old
+    ensures reads_only { ReadsTables S.Store result (ReadsPart (λ r. mutations_in_slice r caller act.now) at)
+        conn.old
         conn.new }
     ensures autocommit { LeavesAutocommit conn.old conn.new }
 {

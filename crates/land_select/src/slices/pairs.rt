@@ -38,7 +38,8 @@ fn is_same_mandate(it: Mandate, mandate: Mandate) -> bool
 
 /// Returns a mandate as the only one, if it is in a list.
 fn only_mandate(alloc: Global, mandates: &Mandates, it: Mandate) -> Result<Mandates, AllocError>
-    ensures { IfOk result (λ kept. kept ≡ entries_where (λ mandate u. is_same_mandate it mandate) mandates.now) }
+    ensures { IfOk result
+        (λ kept. kept ≡ entries_where (λ mandate u. is_same_mandate it mandate) mandates.now) }
 {
     let mut kept = Mandates::new(alloc);
     for mandate in mandates.iter() {
@@ -58,7 +59,8 @@ fn read_mandate<S: Alter>(
 ) -> Result<Mandates, ReadFault>
     requires has_tables { HasRegisterTables S.Store conn.old }
     ensures reads_only { ReadsTables S.Store result
-        (ReadsPart (λ r. entries_where (λ mandate u. is_same_mandate it mandate) r.mandates) at) conn.old conn.new }
+        (ReadsPart (λ r. entries_where (λ mandate u. is_same_mandate it mandate) r.mandates) at) conn.old
+        conn.new }
     ensures autocommit { LeavesAutocommit conn.old conn.new }
 {
     let held = of_agent::mandates(alloc, conn, it.agent, at)?;
@@ -76,7 +78,8 @@ pub(crate) fn mandates_of<S: Alter>(
     requires open { IsUsable S.Store conn.old }
     requires has_tables { HasRegisterTables S.Store conn.old }
     ensures reads_only { ReadsTables S.Store result
-        (ReadsPart (λ r. entries_where (λ mandate u. names_mandate caller act.now mandate) r.mandates) at) conn.old
+        (ReadsPart (λ r. entries_where (λ mandate u. names_mandate caller act.now mandate) r.mandates) at)
+        conn.old
         conn.new }
     ensures autocommit { LeavesAutocommit conn.old conn.new }
 {

@@ -1,7 +1,8 @@
 //! Parties, with their roles and members.
 ghost use Rattle.std.specs.Prelude.{◌≡◌, ℕ, Bool, IfOk};
 ghost use Rattle.std.specs.FinMap as map;
-ghost use Rattle.land_select.specs.Slices.Gathered.{HoldsOfRegister, KnowsParties, put_all, put_one, with_number};
+ghost use Rattle.land_select.specs.Slices.Gathered.{HoldsOfRegister, KnowsParties, put_all, put_one};
+ghost use Rattle.land_select.specs.Slices.Gathered.{with_number};
 ghost use Rattle.land_select.specs.Slices.Gathered.{with_party};
 ghost use Rattle.land_select_queries.specs.TableReads.{ReadsTables};
 ghost use Rattle.land_tables_schema.specs.Connections.{HasRegisterTables, LeavesAutocommit};

@@ -6,7 +6,8 @@ ghost use Rattle.land_acts.specs.Slices.{names_rrr, names_unit, slice_of};
 ghost use Rattle.land_core.specs.Entries.{entries_where, some};
 ghost use Rattle.land_core.specs.Grants.{grants_in};
 ghost use Rattle.land_core.specs.declared.caller.Caller.{Caller as Asker};
-ghost use Rattle.land_select.specs.Slices.Gathered.{IsKnown, HoldsOfRegister, KnowsUnits, KnowsSources, KnowsParties};
+ghost use Rattle.land_select.specs.Slices.Gathered.{IsKnown, HoldsOfRegister, KnowsUnits, KnowsSources};
+ghost use Rattle.land_select.specs.Slices.Gathered.{KnowsParties};
 ghost use Rattle.land_select.specs.Slices.Named.{parties_of};
 ghost use Rattle.land_select_queries.specs.Lookups.Parts.{ReadsPart};
 ghost use Rattle.land_select_queries.specs.TableReads.{ReadsTables};
@@ -112,7 +113,8 @@ fn read_sources<S: Alter>(
     requires open { IsUsable S.Store conn.old }
     requires has_tables { HasRegisterTables S.Store conn.old }
     ensures reads_only { ReadsTables S.Store result
-        (λ db it. HoldsOfRegister (λ r. KnowsSources r (λ n. some (λ k m. nat_eq m.source n) mutations.now) it) at db)
+        (λ db it. HoldsOfRegister
+        (λ r. KnowsSources r (λ n. some (λ k m. nat_eq m.source n) mutations.now) it) at db)
         conn.old conn.new }
     ensures autocommit { LeavesAutocommit conn.old conn.new }
 {
@@ -134,7 +136,8 @@ fn entry_at<S: Alter>(
     at: i64,
 ) -> Result<Records<RrrRecord>, ReadFault>
     requires has_tables { HasRegisterTables S.Store conn.old }
-    ensures reads_only { ReadsTables S.Store result (ReadsPart (λ r. entries_where (λ n e. nat_eq n number) r.rrrs) at) conn.old
+    ensures reads_only { ReadsTables S.Store result
+        (ReadsPart (λ r. entries_where (λ n e. nat_eq n number) r.rrrs) at) conn.old
         conn.new }
     ensures autocommit { LeavesAutocommit conn.old conn.new }
 {
@@ -151,7 +154,8 @@ fn read_lifted_entry<S: Alter>(
 ) -> Result<Records<RrrRecord>, ReadFault>
     requires open { IsUsable S.Store conn.old }
     requires has_tables { HasRegisterTables S.Store conn.old }
-    ensures reads_only { ReadsTables S.Store result (ReadsPart (λ r. entries_where (λ n e. names_rrr r act.now n) r.rrrs) at)
+    ensures reads_only { ReadsTables S.Store result
+        (ReadsPart (λ r. entries_where (λ n e. names_rrr r act.now n) r.rrrs) at)
         conn.old conn.new }
     ensures autocommit { LeavesAutocommit conn.old conn.new }
 {
@@ -224,7 +228,8 @@ fn slice_about<S: Alter>(
     ensures reads_only { ReadsTables S.Store result
         (λ db it. HoldsOfRegister (λ r. r.next ≡ next → (caller : Asker)
         → mutations ≡ mutations_in_slice r caller act.now
-        → mandates ≡ entries_where (λ m u. names_mandate caller act.now m) r.mandates → it ≡ slice_of r caller act.now)
+        → mandates ≡ entries_where (λ m u. names_mandate caller act.now m) r.mandates
+        → it ≡ slice_of r caller act.now)
         at db) conn.old conn.new }
     ensures autocommit { LeavesAutocommit conn.old conn.new }
 {
@@ -254,7 +259,8 @@ pub fn slice_at<S: Alter>(
     requires open { IsUsable S.Store conn.old }
     requires has_tables { HasRegisterTables S.Store conn.old }
     ensures reads_only { ReadsTables S.Store result
-        (λ db it. HoldsOfRegister (λ r. r.next ≡ next → it ≡ slice_of r caller act.now) at db) conn.old conn.new }
+        (λ db it. HoldsOfRegister (λ r. r.next ≡ next → it ≡ slice_of r caller act.now) at db) conn.old
+        conn.new }
     ensures autocommit { LeavesAutocommit conn.old conn.new }
 {
     let mutations = mutations_of(alloc, conn, caller, act, at)?;

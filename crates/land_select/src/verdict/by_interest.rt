@@ -5,7 +5,7 @@ ghost use Rattle.land_select_queries.specs.TableReads.{ReadsTables};
 ghost use Rattle.land_tables_schema.specs.Connections.{HasRegisterTables, IsUsable, LeavesAutocommit};
 
 use crate::cache::CachedValue;
-use crate::verdict::interest::{read_shown_entry, is_unit_shown};
+use crate::verdict::interest::{is_unit_shown, read_shown_entry};
 use crate::verdict::mutation::read_shown_mutation;
 use land_core::caller::Caller;
 use land_core::kind::Kind;

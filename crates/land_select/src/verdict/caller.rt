@@ -23,7 +23,7 @@ use land_core::rrr::RrrRecord;
 use land_core::text::Text;
 use land_rules::denials::evidence::evidence_of;
 use land_rules::denials::laws::{evidence_is_enough, lookups_are_enough};
-use land_rules::denials::standing::{mutation_of_ask, entry_of_ask, standing_verdict};
+use land_rules::denials::standing::{entry_of_ask, mutation_of_ask, standing_verdict};
 use land_rules::verdict::Verdict;
 use land_select_queries::lookups::existence::party_exists;
 use land_select_queries::lookups::{by_number, of_party};
@@ -51,7 +51,8 @@ fn read_caller_and_roles<S: Alter>(
 ) -> Result<(bool, Roles), ReadFault>
     requires has_tables { HasRegisterTables S.Store conn.old }
     ensures reads_only { ReadsTables S.Store result
-        (AgreesWithRegister (λ r. (stands r kinds.Party caller.party, roles_in r caller.party)) at) conn.old conn.new }
+        (AgreesWithRegister (λ r. (stands r kinds.Party caller.party, roles_in r caller.party)) at) conn.old
+        conn.new }
     ensures autocommit { LeavesAutocommit conn.old conn.new }
 {
     soundness_by_number();
@@ -72,7 +73,8 @@ fn entry_at<S: Alter>(
 ) -> Result<Option<RrrRecord>, ReadFault>
     requires open { IsUsable S.Store conn.old }
     requires has_tables { HasRegisterTables S.Store conn.old }
-    ensures reads_only { ReadsTables S.Store result (ReadsPart (λ r. record_at r.rrrs number) at) conn.old conn.new }
+    ensures reads_only { ReadsTables S.Store result (ReadsPart (λ r. record_at r.rrrs number) at) conn.old
+        conn.new }
     ensures autocommit { LeavesAutocommit conn.old conn.new }
 {
     match number {
@@ -90,7 +92,8 @@ fn mutation_at<S: Alter>(
 ) -> Result<Option<MutationRecord>, ReadFault>
     requires open { IsUsable S.Store conn.old }
     requires has_tables { HasRegisterTables S.Store conn.old }
-    ensures reads_only { ReadsTables S.Store result (ReadsPart (λ r. record_at r.mutations number) at) conn.old
+    ensures reads_only { ReadsTables S.Store result (ReadsPart (λ r. record_at r.mutations number) at)
+        conn.old
         conn.new }
     ensures autocommit { LeavesAutocommit conn.old conn.new }
 {
@@ -110,7 +113,11 @@ fn read_referenced<S: Alter>(
     requires open { IsUsable S.Store conn.old }
     requires has_tables { HasRegisterTables S.Store conn.old }
     ensures reads_only { ReadsTables S.Store result
-        (ReadsPart (λ r. (record_at r.rrrs (entry_of_ask ask.now), record_at r.mutations (mutation_of_ask ask.now))) at)
+        (ReadsPart (λ r. (
+          record_at r.rrrs (entry_of_ask ask.now),
+          record_at r.mutations
+              (mutation_of_ask ask.now),
+        )) at)
         conn.old conn.new }
     ensures autocommit { LeavesAutocommit conn.old conn.new }
 {
@@ -143,7 +150,8 @@ fn evidence<S: Alter>(
 ) -> Result<Register, ReadFault>
     requires open { IsUsable S.Store conn.old }
     requires has_tables { HasRegisterTables S.Store conn.old }
-    ensures reads_only { ReadsTables S.Store result (AgreesWithRegister (λ r. evidence_in r caller ask.now) at) conn.old
+    ensures reads_only { ReadsTables S.Store result
+        (AgreesWithRegister (λ r. evidence_in r caller ask.now) at) conn.old
         conn.new }
     ensures autocommit { LeavesAutocommit conn.old conn.new }
 {

@@ -17,8 +17,8 @@ use land_core::laws::soundness_by_number;
 use land_core::records::Records;
 use land_core::rrr::RrrRecord;
 use land_select_queries::lookups::by_number;
-use land_select_queries::lookups::lodgers::has_pending_mutation_on;
 use land_select_queries::lookups::existence::unit_exists;
+use land_select_queries::lookups::lodgers::has_pending_mutation_on;
 use land_select_queries::lookups::shown::Shown;
 use land_tables_rows::listing::fault::ReadFault;
 use sqlite::{Alter, Connection};
@@ -35,7 +35,11 @@ pub(crate) fn read_pending_unit<S: Alter>(
 ) -> Result<(bool, bool), ReadFault>
     requires has_tables { HasRegisterTables S.Store conn.old }
     ensures reads_only { ReadsTables S.Store result
-        (ReadsPart (λ r. (is_visible_by_pending r caller kinds.Unit unit, has_pending_mutation_on r caller.party unit)) at) conn.old
+        (ReadsPart (λ r. (
+          is_visible_by_pending r caller kinds.Unit unit,
+          has_pending_mutation_on r
+              caller.party unit,
+        )) at) conn.old
         conn.new }
     ensures autocommit { LeavesAutocommit conn.old conn.new }
 {
@@ -55,7 +59,8 @@ fn is_unit_pending<S: Alter>(
     at: i64,
 ) -> Result<bool, ReadFault>
     requires has_tables { HasRegisterTables S.Store conn.old }
-    ensures reads_only { ReadsTables S.Store result (ReadsPart (λ r. is_visible_by_pending r caller kinds.Unit unit) at) conn.old
+    ensures reads_only { ReadsTables S.Store result
+        (ReadsPart (λ r. is_visible_by_pending r caller kinds.Unit unit) at) conn.old
         conn.new }
     ensures autocommit { LeavesAutocommit conn.old conn.new }
 {
@@ -75,7 +80,8 @@ fn read_pending_entry<S: Alter>(
 ) -> Result<(bool, CachedValue), ReadFault>
     requires has_tables { HasRegisterTables S.Store conn.old }
     ensures reads_only { ReadsTables S.Store result
-        (IsFactWith (λ r. is_visible_by_pending r caller kinds.Rrr number) caller kinds.Rrr number at) conn.old
+        (IsFactWith (λ r. is_visible_by_pending r caller kinds.Rrr number) caller kinds.Rrr number at)
+        conn.old
         conn.new }
     ensures autocommit { LeavesAutocommit conn.old conn.new }
 {
@@ -133,7 +139,8 @@ pub(crate) fn pending_entries<S: Alter>(
     at: i64,
 ) -> Result<Records<RrrRecord>, ReadFault>
     requires has_tables { HasRegisterTables S.Store conn.old }
-    ensures reads_only { ReadsTables S.Store result (ReadsPart (λ r. pending_entries r party unit entries) at) conn.old
+    ensures reads_only { ReadsTables S.Store result (ReadsPart (λ r. pending_entries r party unit entries) at)
+        conn.old
         conn.new }
     ensures autocommit { LeavesAutocommit conn.old conn.new }
 {

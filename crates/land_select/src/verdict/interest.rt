@@ -95,7 +95,8 @@ fn read_interest_from<S: Alter>(
     requires open { IsUsable S.Store conn.old }
     requires has_tables { HasRegisterTables S.Store conn.old }
     ensures reads_only { ReadsTables S.Store result
-        (ReadsPart (λ r. interest_of (is_name_of r (circle_of r caller.party)) caller entries.now) at) conn.old
+        (ReadsPart (λ r. interest_of (is_name_of r (circle_of r caller.party)) caller entries.now) at)
+        conn.old
         conn.new }
     ensures autocommit { LeavesAutocommit conn.old conn.new }
 {
@@ -114,7 +115,8 @@ fn read_interest<S: Alter>(
 ) -> Result<Interest, ReadFault>
     requires open { IsUsable S.Store conn.old }
     requires has_tables { HasRegisterTables S.Store conn.old }
-    ensures reads_only { ReadsTables S.Store result (ReadsPart (λ r. interest_at r caller unit) at) conn.old conn.new }
+    ensures reads_only { ReadsTables S.Store result (ReadsPart (λ r. interest_at r caller unit) at) conn.old
+        conn.new }
     ensures autocommit { LeavesAutocommit conn.old conn.new }
 {
     let entries = of_unit::entries(alloc, conn, unit, at)?;
@@ -131,7 +133,8 @@ pub(crate) fn is_unit_shown<S: Alter>(
 ) -> Result<bool, ReadFault>
     requires open { IsUsable S.Store conn.old }
     requires has_tables { HasRegisterTables S.Store conn.old }
-    ensures reads_only { ReadsTables S.Store result (ReadsPart (λ r. shows_unit (interest_at r caller unit)) at)
+    ensures reads_only { ReadsTables S.Store result
+        (ReadsPart (λ r. shows_unit (interest_at r caller unit)) at)
         conn.old conn.new }
     ensures autocommit { LeavesAutocommit conn.old conn.new }
 {
@@ -150,7 +153,8 @@ fn is_entry_shown<S: Alter>(
     requires open { IsUsable S.Store conn.old }
     requires has_tables { HasRegisterTables S.Store conn.old }
     ensures reads_only { ReadsTables S.Store result
-        (ReadsPart (λ r. shows_entry (interest_at r caller entry.now.unit) caller.party entry.now) at) conn.old
+        (ReadsPart (λ r. shows_entry (interest_at r caller entry.now.unit) caller.party entry.now) at)
+        conn.old
         conn.new }
     ensures autocommit { LeavesAutocommit conn.old conn.new }
 {
@@ -213,7 +217,8 @@ pub(crate) fn entries_by_interest<S: Alter>(
 ) -> Result<Records<RrrRecord>, ReadFault>
     requires open { IsUsable S.Store conn.old }
     requires has_tables { HasRegisterTables S.Store conn.old }
-    ensures reads_only { ReadsTables S.Store result (ReadsPart (λ r. entries_by_interest r caller entries.now) at) conn.old
+    ensures reads_only { ReadsTables S.Store result
+        (ReadsPart (λ r. entries_by_interest r caller entries.now) at) conn.old
         conn.new }
     ensures autocommit { LeavesAutocommit conn.old conn.new }
 {

@@ -77,7 +77,8 @@ fn names_visible_unit<S: Alter>(
 ) -> Result<bool, ReadFault>
     requires open { IsUsable S.Store conn.old }
     requires has_tables { HasRegisterTables S.Store conn.old }
-    ensures reads_only { ReadsTables S.Store result (ReadsPart (λ r. names_visible_unit r caller mutation.now) at) conn.old
+    ensures reads_only { ReadsTables S.Store result
+        (ReadsPart (λ r. names_visible_unit r caller mutation.now) at) conn.old
         conn.new }
     ensures autocommit { LeavesAutocommit conn.old conn.new }
 {

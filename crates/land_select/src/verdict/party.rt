@@ -75,7 +75,8 @@ fn is_in_sight_list<S: Alter>(
 ) -> Result<bool, ReadFault>
     requires open { IsUsable S.Store conn.old }
     requires has_tables { HasRegisterTables S.Store conn.old }
-    ensures reads_only { ReadsTables S.Store result (AgreesWithRegister (λ r. sees r caller kinds.Party number) at) conn.old
+    ensures reads_only { ReadsTables S.Store result
+        (AgreesWithRegister (λ r. sees r caller kinds.Party number) at) conn.old
         conn.new }
     ensures autocommit { LeavesAutocommit conn.old conn.new }
 {

@@ -31,7 +31,9 @@ fn read_sight_verdict<S: Alter>(
     ensures autocommit { LeavesAutocommit conn.old conn.new }
 {
     match ask {
-        Ask::View { kind, number, .. } => read_view_verdict(alloc, conn, caller, *kind, *number, at),
+        Ask::View { kind, number, .. } => read_view_verdict(
+            alloc, conn, caller, *kind, *number, at,
+        ),
         Ask::Sheet { unit, .. } => read_sheet_verdict(alloc, conn, caller, *unit, at),
         Ask::List { .. } | Ask::Do(_) => Ok((Verdict::Allowed, CachedValue::Nothing)),
     }

@@ -17,7 +17,7 @@ use land_core::kind::Kind;
 use land_core::laws::soundness_by_number;
 use land_rules::denials::interests::sees_by_interest;
 use land_rules::denials::laws::{
-    interests_decide_sight, sight_decides_verdicts, pending_units_are_visible,
+    interests_decide_sight, pending_units_are_visible, sight_decides_verdicts,
 };
 use land_rules::denials::sight::{is_unit_of_conveyancer, view_verdict};
 use land_rules::verdict::Verdict;

@@ -19,8 +19,8 @@ use land_core::kind::Kind;
 use land_core::laws::soundness_by_number;
 use land_rules::denials::interests::sees_by_interest;
 use land_rules::denials::laws::{
-    full_sight_shows_all, interests_decide_sight, lodgers_see_their_own, sight_decides_verdicts,
-    pending_units_are_visible,
+    full_sight_shows_all, interests_decide_sight, lodgers_see_their_own, pending_units_are_visible,
+    sight_decides_verdicts,
 };
 use land_rules::denials::sight::{
     is_unit_of_conveyancer, sees_all, sees_by_pending, sees_own_lodgings, view_verdict,
@@ -44,7 +44,8 @@ pub(crate) fn read_object<S: Alter>(
     at: i64,
 ) -> Result<(bool, CachedValue), ReadFault>
     requires has_tables { HasRegisterTables S.Store conn.old }
-    ensures reads_only { ReadsTables S.Store result (IsFactWith (λ r. stands r kind number) caller kind number at)
+    ensures reads_only { ReadsTables S.Store result
+        (IsFactWith (λ r. stands r kind number) caller kind number at)
         conn.old conn.new }
     ensures autocommit { LeavesAutocommit conn.old conn.new }
 {
@@ -115,7 +116,8 @@ fn unit_verdict<S: Alter>(
 ) -> Result<Verdict, ReadFault>
     requires has_tables { HasRegisterTables S.Store conn.old }
     ensures reads_only { ReadsTables S.Store result
-        (ReadsPart (λ r. verdict_given_sight (is_visible_by_pending r caller kinds.Unit unit) (has_pending_mutation_on r caller.party unit) caller
+        (ReadsPart (λ r. verdict_given_sight (is_visible_by_pending r caller kinds.Unit unit)
+        (has_pending_mutation_on r caller.party unit) caller
         kinds.Unit unit) at) conn.old conn.new }
     ensures autocommit { LeavesAutocommit conn.old conn.new }
 {

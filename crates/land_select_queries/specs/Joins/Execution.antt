@@ -24,7 +24,8 @@ AreAll numbers Wanted = (n : ℕ) → Contains numbers n ↔ Wanted n
 
 -- P holds of each history that the tables hold
 abbrev pub HoldsOfHistory : Trees → (History → Type 0) → Type 0
-HoldsOfHistory db P = (moments : List Moment) (history : History) → HoldsHistory db moments history → P history
+HoldsOfHistory db P = (moments : List Moment) (history : History) → HoldsHistory db moments history
+    → P history
 
 -- the rows that a selection returns for a caller at a time
 abbrev pub AreRowsOf : Selection → (t : ℤ) → (caller : ℕ) → Trees → List Row → Type 0
@@ -41,11 +42,13 @@ AreNumbersOfAny ss t caller db numbers = HoldsOfHistory db (λ h. AreAll numbers
 -- at least one of these selections returns the number for at least one of the callers
 abbrev pub AnySelectsFor : List Selection → (t : ℤ) → History → (callers : List ℕ) → (number : ℕ) → Type 0
 AnySelectsFor ss t h [] number = ⊥
-AnySelectsFor ss t h (caller ∷ callers) number = AnySelects ss t h caller number ⊎ AnySelectsFor ss t h callers number
+AnySelectsFor ss t h (caller ∷ callers) number = AnySelects ss t h caller number
+    ⊎ AnySelectsFor ss t h callers number
 
 -- the numbers that at least one of these selections returns at a time for at least one of the callers
 abbrev pub AreNumbersForAny : List Selection → (t : ℤ) → (callers : List ℕ) → Trees → List ℕ → Type 0
-AreNumbersForAny ss t callers db numbers = HoldsOfHistory db (λ h. AreAll numbers (AnySelectsFor ss t h callers))
+AreNumbersForAny ss t callers db numbers = HoldsOfHistory db
+    (λ h. AreAll numbers (AnySelectsFor ss t h callers))
 
 -- the fault `Unreadable` is returned only if the tables hold no history
 abbrev pub HoldsNoHistory : Trees → ReadFault → Type 0

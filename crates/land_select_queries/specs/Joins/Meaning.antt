@@ -38,7 +38,8 @@ pub record AreNumberRows (rows : List Row) (Wanted : ℕ → Type 0) : Type 0 wh
 pub record GivesNumbers (text : List ℕ) (indexes : List Index) (db : Trees) (caller : ℕ) (t : ℤ)
     (Wanted : ℕ → Type 0) : Type 0 where
   pub each : (rows : List Row) → Reads (command_in (understood (schema_v2_with indexes) text))
-      (record { schema = schema_v2_with indexes; trees = db }) (given caller t) rows → AreNumberRows rows Wanted
+      (record { schema = schema_v2_with indexes; trees = db }) (given caller t) rows
+      → AreNumberRows rows Wanted
   pub rows : List Row
   pub answer : Reads (command_in (understood (schema_v2_with indexes) text))
       (record { schema = schema_v2_with indexes; trees = db }) (given caller t) rows

@@ -11,13 +11,15 @@ use Rattle.sqlite_trees.specs.Tree.{Trees}
 -- If the tables hold a history that at time t represents a register without empty groups, the value is this
 -- part of that register.
 abbrev pub ReadsPart : {T : Type 0} → (Register → T) → (t : ℤ) → Trees → T → Type 0
-ReadsPart part t db it = HoldsOfHistory db (λ h. (r : Register) → HaveMembers r.members → IsRegisterAt t h r → it ≡ part r)
+ReadsPart part t db it = HoldsOfHistory db (λ h. (r : Register) → HaveMembers r.members → IsRegisterAt t h r
+    → it ≡ part r)
 
 -- If the tables hold a history that at time t represents a register, the list has the principals of a party
 -- in it, each once.
 abbrev pub ArePrincipalsOf : (agent : ℕ) → (t : ℤ) → Trees → List ℕ → Type 0
 ArePrincipalsOf agent t db numbers =
-    HoldsOfHistory db (λ h. (r : Register) → IsRegisterAt t h r → IsPermutation numbers (principals_of r agent))
+    HoldsOfHistory db (λ h. (r : Register) → IsRegisterAt t h r
+    → IsPermutation numbers (principals_of r agent))
 
 -- the list has the circle of a party in that register
 abbrev pub IsCircleOf : (party : ℕ) → (t : ℤ) → Trees → List ℕ → Type 0

@@ -101,11 +101,13 @@ CannotBeRead {X} said Are fault = fault ≡ Unreadable → (rows : List Row) × 
     × ((xs : List X) → each_of said rows ≢ Ok xs)
 
 -- the same two for the rows that a lookup returns for a number
-abbrev pub AreReadByLookup : {X : Type 0} → (Row → Result X WireFault) → RecordLookup → (number : ℕ) → (t : ℤ) → Trees
+abbrev pub AreReadByLookup : {X : Type 0} → (Row → Result X WireFault) → RecordLookup → (number : ℕ) → (t : ℤ)
+    → Trees
     → List X → Type 0
 AreReadByLookup said l number t db xs = AreReadFrom said (AreRowsOf l number t db) xs
 
-abbrev pub LookupCannotBeRead : {X : Type 0} → (Row → Result X WireFault) → RecordLookup → (number : ℕ) → (t : ℤ) → Trees
+abbrev pub LookupCannotBeRead : {X : Type 0} → (Row → Result X WireFault) → RecordLookup → (number : ℕ)
+    → (t : ℤ) → Trees
     → ReadFault → Type 0
 LookupCannotBeRead said l number t db fault = CannotBeRead said (AreRowsOf l number t db) fault
 

@@ -52,7 +52,8 @@ is_told_to_lodger party seen naming mutation =
 -- The number of pairs of an entry of the party and a right, a mortgage or a pending mutation that makes this
 -- entry visible: an upper bound of the number of viewers.
 abbrev pub count_ways : Relation → (t : ℤ) → History → (party : ℕ) → ℕ
-count_ways relation.Holding t h party = sum_by (λ seen. count_by (is_visible_to_holder party seen) (standing t h.rrrs))
+count_ways relation.Holding t h party = sum_by
+    (λ seen. count_by (is_visible_to_holder party seen) (standing t h.rrrs))
     (standing t h.rrrs)
 count_ways relation.Crediting t h party =
     sum_by (λ seen. count_by (is_visible_to_creditor party seen) (standing t h.rrrs)) (standing t h.rrrs)
@@ -62,11 +63,14 @@ count_ways relation.Awaiting t h party =
 
 -- These rows are the viewers, if they are at most sixteen; if there are more rows, there are more than
 -- sixteen pairs.
-pub record AreViewerRows (relation : Relation) (party : ℕ) (t : ℤ) (db : Trees) (rows : List Row) : Type 0 where
+pub record AreViewerRows (relation : Relation) (party : ℕ) (t : ℤ) (db : Trees)
+    (rows : List Row) : Type 0 where
   pub few : length rows ≤ 16 → HoldsOfHistory db (λ h. AreNumberRows rows (IsViewer relation t h party))
   pub many : 16 < length rows → HoldsOfHistory db (λ h. 16 < count_ways relation t h (known_or_zero party))
 
 -- These are the numbers of the viewers; `None` only if there are more than sixteen pairs.
 abbrev pub AreViewers : Relation → (party : ℕ) → (t : ℤ) → Trees → Option (List ℕ) → Type 0
-AreViewers relation party t db (Some viewers_of_party) = HoldsOfHistory db (λ h. AreAll viewers_of_party (IsViewer relation t h party))
-AreViewers relation party t db None = HoldsOfHistory db (λ h. 16 < count_ways relation t h (known_or_zero party))
+AreViewers relation party t db (Some viewers_of_party) = HoldsOfHistory db
+    (λ h. AreAll viewers_of_party (IsViewer relation t h party))
+AreViewers relation party t db None = HoldsOfHistory db
+    (λ h. 16 < count_ways relation t h (known_or_zero party))

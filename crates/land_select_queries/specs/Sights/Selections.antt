@@ -78,7 +78,8 @@ abbrev pub IsVisibleToCreditor : (caller : ℕ) → (seen : Entry) → Type 0
 IsVisibleToCreditor caller seen = (is_mortgage seen.1.class ≡ false) ⊎ (seen.1.party ≡ caller)
 
 -- an entry of a unit in which the caller has an interest, as far as that interest shows it
-pub record IsVisibleEntry (t : ℤ) (h : History) (Interest : Entry → Type 0) (Tells : (held seen : Entry) → Type 0)
+pub record IsVisibleEntry (t : ℤ) (h : History) (Interest : Entry → Type 0)
+    (Tells : (held seen : Entry) → Type 0)
     (seen : Entry) : Type 0 where
   pub held : Entry
   pub interest : Interest held
@@ -143,8 +144,10 @@ selects selection.HeldParties t h caller number =
     PartyOf (IsVisibleEntry t h (HoldsItself t h caller) IsVisibleToHolder) number
 selects selection.GroupParties t h caller number =
     PartyOf (IsVisibleEntry t h (HoldsThrough t h caller) IsVisibleToHolder) number
-selects selection.HeldMutations t h caller number = MutationOf (IsReferenceTo t h (HoldsItself t h caller)) number
-selects selection.GroupMutations t h caller number = MutationOf (IsReferenceTo t h (HoldsThrough t h caller)) number
+selects selection.HeldMutations t h caller number = MutationOf
+    (IsReferenceTo t h (HoldsItself t h caller)) number
+selects selection.GroupMutations t h caller number = MutationOf
+    (IsReferenceTo t h (HoldsThrough t h caller)) number
 selects selection.CreditUnits t h caller number = UnitOf (Credits t h caller) number
 selects selection.CreditEntries t h caller number =
     EntryOf (IsVisibleEntry t h (Credits t h caller) (λ held. IsVisibleToCreditor caller)) number

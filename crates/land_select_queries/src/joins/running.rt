@@ -98,7 +98,8 @@ fn collect_numbers<S: Alter>(
 ) -> Result<Vec<u64>, ReadFault>
     requires open { IsUsable S.Store conn.old }
     requires has_tables { HasRegisterTables S.Store conn.old }
-    ensures reads_only { ReadsTables S.Store result (λ db it. AreNumbersOfAny selections.now at caller db it.items)
+    ensures reads_only { ReadsTables S.Store result
+        (λ db it. AreNumbersOfAny selections.now at caller db it.items)
         conn.old conn.new }
     ensures unreadable { FailsOnlyWithoutHistory S.Store result conn.old conn.new }
     ensures autocommit { LeavesAutocommit conn.old conn.new }
@@ -157,7 +158,8 @@ pub fn run_union<S: Alter>(
     requires open { IsUsable S.Store conn.old }
     requires has_tables { HasRegisterTables S.Store conn.old }
     ensures ascending { IfOk result IsStrictlyIncreasing }
-    ensures reads_only { ReadsTables S.Store result (AreNumbersOfAny selections.now at caller) conn.old conn.new }
+    ensures reads_only { ReadsTables S.Store result (AreNumbersOfAny selections.now at caller) conn.old
+        conn.new }
     ensures unreadable { FailsOnlyWithoutHistory S.Store result conn.old conn.new }
     ensures autocommit { LeavesAutocommit conn.old conn.new }
 {

@@ -44,7 +44,8 @@ pub fn record<V: Numbered, S: Alter>(
 where
     Version<(u64, V)>: FromRow,
     requires has_tables { HasRegisterTables S.Store conn.old }
-    ensures reads_only { ReadsTables S.Store result (ReadsPart (λ r. map.get (V.part r) number) at) conn.old conn.new }
+    ensures reads_only { ReadsTables S.Store result (ReadsPart (λ r. map.get (V.part r) number) at) conn.old
+        conn.new }
     ensures unreadable { FailsOnlyWithoutHistory S.Store result conn.old conn.new }
     ensures autocommit { LeavesAutocommit conn.old conn.new }
 {

@@ -29,7 +29,8 @@ pub fn has_lodged<S: Alter>(
     at: i64,
 ) -> Result<bool, ReadFault>
     requires has_tables { HasRegisterTables S.Store conn.old }
-    ensures reads_only { ReadsTables S.Store result (ReadsPart (λ r. has_lodged r party number) at) conn.old conn.new }
+    ensures reads_only { ReadsTables S.Store result (ReadsPart (λ r. has_lodged r party number) at) conn.old
+        conn.new }
     ensures unreadable { FailsOnlyWithoutHistory S.Store result conn.old conn.new }
     ensures autocommit { LeavesAutocommit conn.old conn.new }
 {
@@ -47,7 +48,8 @@ pub fn has_pending_mutation_on<S: Alter>(
     at: i64,
 ) -> Result<bool, ReadFault>
     requires has_tables { HasRegisterTables S.Store conn.old }
-    ensures reads_only { ReadsTables S.Store result (ReadsPart (λ r. has_pending_mutation_on r party unit) at) conn.old conn.new }
+    ensures reads_only { ReadsTables S.Store result (ReadsPart (λ r. has_pending_mutation_on r party unit) at)
+        conn.old conn.new }
     ensures unreadable { FailsOnlyWithoutHistory S.Store result conn.old conn.new }
     ensures autocommit { LeavesAutocommit conn.old conn.new }
 {

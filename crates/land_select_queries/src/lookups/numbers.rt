@@ -19,7 +19,8 @@ fn rows_of<S: Alter>(
     at: i64,
 ) -> Result<Vec<Row>, Error>
     requires has_tables { HasRegisterTables S.Store conn.old }
-    ensures reads_only { ReadsTables S.Store result (λ db rows. AreColumnRows record_lookup number at db rows.items)
+    ensures reads_only { ReadsTables S.Store result
+        (λ db rows. AreColumnRows record_lookup number at db rows.items)
         conn.old conn.new }
     ensures autocommit { LeavesAutocommit conn.old conn.new }
 {
@@ -39,7 +40,8 @@ pub fn numbers<S: Alter>(
     at: i64,
 ) -> Result<NumberList, ReadFault>
     requires has_tables { HasRegisterTables S.Store conn.old }
-    ensures reads_only { ReadsTables S.Store result (AreColumnNumbers record_lookup number at) conn.old conn.new }
+    ensures reads_only { ReadsTables S.Store result (AreColumnNumbers record_lookup number at) conn.old
+        conn.new }
     ensures unreadable { FailsOnlyWithoutHistory S.Store result conn.old conn.new }
     ensures autocommit { LeavesAutocommit conn.old conn.new }
 {

@@ -32,7 +32,8 @@ fn party_with<S: Alter>(
 ) -> Result<Option<Object>, ReadFault>
     requires has_tables { HasRegisterTables S.Store conn.old }
     ensures reads_only { ReadsTables S.Store result
-        (ReadsPart (λ r. object_at (record r { parties = map.insert map.empty number found }) kinds.Party number)
+        (ReadsPart (λ r. object_at (record r { parties = map.insert map.empty number found }) kinds.Party
+        number)
         at) conn.old conn.new }
     ensures unreadable { FailsOnlyWithoutHistory S.Store result conn.old conn.new }
     ensures autocommit { LeavesAutocommit conn.old conn.new }
@@ -50,7 +51,8 @@ fn party<S: Alter>(
     at: i64,
 ) -> Result<Option<Object>, ReadFault>
     requires has_tables { HasRegisterTables S.Store conn.old }
-    ensures reads_only { ReadsTables S.Store result (ReadsPart (λ r. object_at r kinds.Party number) at) conn.old
+    ensures reads_only { ReadsTables S.Store result (ReadsPart (λ r. object_at r kinds.Party number) at)
+        conn.old
         conn.new }
     ensures unreadable { FailsOnlyWithoutHistory S.Store result conn.old conn.new }
     ensures autocommit { LeavesAutocommit conn.old conn.new }
@@ -72,7 +74,8 @@ fn shown<V: Shown, S: Alter>(
 where
     Version<(u64, V)>: FromRow,
     requires has_tables { HasRegisterTables S.Store conn.old }
-    ensures reads_only { ReadsTables S.Store result (ReadsPart (λ r. object_at r V.kind number) at) conn.old conn.new }
+    ensures reads_only { ReadsTables S.Store result (ReadsPart (λ r. object_at r V.kind number) at) conn.old
+        conn.new }
     ensures unreadable { FailsOnlyWithoutHistory S.Store result conn.old conn.new }
     ensures autocommit { LeavesAutocommit conn.old conn.new }
 {
@@ -90,7 +93,8 @@ pub fn object<S: Alter>(
     at: i64,
 ) -> Result<Option<Object>, ReadFault>
     requires has_tables { HasRegisterTables S.Store conn.old }
-    ensures reads_only { ReadsTables S.Store result (ReadsPart (λ r. object_at r kind number) at) conn.old conn.new }
+    ensures reads_only { ReadsTables S.Store result (ReadsPart (λ r. object_at r kind number) at) conn.old
+        conn.new }
     ensures unreadable { FailsOnlyWithoutHistory S.Store result conn.old conn.new }
     ensures autocommit { LeavesAutocommit conn.old conn.new }
 {

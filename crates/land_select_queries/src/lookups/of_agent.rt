@@ -25,7 +25,8 @@ pub fn mandates<S: Alter>(
 ) -> Result<Mandates, ReadFault>
     requires has_tables { HasRegisterTables S.Store conn.old }
     ensures reads_only { ReadsTables S.Store result
-        (ReadsPart (λ r. entries_where (λ mandate u. nat_eq mandate.agent agent) r.mandates) at) conn.old conn.new }
+        (ReadsPart (λ r. entries_where (λ mandate u. nat_eq mandate.agent agent) r.mandates) at) conn.old
+        conn.new }
     ensures unreadable { FailsOnlyWithoutHistory S.Store result conn.old conn.new }
     ensures autocommit { LeavesAutocommit conn.old conn.new }
 {

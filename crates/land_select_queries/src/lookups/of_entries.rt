@@ -54,7 +54,8 @@ fn rows_within<S: Alter>(
     at: i64,
 ) -> Result<Vec<Row>, Error>
     requires has_tables { HasRegisterTables S.Store conn.old }
-    ensures reads_only { ReadsTables S.Store result (λ db rows. ArePartyRows (of_range first last) at db rows.items)
+    ensures reads_only { ReadsTables S.Store result
+        (λ db rows. ArePartyRows (of_range first last) at db rows.items)
         conn.old conn.new }
     ensures autocommit { LeavesAutocommit conn.old conn.new }
 {

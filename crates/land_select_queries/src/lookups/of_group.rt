@@ -24,7 +24,8 @@ pub fn members<S: Alter>(
     at: i64,
 ) -> Result<Records<Members>, ReadFault>
     requires has_tables { HasRegisterTables S.Store conn.old }
-    ensures reads_only { ReadsTables S.Store result (ReadsPart (λ r. entries_where (λ n members. nat_eq n group) r.members) at)
+    ensures reads_only { ReadsTables S.Store result
+        (ReadsPart (λ r. entries_where (λ n members. nat_eq n group) r.members) at)
         conn.old conn.new }
     ensures unreadable { FailsOnlyWithoutHistory S.Store result conn.old conn.new }
     ensures autocommit { LeavesAutocommit conn.old conn.new }

@@ -5,7 +5,7 @@ ghost use Rattle.land_select_queries.specs.Lookups.Parts.{ReadsPart};
 ghost use Rattle.land_select_queries.specs.TableReads.{FailsOnlyWithoutHistory, ReadsTables};
 ghost use Rattle.land_tables_schema.specs.Connections.{HasRegisterTables, LeavesAutocommit};
 
-use crate::lookups::record_rows::{read, query_lodged};
+use crate::lookups::record_rows::{query_lodged, read};
 use land_core::mutation::MutationRecord;
 use land_core::records::Records;
 use land_core::sequence::Sequence;
@@ -26,7 +26,8 @@ pub fn find_lodged<S: Alter>(
 ) -> Result<Records<MutationRecord>, ReadFault>
     requires has_tables { HasRegisterTables S.Store conn.old }
     ensures reads_only { ReadsTables S.Store result
-        (ReadsPart (λ r. entries_where (λ n m. is_lodged_as lodger reference.now m) r.mutations) at) conn.old conn.new }
+        (ReadsPart (λ r. entries_where (λ n m. is_lodged_as lodger reference.now m) r.mutations) at) conn.old
+        conn.new }
     ensures unreadable { FailsOnlyWithoutHistory S.Store result conn.old conn.new }
     ensures autocommit { LeavesAutocommit conn.old conn.new }
 {

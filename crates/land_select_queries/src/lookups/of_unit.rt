@@ -24,7 +24,8 @@ pub fn parcels<S: Alter>(
     at: i64,
 ) -> Result<Records<ParcelRecord>, ReadFault>
     requires has_tables { HasRegisterTables S.Store conn.old }
-    ensures reads_only { ReadsTables S.Store result (ReadsPart (λ r. entries_where (λ n p. nat_eq p.unit unit) r.parcels) at)
+    ensures reads_only { ReadsTables S.Store result
+        (ReadsPart (λ r. entries_where (λ n p. nat_eq p.unit unit) r.parcels) at)
         conn.old conn.new }
     ensures unreadable { FailsOnlyWithoutHistory S.Store result conn.old conn.new }
     ensures autocommit { LeavesAutocommit conn.old conn.new }
@@ -42,7 +43,8 @@ pub fn entries<S: Alter>(
     at: i64,
 ) -> Result<Records<RrrRecord>, ReadFault>
     requires has_tables { HasRegisterTables S.Store conn.old }
-    ensures reads_only { ReadsTables S.Store result (ReadsPart (λ r. entries_where (λ n e. nat_eq e.unit unit) r.rrrs) at)
+    ensures reads_only { ReadsTables S.Store result
+        (ReadsPart (λ r. entries_where (λ n e. nat_eq e.unit unit) r.rrrs) at)
         conn.old conn.new }
     ensures unreadable { FailsOnlyWithoutHistory S.Store result conn.old conn.new }
     ensures autocommit { LeavesAutocommit conn.old conn.new }

@@ -23,7 +23,8 @@ pub fn administrators<S: Alter>(
 ) -> Result<Roles, ReadFault>
     requires has_tables { HasRegisterTables S.Store conn.old }
     ensures reads_only { ReadsTables S.Store result
-        (ReadsPart (λ r. entries_where (λ grant u. is_role grant.role StateAdministrator) r.roles) at) conn.old conn.new }
+        (ReadsPart (λ r. entries_where (λ grant u. is_role grant.role StateAdministrator) r.roles) at)
+        conn.old conn.new }
     ensures unreadable { FailsOnlyWithoutHistory S.Store result conn.old conn.new }
     ensures autocommit { LeavesAutocommit conn.old conn.new }
 {

@@ -26,7 +26,8 @@ fn rows_of<S: Alter>(
     at: i64,
 ) -> Result<Vec<Row>, Error>
     requires has_tables { HasRegisterTables S.Store conn.old }
-    ensures reads_only { ReadsTables S.Store result (λ db rows. AreRowsOf record_lookup number at db rows.items)
+    ensures reads_only { ReadsTables S.Store result
+        (λ db rows. AreRowsOf record_lookup number at db rows.items)
         conn.old
         conn.new }
     ensures autocommit { LeavesAutocommit conn.old conn.new }
@@ -76,7 +77,8 @@ pub fn find<X: FromRow, S: Alter>(
     at: i64,
 ) -> Result<Sequence<X>, ReadFault>
     requires has_tables { HasRegisterTables S.Store conn.old }
-    ensures reads_only { ReadsTables S.Store result (AreReadByLookup X.FromRow.said record_lookup number at) conn.old
+    ensures reads_only { ReadsTables S.Store result (AreReadByLookup X.FromRow.said record_lookup number at)
+        conn.old
         conn.new }
     ensures unreadable { HasCleanDisk (state S.Store conn.new)
         → IfErr result (LookupCannotBeRead X.FromRow.said record_lookup number at

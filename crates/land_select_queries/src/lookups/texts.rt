@@ -2,7 +2,8 @@
 //!
 //! Parameter 1 is the number and parameter 2 the time in Unix milliseconds. Parameter 3 is the reference, if
 //! there is one; for a range, parameter 1 is the first number and parameter 3 the last. A row is valid if the
-//! time is not before its `since` and is before its `until`. A statement with a `MAX_COORDINATE` returns only some of
+//! time is not before its `since` and is before its `until`. A statement with a `MAX_COORDINATE` returns only
+//! some of
 //! the rows that it would return without.
 
 /// The party of a number.

@@ -51,7 +51,8 @@ fn rows_of<S: Alter>(
     at: i64,
 ) -> Result<Vec<Row>, Error>
     requires has_tables { HasRegisterTables S.Store conn.old }
-    ensures reads_only { ReadsTables S.Store result (λ db rows. AreRowsWithin kind first last at db rows.items)
+    ensures reads_only { ReadsTables S.Store result
+        (λ db rows. AreRowsWithin kind first last at db rows.items)
         conn.old conn.new }
     ensures autocommit { LeavesAutocommit conn.old conn.new }
 {
@@ -78,7 +79,8 @@ where
     Version<(u64, V)>: FromRow,
     requires has_tables { HasRegisterTables S.Store conn.old }
     ensures reads_only { ReadsTables S.Store result
-        (λ db it. AreReadFrom ⟦<Version<(u64, V)> as FromRow>⟧.said (AreRowsWithin V.KIND first last at db) it)
+        (λ db it. AreReadFrom ⟦<Version<(u64, V)> as FromRow>⟧.said
+        (AreRowsWithin V.KIND first last at db) it)
         conn.old conn.new }
     ensures unreadable { HasCleanDisk (state S.Store conn.new)
         → IfErr result (CannotBeRead ⟦<Version<(u64, V)> as FromRow>⟧.said

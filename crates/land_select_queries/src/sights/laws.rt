@@ -1,5 +1,6 @@
 //! Laws, each stated on definitions only.
-ghost use Rattle.land_select_queries.specs.Sights.Laws.{AscendingListsAreOne, OutOfRangeSeeAlike, SelectedIsSeen};
+ghost use Rattle.land_select_queries.specs.Sights.Laws.{AscendingListsAreOne, OutOfRangeSeeAlike};
+ghost use Rattle.land_select_queries.specs.Sights.Laws.{SelectedIsSeen};
 ghost use Rattle.land_select_queries.specs.Sights.Laws.{SelectionsAreTheRules, UnreferencedSeeLeast};
 
 use land_core::laws::soundness_by_number;

@@ -26,7 +26,8 @@ IsNextRow r k (number ∷ numbers) None = ⊥
 IsNextRow r k (number ∷ numbers) (Some row) = named_object_at r k number ≡ Some row
 
 -- a row removes the first remaining number; the end or a fault removes all of them
-abbrev pub LeavesNumbers : (before : List ℕ) → Result (Option NamedObject) StoreFault → (after : List ℕ) → Type 0
+abbrev pub LeavesNumbers : (before : List ℕ) → Result (Option NamedObject) StoreFault → (after : List ℕ)
+    → Type 0
 LeavesNumbers [] (Ok None) after = after ≡ []
 LeavesNumbers [] (Ok (Some row)) after = ⊥
 LeavesNumbers [] (Err fault) after = ⊥

@@ -35,7 +35,8 @@ IsListReply r = (numbers : List ℕ) × (r ≡ reply.Numbers numbers)
 abbrev pub IsExtracted : (list : Reply) → (extract : List ℕ) → (old new : Option (List ℕ))
     → Result ℕ ExtractFault → Type 0
 IsExtracted list extract old new (Ok written) = IsListReply list × WritesAll extract 0 written old new
-IsExtracted list extract old new (Err (Write written)) = IsListReply list × WritesPrefix extract 0 written old new
+IsExtracted list extract old new (Err (Write written)) = IsListReply list
+    × WritesPrefix extract 0 written old new
 IsExtracted list extract old new (Err (Store fault written)) =
     (IsListReply list ⊎ (written ≡ 0)) × WritesPrefix extract 0 written old new
 IsExtracted list extract old new (Err (Denied rule)) = (list ≡ reply.Denied rule) × Appends old new []

@@ -92,7 +92,8 @@ fn write_rows<W: Write>(
     writer: &mut W,
     before: u64,
 ) -> Result<u64, ExtractFault>
-    ensures put { WritesText (rows_of rows.now) before (W.contents writer.old) (W.contents writer.new) result }
+    ensures put { WritesText (rows_of rows.now) before (W.contents writer.old)
+        (W.contents writer.new) result }
     ensures closes { Closes false false (store_result result) }
 {
     match csv_rows(alloc, rows) {

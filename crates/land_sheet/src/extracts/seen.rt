@@ -80,7 +80,8 @@ impl<'a, K: Keeper> Seen<'a, K> {
             → AllExist (keeper_register K.Keeper self.old.keeper.now self.old.at) self.old.kind
             (remaining_numbers self.old)
             → IfOk result
-            (IsNextRow (keeper_register K.Keeper self.old.keeper.now self.old.at) self.old.kind (remaining_numbers self.old)) }
+            (IsNextRow (keeper_register K.Keeper self.old.keeper.now self.old.at) self.old.kind
+            (remaining_numbers self.old)) }
         ensures leaves { LeavesNumbers (remaining_numbers self.old) result (remaining_numbers self.new) }
         ensures asked { (self.new.kind ≡ self.old.kind) × (self.new.at ≡ self.old.at) }
         ensures was { WasHonest K.Keeper self.old.keeper.now self.new.keeper.now }

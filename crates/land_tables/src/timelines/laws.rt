@@ -1,5 +1,6 @@
 //! Laws, each over the definitions only.
-ghost use Rattle.land_tables.specs.Timelines.Laws.{LastMomentIsTheLastStamp, ValidHistoriesRepresentTimelines};
+ghost use Rattle.land_tables.specs.Timelines.Laws.{LastMomentIsTheLastStamp};
+ghost use Rattle.land_tables.specs.Timelines.Laws.{ValidHistoriesRepresentTimelines};
 ghost use Rattle.land_tables.specs.Timelines.Laws.{OrderDoesNotMatter, ReadingIsTheRegister};
 ghost use Rattle.land_tables.specs.Timelines.Laws.{HistoriesRepresentOneTimeline};
 

@@ -9,11 +9,13 @@ is_at first second t x = (x.first == first) && (x.second == second) && int_le x.
 
 -- some span provides the key at a moment
 abbrev pub is_provided : List CoverageSpan → (first second : ℕ) → (t : ℤ) → Bool
-is_provided coverage_spans first second t = list_any (λ x. not x.required && is_at first second t x) coverage_spans
+is_provided coverage_spans first second t = list_any (λ x. not x.required && is_at first second t x)
+    coverage_spans
 
 -- some span requires the key at a moment
 abbrev pub is_required : List CoverageSpan → (first second : ℕ) → (t : ℤ) → Bool
-is_required coverage_spans first second t = list_any (λ x. x.required && is_at first second t x) coverage_spans
+is_required coverage_spans first second t = list_any (λ x. x.required && is_at first second t x)
+    coverage_spans
 
 -- each key is provided at each moment at which it is required
 abbrev pub IsCovered : List CoverageSpan → Type 0

@@ -2,7 +2,8 @@
 ghost use Rattle.std.specs.List.{list_all};
 ghost use Rattle.std.specs.Prelude.{◌≡◌, ◌↔◌, true, None, int_lt};
 ghost use Rattle.land_tables_history.specs.Sweeps.Cover.{IsCovered};
-ghost use Rattle.land_tables_history.specs.Sweeps.CoverSteps.{required, first_reach, covered_from, is_same_key};
+ghost use Rattle.land_tables_history.specs.Sweeps.CoverSteps.{required, first_reach, covered_from};
+ghost use Rattle.land_tables_history.specs.Sweeps.CoverSteps.{is_same_key};
 ghost use Rattle.land_tables_history.specs.Sweeps.CoverSteps.{later, provided, step};
 
 /// A span of time in which a key is provided or required. The order of the fields is the order of the sweep.

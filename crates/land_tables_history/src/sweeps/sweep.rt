@@ -48,7 +48,10 @@ pub trait SweepItem: Copy + Ord {
 /// Returns whether the values that are current together under each key are sound, at each moment. Sorts them,
 /// and checks them only at starts and ends, each time only the values that are current then. Returns an error
 /// only if it is out of memory.
-pub fn are_sound<T: SweepItem>(alloc: Global, live_spans: &mut Vec<LiveSpan<T>>) -> Result<bool, AllocError>
+pub fn are_sound<T: SweepItem>(
+    alloc: Global,
+    live_spans: &mut Vec<LiveSpan<T>>,
+) -> Result<bool, AllocError>
     ensures { IfOk result (λ it. (it ≡ true) ↔ AreSound T.SweepItem.is_sound live_spans.old.items) }
 {
     let mut ticks = all_ticks(alloc, live_spans.as_slice())?;

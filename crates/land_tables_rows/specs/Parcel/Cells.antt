@@ -39,7 +39,8 @@ pub record FitsParcel (c : ParcelCells) : Type 0 where
 
 -- its numbers and its label are within their limits
 abbrev pub fits_parcel : ℕ × ParcelRecord → Bool
-fits_parcel e = is_number e.0 && (is_number e.1.unit && (is_storable is_label e.1.label && is_number e.1.source))
+fits_parcel e = is_number e.0
+    && (is_number e.1.unit && (is_storable is_label e.1.label && is_number e.1.source))
 
 -- its outline is a valid ring
 abbrev pub IsExactParcel : ParcelRecord → Type 0

@@ -61,7 +61,8 @@ fits_sources_and_mutations change =
 -- a change can be written if its records, its ended keys and its next number can
 abbrev pub fits_change : Change → Bool
 fits_change change =
-    fits_parties_and_roles change && (fits_units_and_entries change && (fits_sources_and_mutations change && is_next change.next))
+    fits_parties_and_roles change
+    && (fits_units_and_entries change && (fits_sources_and_mutations change && is_next change.next))
 
 -- ---- lists
 

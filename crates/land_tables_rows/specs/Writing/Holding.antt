@@ -47,7 +47,8 @@ HoldsNumbered table said db xs =
 pub record HoldsOneMore {X : Type 0} (table : Table) (said : Row → Result X WireFault) (x : X)
     (old new : Database) : Type 0 where
   pub schema : new.schema ≡ old.schema
-  pub told : (xs : List X) → HoldsNumbered table said old.trees xs → HoldsNumbered table said new.trees (x ∷ xs)
+  pub told : (xs : List X) → HoldsNumbered table said old.trees xs
+      → HoldsNumbered table said new.trees (x ∷ xs)
   pub kept : KeepsOthers table old.trees new.trees
 
 -- a moment: Unix time in milliseconds, from 1970 to the end of 2099

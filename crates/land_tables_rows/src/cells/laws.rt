@@ -1,6 +1,8 @@
 //! Laws, each over the definitions only.
-ghost use Rattle.land_tables_rows.specs.Cells.Laws.{MutationCellsDecode, MutationsReadBack, ParcelCellsDecode};
-ghost use Rattle.land_tables_rows.specs.Cells.Laws.{ParcelsReadBack, RrrCellsDecode, RrrsReadBack, WordsAreRead};
+ghost use Rattle.land_tables_rows.specs.Cells.Laws.{MutationCellsDecode, MutationsReadBack};
+ghost use Rattle.land_tables_rows.specs.Cells.Laws.{ParcelCellsDecode};
+ghost use Rattle.land_tables_rows.specs.Cells.Laws.{ParcelsReadBack, RrrCellsDecode, RrrsReadBack};
+ghost use Rattle.land_tables_rows.specs.Cells.Laws.{WordsAreRead};
 
 /// States that the words of kinds, roles and states decode to their values.
 pub fn words_are_read()

@@ -2,16 +2,17 @@
 ghost use Rattle.std.specs.Prelude.{◌≡◌, IsTrue};
 ghost use Rattle.land_tables_history.specs.Changed.{changed};
 ghost use Rattle.land_tables_rows.specs.Effects.{Performs};
-ghost use Rattle.land_tables_rows.specs.Recording.Whole.{RewritesTables, WritesChange, fits_change, fits_units_and_entries};
+ghost use Rattle.land_tables_rows.specs.Recording.Whole.{RewritesTables, WritesChange, fits_change};
+ghost use Rattle.land_tables_rows.specs.Recording.Whole.{fits_units_and_entries};
 ghost use Rattle.land_tables_rows.specs.Recording.Whole.{fits_sources_and_mutations, fits_parties_and_roles};
 ghost use Rattle.land_tables_rows.specs.Writing.Holding.{IsMoment};
 ghost use Rattle.land_tables_schema.specs.Connections.{HasRegisterTables, SameReference};
 
-use crate::moment::writing;
-use crate::change_writing::units_and_entries::write_units_and_entries;
 use crate::change_writing::kinds::{fit_kind, groups_fit};
-use crate::change_writing::sources_and_mutations::write_sources_and_mutations;
 use crate::change_writing::parties_and_roles::write_parties_and_roles;
+use crate::change_writing::sources_and_mutations::write_sources_and_mutations;
+use crate::change_writing::units_and_entries::write_units_and_entries;
+use crate::moment::writing;
 use crate::writing::laws::table_changes_keep_history;
 use land_core::change::Change;
 use sqlite::{Alter, Error, Transaction};
@@ -22,7 +23,10 @@ use std::alloc::Global;
 pub fn fits(change: &Change) -> bool
     ensures { result ≡ fits_change change.now }
 {
-    parties_and_roles_fit(change) && units_and_entries_fit(change) && sources_and_mutations_fit(change) && writing::fits(change.next)
+    parties_and_roles_fit(change)
+        && units_and_entries_fit(change)
+        && sources_and_mutations_fit(change)
+        && writing::fits(change.next)
 }
 
 /// Whether the parties, roles, members and mandates of a change can be written.

@@ -13,7 +13,7 @@ ghost use Rattle.land_tables_rows.specs.Recording.Whole.{fits_group, fits_kind};
 ghost use Rattle.land_tables_rows.specs.Writing.Holding.{IsMoment};
 ghost use Rattle.land_tables_schema.specs.Connections.{HasRegisterTables, SameReference};
 
-use crate::change_writing::all::{begin_all, change, close_all, close_put, all_fit, all_keys_fit};
+use crate::change_writing::all::{all_fit, all_keys_fit, begin_all, change, close_all, close_put};
 use crate::change_writing::lists::{list_members, list_names};
 use crate::change_writing::versioned::{Closable, HasKey};
 use land_core::limits::is_number;

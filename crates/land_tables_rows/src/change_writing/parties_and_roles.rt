@@ -1,7 +1,8 @@
 //! Writes parties, their roles, the members of groups, and mandates.
 ghost use Rattle.std.specs.Prelude.{IsTrue};
 ghost use Rattle.land_tables_rows.specs.Effects.{Performs};
-ghost use Rattle.land_tables_rows.specs.Recording.Whole.{RewritesTables, changed_parties_and_roles, fits_parties_and_roles};
+ghost use Rattle.land_tables_rows.specs.Recording.Whole.{RewritesTables, changed_parties_and_roles};
+ghost use Rattle.land_tables_rows.specs.Recording.Whole.{fits_parties_and_roles};
 ghost use Rattle.land_tables_rows.specs.Writing.Holding.{IsMoment};
 ghost use Rattle.land_tables_schema.specs.Connections.{HasRegisterTables, SameReference};
 
@@ -22,7 +23,8 @@ pub(crate) fn write_parties_and_roles<S: Alter>(
     requires moment { IsMoment stamp }
     requires has_tables { HasRegisterTables S.Store tx.old.conn.now }
     ensures same_reference { SameReference tx.old tx.new }
-    ensures step { Performs S.Store result (RewritesTables (changed_parties_and_roles change.now stamp)) tx.old tx.new }
+    ensures step { Performs S.Store result (RewritesTables (changed_parties_and_roles change.now stamp))
+        tx.old tx.new }
 {
     table_changes_keep_history();
     change_kind(alloc, tx, &change.put.parties, &change.ended.parties, stamp)?;

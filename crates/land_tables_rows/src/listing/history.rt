@@ -45,7 +45,10 @@ struct SourceVersions {
     namings: Sequence<Version<Naming>>,
 }
 
-fn read_parties_and_roles<S: Alter>(alloc: Global, conn: &mut Connection<S>) -> Result<PartyVersions, ReadFault>
+fn read_parties_and_roles<S: Alter>(
+    alloc: Global,
+    conn: &mut Connection<S>,
+) -> Result<PartyVersions, ReadFault>
     requires { HasV1Tables S.Store conn.old }
     ensures reads_only { ReadsTables S.Store result DecodesParties conn.old conn.new }
     ensures unreadable { FailsOnlyIfNone S.Store result DecodesParties conn.old conn.new }
@@ -61,7 +64,10 @@ fn read_parties_and_roles<S: Alter>(alloc: Global, conn: &mut Connection<S>) -> 
     })
 }
 
-fn read_units_and_entries<S: Alter>(alloc: Global, conn: &mut Connection<S>) -> Result<UnitVersions, ReadFault>
+fn read_units_and_entries<S: Alter>(
+    alloc: Global,
+    conn: &mut Connection<S>,
+) -> Result<UnitVersions, ReadFault>
     requires { HasV1Tables S.Store conn.old }
     ensures reads_only { ReadsTables S.Store result DecodesUnits conn.old conn.new }
     ensures unreadable { FailsOnlyIfNone S.Store result DecodesUnits conn.old conn.new }
@@ -77,7 +83,10 @@ fn read_units_and_entries<S: Alter>(alloc: Global, conn: &mut Connection<S>) -> 
     })
 }
 
-fn read_sources_and_mutations<S: Alter>(alloc: Global, conn: &mut Connection<S>) -> Result<SourceVersions, ReadFault>
+fn read_sources_and_mutations<S: Alter>(
+    alloc: Global,
+    conn: &mut Connection<S>,
+) -> Result<SourceVersions, ReadFault>
     requires { HasV1Tables S.Store conn.old }
     ensures reads_only { ReadsTables S.Store result DecodesSources conn.old conn.new }
     ensures unreadable { FailsOnlyIfNone S.Store result DecodesSources conn.old conn.new }

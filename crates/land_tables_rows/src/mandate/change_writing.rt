@@ -4,8 +4,8 @@ ghost use Rattle.land_core.specs.declared.mandates.Mandate.{Mandate};
 ghost use Rattle.land_tables_history.specs.Intervals.{is_same_mandate};
 ghost use Rattle.land_tables_rows.specs.Mandate.Writing.{fits_mandate, mandates};
 
-use crate::mandate::writing;
 use crate::change_writing::versioned::{Closable, HasKey, Versioned};
+use crate::mandate::writing;
 use land_core::mandates::Mandate;
 use sqlite::{Alter, Error, Transaction};
 use std::alloc::Global;

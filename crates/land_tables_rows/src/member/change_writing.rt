@@ -4,8 +4,8 @@ ghost use Rattle.land_core.specs.Numbers.{is_number};
 ghost use Rattle.land_tables_history.specs.declared.group_member.GroupMember.{GroupMember};
 ghost use Rattle.land_tables_rows.specs.Member.Writing.{fits_member, members};
 
-use crate::member::writing;
 use crate::change_writing::versioned::{Closable, Versioned};
+use crate::member::writing;
 use land_core::limits::is_number;
 use land_tables_history::group_member::GroupMember;
 use sqlite::{Alter, Error, Transaction};

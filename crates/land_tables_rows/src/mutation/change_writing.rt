@@ -5,8 +5,8 @@ ghost use Rattle.land_core.specs.declared.mutation.MutationRecord.{MutationRecor
 ghost use Rattle.land_tables_rows.specs.Mutation.Cells.{fits_mutation};
 ghost use Rattle.land_tables_rows.specs.Mutation.Writing.{mutations};
 
-use crate::mutation::writing;
 use crate::change_writing::versioned::{Closable, Versioned};
+use crate::mutation::writing;
 use land_core::limits::is_number;
 use land_core::mutation::MutationRecord;
 use sqlite::{Alter, Error, Transaction};

@@ -3,8 +3,8 @@ ghost use Rattle.std.specs.Prelude.{◌≡◌, IsTrue};
 ghost use Rattle.land_tables_history.specs.declared.naming.Naming.{Naming};
 ghost use Rattle.land_tables_rows.specs.Naming.Writing.{fits_naming, namings};
 
-use crate::naming::writing;
 use crate::change_writing::versioned::Versioned;
+use crate::naming::writing;
 use land_tables_history::naming::Naming;
 use sqlite::{Alter, Error, Transaction};
 use std::alloc::Global;

@@ -5,8 +5,8 @@ ghost use Rattle.land_core.specs.declared.parcel.ParcelRecord.{ParcelRecord};
 ghost use Rattle.land_tables_rows.specs.Parcel.Cells.{fits_parcel};
 ghost use Rattle.land_tables_rows.specs.Parcel.Writing.{parcels};
 
-use crate::parcel::writing;
 use crate::change_writing::versioned::{Closable, Versioned};
+use crate::parcel::writing;
 use land_core::limits::is_number;
 use land_core::parcel::ParcelRecord;
 use sqlite::{Alter, Error, Transaction};

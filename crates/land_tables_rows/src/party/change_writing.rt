@@ -4,8 +4,8 @@ ghost use Rattle.land_core.specs.Numbers.{is_number};
 ghost use Rattle.land_core.specs.declared.party.PartyRecord.{PartyRecord};
 ghost use Rattle.land_tables_rows.specs.Party.Writing.{fits_party, parties};
 
-use crate::party::writing;
 use crate::change_writing::versioned::{Closable, Versioned};
+use crate::party::writing;
 use land_core::limits::is_number;
 use land_core::party::PartyRecord;
 use sqlite::{Alter, Error, Transaction};

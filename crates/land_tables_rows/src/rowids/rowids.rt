@@ -1,6 +1,7 @@
 //! Checks that the rows of each table of versions have unique rowids.
 ghost use Rattle.land_tables_rows.specs.Effects.{ReadsTables};
-ghost use Rattle.land_tables_rows.specs.Rowids.{HaveUniqueRowidsV1, UnitsHaveUniqueRowids, HasUniqueRowids, SourcesHaveUniqueRowids};
+ghost use Rattle.land_tables_rows.specs.Rowids.{HaveUniqueRowidsV1, UnitsHaveUniqueRowids, HasUniqueRowids};
+ghost use Rattle.land_tables_rows.specs.Rowids.{SourcesHaveUniqueRowids};
 ghost use Rattle.land_tables_rows.specs.Rowids.{PartiesHaveUniqueRowids};
 ghost use Rattle.land_tables_schema.specs.Connections.{HasRegisterTables, HasV1Tables, LeavesAutocommit};
 ghost use Rattle.land_tables_schema.specs.Tables as table;
@@ -26,7 +27,8 @@ use std::alloc::Global;
 /// Checks that the rows of a table have unique rowids.
 fn check_table<S: Alter, X: Keyed>(alloc: Global, conn: &mut Connection<S>) -> Result<(), Error>
     requires { HasCleanDisk (state S.Store conn.old) → X.has (state S.Store conn.old).now.schema }
-    ensures reads_only { ReadsTables S.Store result (λ db _. HasUniqueRowids X.listing.table db) conn.old conn.new }
+    ensures reads_only { ReadsTables S.Store result (λ db _. HasUniqueRowids X.listing.table db) conn.old
+        conn.new }
     ensures autocommit { LeavesAutocommit conn.old conn.new }
 {
     let rows = X::rowids(conn)?;
@@ -69,7 +71,10 @@ fn sources_and_mutations<S: Alter>(alloc: Global, conn: &mut Connection<S>) -> R
 /// Checks that the rows of all tables of schema version 1 that hold versions have unique rowids. Errors:
 /// `Store` (502) if they do not, since the file is then corrupted, or if a read fails; `NoMemory` (501). A
 /// store that is still open is unchanged.
-pub fn check_unique_rowids_v1<S: Alter>(alloc: Global, conn: &mut Connection<S>) -> Result<(), Error>
+pub fn check_unique_rowids_v1<S: Alter>(
+    alloc: Global,
+    conn: &mut Connection<S>,
+) -> Result<(), Error>
     requires { HasV1Tables S.Store conn.old }
     ensures reads_only { ReadsTables S.Store result (λ db _. HaveUniqueRowidsV1 db) conn.old conn.new }
     ensures autocommit { LeavesAutocommit conn.old conn.new }
@@ -80,9 +85,13 @@ pub fn check_unique_rowids_v1<S: Alter>(alloc: Global, conn: &mut Connection<S>)
 }
 
 /// Checks the table of mandates likewise.
-pub fn check_mandates_unique_rowids<S: Alter>(alloc: Global, conn: &mut Connection<S>) -> Result<(), Error>
+pub fn check_mandates_unique_rowids<S: Alter>(
+    alloc: Global,
+    conn: &mut Connection<S>,
+) -> Result<(), Error>
     requires { HasRegisterTables S.Store conn.old }
-    ensures reads_only { ReadsTables S.Store result (λ db _. HasUniqueRowids table.mandate db) conn.old conn.new }
+    ensures reads_only { ReadsTables S.Store result (λ db _. HasUniqueRowids table.mandate db) conn.old
+        conn.new }
     ensures autocommit { LeavesAutocommit conn.old conn.new }
 {
     check_table::<S, Version<Mandate>>(alloc, conn)

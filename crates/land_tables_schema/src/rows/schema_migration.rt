@@ -2,7 +2,8 @@
 ghost use Rattle.std.specs.Prelude.{◌≡◌, false, IsTrue, OnErr, OnOk};
 ghost use Rattle.land_tables_schema.specs.Connections.{HasRegisterTables, InTransaction, SameReference};
 ghost use Rattle.land_tables_schema.specs.Schemas.{IsSchemaV1, IsMigratable};
-ghost use Rattle.land_tables_schema.specs.Rows.SchemaMigration.{DropsLookupIndexes, CreatesLookupIndexes, CreatesMandateTable, MayMigrate};
+ghost use Rattle.land_tables_schema.specs.Rows.SchemaMigration.{DropsLookupIndexes, CreatesLookupIndexes};
+ghost use Rattle.land_tables_schema.specs.Rows.SchemaMigration.{CreatesMandateTable, MayMigrate};
 ghost use Rattle.land_tables_schema.specs.Rows.SchemaMigration.{Migrates};
 ghost use Rattle.land_tables_schema.specs.Tables as table;
 ghost use Rattle.sqlite.specs.Held.{state};

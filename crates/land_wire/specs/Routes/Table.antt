@@ -2,7 +2,8 @@
 use Rattle.std.specs.Borrow.{Bor}
 use Rattle.std.specs.Prelude.{◌≡◌, ℕ, ◌<◌, ◌+◌, ◌&&◌, Bool, true, false, List, [], ◌∷◌, codes, drop, length}
 use Rattle.std.specs.Prelude.{Option, Some, None, is_none, Result, Ok, Err}
-use Rattle.land_wire.specs.Routes.{Resource, before_slash, list, list_path, resource_of_act, route_of, sheet, view}
+use Rattle.land_wire.specs.Routes.{Resource, before_slash, list, list_path, resource_of_act, route_of, sheet}
+use Rattle.land_wire.specs.Routes.{view}
 use Rattle.land_wire.specs.declared.routes.table.Endpoint.{Endpoint}
 use Rattle.land_wire.specs.declared.routes.table.Endpoint.TheVariants as to
 use Rattle.matchit.specs.Order.{placed}
@@ -37,7 +38,8 @@ has_no_conflict rows text = has_no_conflict_scan rows (parse_route text)
 -- each entry has no conflict with those before it
 abbrev pub have_no_conflicts : Routes → List (Bor (List ℕ) × Endpoint) → Bool
 have_no_conflicts rows [] = true
-have_no_conflicts rows (entry ∷ rest) = has_no_conflict rows entry.0.now && have_no_conflicts (with_entry rows entry) rest
+have_no_conflicts rows (entry ∷ rest) = has_no_conflict rows entry.0.now
+    && have_no_conflicts (with_entry rows entry) rest
 
 -- the resource of an endpoint at a path: the segment of a view follows the word of its kind and a `/`, that
 -- of a sheet lies between `/units/` and the next `/`, and the word of an act follows `/acts/`
@@ -59,4 +61,5 @@ AreBytes (b ∷ bytes) = (b < 256) × AreBytes bytes
 
 -- the router finds for each path its resource, and nothing if the path has none
 abbrev pub RoutesCorrectly : Routes → Type 0
-RoutesCorrectly rows = (path : List ℕ) → AreBytes path → resource_of_match path (first rows path) ≡ route_of path
+RoutesCorrectly rows = (path : List ℕ) → AreBytes path → resource_of_match path (first rows path)
+    ≡ route_of path

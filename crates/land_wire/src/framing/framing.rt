@@ -23,9 +23,14 @@ const MAX_LENGTH_DIGITS: usize = 18;
 /// Errors, the first one of: 140 `Head` if the head has more than 64 fields; 143 `Encoding` if it has a
 /// `Transfer-Encoding`; 140 `Head` if `Content-Length` is repeated or is not 1 to 18 digits; 142 `BodyLong`
 /// if it is more than 1_048_576.
-pub fn body_length_of(spans: &RequestSpans, head: &[u8], headers: &[HeaderSpan]) -> Result<usize, FrameFault>
+pub fn body_length_of(
+    spans: &RequestSpans,
+    head: &[u8],
+    headers: &[HeaderSpan],
+) -> Result<usize, FrameFault>
     requires { IsRequestWithin head.now headers.now spans.now }
-    ensures value { (h : RequestHead) → IsRequestAt head.now headers.now spans.now h → result ≡ body_length_of h }
+    ensures value { (h : RequestHead) → IsRequestAt head.now headers.now spans.now h
+        → result ≡ body_length_of h }
     ensures bound { IfOk result (λ n. n ≤ body_limit) }
 {
     if spans.headers > MAX_FIELDS {

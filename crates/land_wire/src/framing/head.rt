@@ -4,7 +4,8 @@ ghost use Rattle.std.specs.Io.KnownBytes.{IsAtEnd, prepend_known};
 ghost use Rattle.httparse.specs.Grammar.{RequestHead};
 ghost use Rattle.land_wire.specs.Framing.Reads.{FailsOnlyIfCalled, IsOutOfMemoryOnlyIfFull, LosesNoByte};
 ghost use Rattle.land_wire.specs.Framing.Reads.{ReadsChunks};
-ghost use Rattle.land_wire.specs.Framing.Stream.{HasHead, IsHeadFaultOf, IsHeadIn, LastReadWasNeeded, IsHeadParse};
+ghost use Rattle.land_wire.specs.Framing.Stream.{HasHead, IsHeadFaultOf, IsHeadIn, LastReadWasNeeded};
+ghost use Rattle.land_wire.specs.Framing.Stream.{IsHeadParse};
 ghost use Rattle.land_wire.specs.Framing.Stream.{field_room, max_head_length};
 
 use crate::framing::frame_fault::FrameFault;

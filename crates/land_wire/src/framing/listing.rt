@@ -44,7 +44,9 @@ pub fn next_item_of(bytes: &[u8], headers: &mut [HeaderSpan]) -> NextItem
         HeadParse::Whole(spans) => spans,
         HeadParse::Never => return NextItem::Fault(FrameFault::Head),
         HeadParse::More if bytes.is_empty() => return NextItem::End,
-        HeadParse::More if bytes.len() >= HEAD_LIMIT => return NextItem::Fault(FrameFault::HeadLong),
+        HeadParse::More if bytes.len() >= HEAD_LIMIT => return NextItem::Fault(
+            FrameFault::HeadLong,
+        ),
         HeadParse::More => return NextItem::Fault(FrameFault::Cut),
     };
     match body_length_of(&spans, bytes, headers) {

@@ -1,7 +1,8 @@
 //! The route table.
 ghost use Rattle.std.specs.Prelude.{◌≡◌, [], IfOk, OnOk, true};
 ghost use Rattle.std.specs.List.{fold};
-ghost use Rattle.land_wire.specs.Routes.Table.{RoutesCorrectly, have_no_conflicts, has_no_conflict, with_entry, with_route};
+ghost use Rattle.land_wire.specs.Routes.Table.{RoutesCorrectly, have_no_conflicts, has_no_conflict};
+ghost use Rattle.land_wire.specs.Routes.Table.{with_entry, with_route};
 
 use land_core::kind::Kind;
 use matchit::{InsertError, Router};

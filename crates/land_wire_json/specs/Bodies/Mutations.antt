@@ -14,7 +14,8 @@ use Rattle.land_core.specs.declared.content.Transfer.{Transfer}
 use Rattle.land_core.specs.declared.merger.Merger.{Merger}
 use Rattle.land_core.specs.declared.subdivision.Part.{Part}
 use Rattle.land_core.specs.declared.subdivision.Subdivision.{Subdivision}
-use Rattle.land_wire_json.specs.Bodies.Fields.{text_value, object_with, field_at, require_text, require_text_at}
+use Rattle.land_wire_json.specs.Bodies.Fields.{text_value, object_with, field_at, require_text}
+use Rattle.land_wire_json.specs.Bodies.Fields.{require_text_at}
 use Rattle.land_wire_json.specs.Bodies.Fields.{number_in, number_at, require_number, items_at, each_of}
 use Rattle.land_wire_json.specs.Bodies.Outlines.{outline_in}
 use Rattle.land_wire_json.specs.Bodies.Shares.{share_at}
@@ -48,7 +49,8 @@ subdivision_fields = codes "unit" ∷ codes "parcel" ∷ codes "first" ∷ codes
 -- the name of a new unit is optional
 abbrev pub new_name_of : Option Data → Result (Option (List ℕ)) WireFault
 new_name_of None = Ok None
-new_name_of (Some value) = or_fault (as_str value) fault.Field >>= require_text is_name >>= λ name. Ok (Some name)
+new_name_of (Some value) = or_fault (as_str value) fault.Field >>= require_text is_name
+    >>= λ name. Ok (Some name)
 
 -- a part: `label`, `outline`, and `unit` if it goes to a new unit
 unfoldable pub part_of : Data → Result Part WireFault

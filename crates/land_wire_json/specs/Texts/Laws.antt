@@ -94,7 +94,8 @@ CompactLaw =
 
 -- a text determines its object, if the object is within its limits
 abbrev pub TextsDetermineObjects : Type 0
-TextsDetermineObjects = (a b : Object) → IsObjectWithin a → IsObjectWithin b → object_text a ≡ object_text b → a ≡ b
+TextsDetermineObjects = (a b : Object) → IsObjectWithin a → IsObjectWithin b → object_text a ≡ object_text b
+    → a ≡ b
 
 -- a text determines its content, if the content is within its limits; the word of the act is not part of it
 abbrev pub TextsDetermineContents : Type 0

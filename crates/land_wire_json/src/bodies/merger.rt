@@ -8,7 +8,7 @@ ghost use Rattle.serde_json.specs.View.{view, items_view};
 use crate::bodies::fields::{items_at, label_at, number_at, number_in};
 use crate::bodies::outline::outline_in;
 use crate::bodies::wire_fault::WireFault;
-use land_core::merger::{Merger, lists_number, all_above};
+use land_core::merger::{Merger, all_above, lists_number};
 use land_core::sequence::{NumberList, Sequence};
 use serde_json::Value;
 use std::alloc::Global;

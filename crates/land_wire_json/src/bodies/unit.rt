@@ -1,14 +1,15 @@
 //! Reads the bodies of acts on units and their entries.
 ghost use Rattle.std.specs.Prelude.{◌≡◌, map};
 ghost use Rattle.land_wire_json.specs.Bodies.Fields.{each_of};
-ghost use Rattle.land_wire_json.specs.Bodies.Units.{burden_by, burden_fields, burden_of, lift_of, require_owner};
+ghost use Rattle.land_wire_json.specs.Bodies.Units.{burden_by, burden_fields, burden_of, lift_of};
+ghost use Rattle.land_wire_json.specs.Bodies.Units.{require_owner};
 ghost use Rattle.land_wire_json.specs.Bodies.Units.{parcel_of, parcels_of, right_of, rights_of, unit_by};
 ghost use Rattle.land_wire_json.specs.Bodies.Units.{unit_fields, unit_of};
 ghost use Rattle.land_wire_json.specs.Bodies.WireFaults.{Returns};
 ghost use Rattle.serde_json.specs.View.{view, items_view};
 
 use crate::bodies::fields::{
-    check_keys, items_at, label_at, name_at, number_at, title_at, bool_at, words_at,
+    bool_at, check_keys, items_at, label_at, name_at, number_at, title_at, words_at,
 };
 use crate::bodies::outline::outline_in;
 use crate::bodies::share::share_at;

@@ -1,7 +1,8 @@
 //! Laws, each stated with definitions only.
 ghost use Rattle.land_wire_json.specs.Texts.Laws.{PartyTexts, UnitTexts, ParcelTexts, RrrTexts, SourceTexts};
 ghost use Rattle.land_wire_json.specs.Texts.Laws.{MutationTexts, ContentTexts};
-ghost use Rattle.land_wire_json.specs.Texts.Laws.{ShareTexts, OutlineTexts, CompactLaw, TextsDetermineObjects};
+ghost use Rattle.land_wire_json.specs.Texts.Laws.{ShareTexts, OutlineTexts, CompactLaw};
+ghost use Rattle.land_wire_json.specs.Texts.Laws.{TextsDetermineObjects};
 ghost use Rattle.land_wire_json.specs.Texts.Laws.{TextsDetermineContents};
 
 /// The texts of parties in replies.

@@ -16,7 +16,10 @@ pub(crate) fn write_parcel(
     ensures { AddsValue result out.old out.new (parcel_data parcel.now) }
 {
     let fields = [
-        Field("doubled", MemberValue::Number(parcel.outline.doubled_area())),
+        Field(
+            "doubled",
+            MemberValue::Number(parcel.outline.doubled_area()),
+        ),
         Field("label", MemberValue::Text(parcel.label.as_str())),
         Field("number", MemberValue::Number(parcel.number)),
         Field("outline", MemberValue::Outline(&parcel.outline)),

@@ -1,8 +1,8 @@
 //! Requests and replies as bytes, with a new register.
 use crate::desk::office::is_answered;
+use std::alloc::Global;
 use testlib_scenario::first::{ANNA_ENROLLED_RESPONSE, ENROL_ANNA_REQUEST};
 use testlib_scenario::stop::{Stop, expect};
-use std::alloc::Global;
 
 /// The number of items that get a reply, the input, and the output.
 struct Exchange(u64, &'static [u8], &'static [u8]);

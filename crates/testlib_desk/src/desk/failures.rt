@@ -6,11 +6,11 @@ use land_keep::keeper::Keeper;
 use land_keep::plain_keeper::PlainKeeper;
 use land_streams::put::put;
 use land_streams::send::send;
+use std::alloc::Global;
 use testlib_scenario::doubles::{ChunkReader, Sink};
 use testlib_scenario::stop::{Stop, expect};
 use testlib_scenario::talk::ExpectedReply::{Fault, Shown};
 use testlib_scenario::talk::{ENROL, OFFICE, Row, Transcript};
-use std::alloc::Global;
 
 /// Two parties are enrolled, with a request between them that changes nothing.
 const ROWS: &[Row] = &[
@@ -46,7 +46,12 @@ struct ServeOutcome {
 }
 
 /// Serves the rows one byte at a time, with a limited number of reads.
-fn serve_rows(alloc: Global, talk: &Transcript, reads: u64, sink: &mut Sink) -> Result<ServeOutcome, Stop> {
+fn serve_rows(
+    alloc: Global,
+    talk: &Transcript,
+    reads: u64,
+    sink: &mut Sink,
+) -> Result<ServeOutcome, Stop> {
     let mut keeper = PlainKeeper::new(alloc)?;
     let mut office = Office::of(&mut keeper);
     let reader = ChunkReader {

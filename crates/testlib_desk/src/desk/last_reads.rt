@@ -2,10 +2,10 @@
 use crate::desk::office::{Office, is_out_of_memory, open_sink};
 use land_desk::serve::Served;
 use land_keep::plain_keeper::PlainKeeper;
+use std::alloc::Global;
 use testlib_scenario::doubles::ChunkReader;
 use testlib_scenario::stop::{Stop, expect};
-use testlib_scenario::talk::{Transcript, ExpectedReply};
-use std::alloc::Global;
+use testlib_scenario::talk::{ExpectedReply, Transcript};
 
 /// Input in one chunk, and its fault, after which the connection closes.
 struct Last(&'static [u8], u16);

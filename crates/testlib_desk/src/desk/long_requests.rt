@@ -1,8 +1,8 @@
 //! Requests at the limits of their sizes, with a new register.
 use crate::desk::office::is_reply_as_expected;
+use std::alloc::{AllocError, Global};
 use testlib_scenario::stop::{Stop, expect};
 use testlib_scenario::talk::ExpectedReply;
-use std::alloc::{AllocError, Global};
 
 /// A request with a part that is repeated in its middle, and its reply.
 struct Long {

@@ -1,11 +1,11 @@
 //! Streams of a thousand and of twenty thousand requests in one input, and one that arrives byte by byte.
 use crate::desk::office::{Office, is_answered};
 use land_keep::plain_keeper::PlainKeeper;
-use testlib_scenario::scenario::STEPS;
-use testlib_scenario::stop::{Stop, expect};
-use testlib_scenario::talk::{Transcript, ExpectedReply};
 use std::alloc::{AllocError, Global};
 use std::fmt::Write;
+use testlib_scenario::scenario::STEPS;
+use testlib_scenario::stop::{Stop, expect};
+use testlib_scenario::talk::{ExpectedReply, Transcript};
 
 /// The number of parties to enrol, each with a hundred requests: the enrolment, a list, and 98 without a
 /// route.

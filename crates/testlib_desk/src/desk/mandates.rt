@@ -1,12 +1,12 @@
 //! Mandates as bytes, after the first twelve steps of the scenario.
 use crate::desk::office::Office;
 use land_keep::plain_keeper::PlainKeeper;
+use std::alloc::{AllocError, Global};
 use testlib_scenario::mandates::MANDATES;
 use testlib_scenario::scenario::STEPS;
 use testlib_scenario::stop::Stop;
 use testlib_scenario::talk::ExpectedReply::Fault;
 use testlib_scenario::talk::{ANNA, BEN, NOTARY, Row, Transcript};
-use std::alloc::{AllocError, Global};
 
 /// Bodies are read before the policy is checked: kinds of fields, and which fields exist.
 const READING: &[Row] = &[

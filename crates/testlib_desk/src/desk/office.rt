@@ -2,12 +2,12 @@
 use land_desk::serve::{DeskFault, Served, serve};
 use land_keep::keeper::Keeper;
 use land_keep::plain_keeper::PlainKeeper;
+use std::alloc::Global;
 use testlib_scenario::doubles::{ChunkReader, ClockReadings, Sink};
 pub use testlib_scenario::run_scenario::open_sink;
 use testlib_scenario::stop::Stop;
 pub use testlib_scenario::talk::common;
-use testlib_scenario::talk::{Transcript, ExpectedReply};
-use std::alloc::Global;
+use testlib_scenario::talk::{ExpectedReply, Transcript};
 
 /// A keeper with its clock.
 #[derive(Drop)]
@@ -116,7 +116,12 @@ pub fn is_answered(
 
 /// Checks that a new server gives this reply to the input, which is one item, and whether it closes the
 /// connection.
-pub fn is_reply_as_expected(alloc: Global, input: &[u8], told: ExpectedReply, ends: bool) -> Result<bool, Stop> {
+pub fn is_reply_as_expected(
+    alloc: Global,
+    input: &[u8],
+    told: ExpectedReply,
+    ends: bool,
+) -> Result<bool, Stop> {
     let mut talk = Transcript::new(alloc)?;
     talk.tell(told, ends)?;
     is_answered(alloc, input, 50, 1, talk.output.as_bytes())

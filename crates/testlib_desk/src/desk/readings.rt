@@ -4,12 +4,12 @@ use land_core::act::Act;
 use land_core::ask::{Ask, Request};
 use land_core::kind::{Kind, PartyKind};
 use land_core::role::Role;
-use testlib_scenario::stop::{Stop, expect};
-use testlib_scenario::talk::ENROL;
 use land_wire::fields::{FieldFault, append_field};
 use land_wire::reading::read_request;
 use land_wire_json::bodies::wire_fault::WireFault;
 use std::alloc::Global;
+use testlib_scenario::stop::{Stop, expect};
+use testlib_scenario::talk::ENROL;
 
 /// Returns an error if a field was not appended.
 fn require_appended(outcome: Result<(), FieldFault>) -> Result<(), Stop> {

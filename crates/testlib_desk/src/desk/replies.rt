@@ -1,9 +1,9 @@
 //! The bytes of store faults, which need no allocation.
 use land_desk::response::{Medium, Status, response_bytes, store_response};
 use land_keep::reply::Reply;
-use testlib_scenario::stop::{Stop, expect};
 use land_wire::text::{is_sheet, reply_text, store_text};
 use std::alloc::{AllocError, Global};
+use testlib_scenario::stop::{Stop, expect};
 
 /// Checks the text of a reply.
 fn has_text(alloc: Global, reply: &Reply, text: &str) -> Result<bool, AllocError> {

@@ -7,15 +7,15 @@ use httparse::spans::{EMPTY_HEADER_SPAN, HeaderSpan, RequestSpans};
 use land_streams::buffer::consume_front;
 use land_streams::counted_reader::CountedReader;
 use land_streams::stream_fault::StreamFault;
-use testlib_scenario::doubles::ChunkReader;
-use testlib_scenario::stop::{Stop, expect};
-use testlib_scenario::talk::ExpectedReply;
-use land_wire::framing::connection::{wants_close, is_head};
+use land_wire::framing::connection::{is_head, wants_close};
 use land_wire::framing::head::FIELD_ROOM;
 use land_wire::framing::item::{NextItem, read_item};
 use land_wire::framing::listing::item_count;
 use std::alloc::{AllocError, Global};
 use std::io::Read;
+use testlib_scenario::doubles::ChunkReader;
+use testlib_scenario::stop::{Stop, expect};
+use testlib_scenario::talk::ExpectedReply;
 
 /// A whole request, by its bytes.
 struct Request {
@@ -569,7 +569,10 @@ impl Reading {
     }
 
     /// Reads the first item, and discards nothing.
-    fn front<R: Read>(&mut self, reader: &mut CountedReader<'_, R>) -> Result<NextItem, StreamFault> {
+    fn front<R: Read>(
+        &mut self,
+        reader: &mut CountedReader<'_, R>,
+    ) -> Result<NextItem, StreamFault> {
         if self.headers.len() < FIELD_ROOM {
             return Err(StreamFault::NoMemory);
         }
@@ -694,7 +697,12 @@ fn is_refused(alloc: Global, row: &Stream) -> Result<bool, Stop> {
 
 fn is_item_reported(alloc: Global, bytes: &[u8], item: &Item) -> Result<bool, Stop> {
     match item {
-        Item::Fault(number) => is_reply_as_expected(alloc, bytes, ExpectedReply::Fault(*number), true),
+        Item::Fault(number) => is_reply_as_expected(
+            alloc,
+            bytes,
+            ExpectedReply::Fault(*number),
+            true,
+        ),
         _ => Ok(true),
     }
 }

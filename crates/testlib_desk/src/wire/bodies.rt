@@ -1,8 +1,8 @@
 //! Bodies that are read without a fault, with those of the worked rows.
 use crate::wire::reading::{Reader, fault_in};
-use testlib_scenario::stop::{Stop, expect};
 use land_wire_json::bodies::content_kind::ContentKind;
 use std::alloc::{AllocError, Global};
+use testlib_scenario::stop::{Stop, expect};
 
 /// A reader, and a body that it reads.
 struct Row(Reader, &'static str);

@@ -1,9 +1,9 @@
 //! Contents that are read and written again.
-use testlib_scenario::stop::{Stop, expect};
 use land_wire_json::bodies::content::read_content;
 use land_wire_json::bodies::wire_fault::WireFault;
 use land_wire_json::texts::mutation::content_text;
 use std::alloc::{AllocError, Global};
+use testlib_scenario::stop::{Stop, expect};
 
 /// The word of an act, the text of a content, and the number of its fault, 0 if it is read and written
 /// unchanged.

@@ -11,8 +11,8 @@ use land_core::sequence::Sequence;
 use land_core::source::{Source, SourceKind};
 use land_core::unit::Unit;
 use land_sheet::rows::{csv_header, csv_row};
-use testlib_scenario::stop::{Stop, expect};
 use std::alloc::Global;
+use testlib_scenario::stop::{Stop, expect};
 
 const HEADERS: &[(Kind, &str)] = &[
     (Kind::Party, "number,name,kind\n"),

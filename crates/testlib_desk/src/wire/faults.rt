@@ -1,8 +1,8 @@
 //! Bodies that are not read, each with the number of its first fault.
 use crate::wire::reading::{Reader, fault_in};
-use testlib_scenario::stop::{Stop, expect};
 use land_wire_json::bodies::content_kind::ContentKind;
 use std::alloc::{AllocError, Global};
+use testlib_scenario::stop::{Stop, expect};
 
 /// A fault, a reader, and a body that has the fault for that reader.
 struct Row(u16, Reader, &'static str);

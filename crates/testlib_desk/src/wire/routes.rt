@@ -1,11 +1,11 @@
 //! The resources of paths, the split of targets, and the methods of routes.
 use land_core::kind::Kind;
-use testlib_scenario::stop::{Stop, expect};
 use land_wire::routes::act_word::ActWord;
 use land_wire::routes::route::{Route, allows, find_route};
 use land_wire::routes::table::routes;
 use land_wire::routes::target::split_target;
 use std::alloc::Global;
+use testlib_scenario::stop::{Stop, expect};
 
 /// A path, and its resource.
 struct Row(&'static str, Option<Route<'static>>);

@@ -9,8 +9,8 @@ use land_fraction::Fraction;
 use land_keep::view::{NamedRrr, View};
 use land_shape::{Ring, ShapeFault, read_wkt};
 use land_sheet::sheet::title_sheet;
-use testlib_scenario::stop::{Stop, expect};
 use std::alloc::{AllocError, Global};
+use testlib_scenario::stop::{Stop, expect};
 
 /// The content of an entry.
 #[derive(Clone, Copy)]
@@ -52,7 +52,12 @@ const PICTURES: &[SheetRow] = &[
         entries: &[
             Entry(13, EntryContent::Right(RightType::Lease, 1, 1), 6, "Sam"),
             Entry(16, EntryContent::Mortgage, 4, "Bank, \"North\""),
-            Entry(21, EntryContent::Right(RightType::Ownership, 1, 1), 3, "Ben"),
+            Entry(
+                21,
+                EntryContent::Right(RightType::Ownership, 1, 1),
+                3,
+                "Ben",
+            ),
         ],
         sheet: "TITLE SHEET
 Unit 9 Garden

@@ -3,12 +3,12 @@ use crate::growths::marks::{mark, mark_end};
 use crate::serving::serve_stream;
 use land_desk::serve::{DeskFault, Served};
 use land_keep::keeper::Keeper;
+use std::alloc::{AllocError, Global};
 use testlib_scenario::doubles::Sink;
 use testlib_scenario::run_scenario::{open_sink, play};
 use testlib_scenario::scenario::{MORE, STEPS};
 use testlib_scenario::stop::{Stop, expect};
 use testlib_scenario::talk::{Row, Transcript};
-use std::alloc::{AllocError, Global};
 
 /// The reply of error 501. The connection stays open.
 const NO_ROOM: &[u8] =

@@ -5,8 +5,8 @@ use crate::every_growth::growing::is_asked;
 use land_keep::plain_keeper::PlainKeeper;
 use land_select::sql_keeper::SqlKeeper;
 use land_tables::table_keeper::TableKeeper;
-use testlib_scenario::stop::Stop;
 use std::alloc::Global;
+use testlib_scenario::stop::Stop;
 
 /// The number of steps before each request.
 const FIRST: usize = 0;

@@ -10,9 +10,9 @@ use land_keep::store_fault::StoreFault;
 use land_select::sql_keeper::SqlKeeper;
 use land_sheet::extracts::extract::extract_to;
 use land_sheet::extracts::fault::ExtractFault;
+use std::alloc::Global;
 use testlib_scenario::run_scenario::{plain, play_steps};
 use testlib_scenario::stop::{Stop, expect};
-use std::alloc::Global;
 
 /// An extract: the caller, its role, the kind, the time, the result, and the bytes written.
 #[derive(Drop)]

@@ -8,9 +8,9 @@ use land_keep::keeper::Keeper;
 use land_keep::named::NamedObject;
 use land_select::sql_keeper::SqlKeeper;
 use land_sheet::extracts::seen::{Seen, each_seen, visible_numbers};
+use std::alloc::Global;
 use testlib_scenario::run_scenario::{plain, play_steps};
 use testlib_scenario::stop::{Stop, expect};
-use std::alloc::Global;
 
 /// Ben, as a citizen.
 const BEN: Caller = Caller {

@@ -8,8 +8,8 @@ use crate::growths::verdicts::expect_verdicts;
 use land_keep::keeper::Keeper;
 use land_select::sql_keeper::SqlKeeper;
 use land_tables::table_keeper::TableKeeper;
-use testlib_scenario::stop::Stop;
 use std::alloc::Global;
+use testlib_scenario::stop::Stop;
 
 /// Makes each call. Prints a line before each, and one after the last.
 fn expect_replies<K: Keeper>(rt: &impl Print, alloc: Global, keeper: &mut K) -> Result<(), Stop> {

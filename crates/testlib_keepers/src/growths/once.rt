@@ -9,8 +9,8 @@ use land_core::role::Role;
 use land_keep::keeper::Keeper;
 use land_rules::verdict::Verdict;
 use land_select::sql_keeper::SqlKeeper;
-use testlib_scenario::stop::{Stop, expect};
 use std::alloc::Global;
+use testlib_scenario::stop::{Stop, expect};
 
 /// The requested view.
 #[derive(Clone, Copy)]

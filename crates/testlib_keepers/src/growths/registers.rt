@@ -6,11 +6,11 @@ use land_keep::machine::answer;
 use land_keep::reply::Reply;
 use land_select::sql_keeper::SqlKeeper;
 use land_tables::tables::Tables;
+use sqlite::MemStore;
+use std::alloc::Global;
 use testlib_scenario::first::first_request;
 use testlib_scenario::run_scenario::play_steps;
 use testlib_scenario::stop::Stop;
-use sqlite::MemStore;
-use std::alloc::Global;
 
 /// The number of parties that are enrolled after the scenario.
 const NEIGHBOURS: usize = 300;

@@ -5,8 +5,8 @@ use land_core::kind::Kind;
 use land_core::object::Object;
 use land_core::role::Role;
 use land_keep::keeper::Keeper;
-use testlib_scenario::stop::{Stop, expect};
 use std::alloc::Global;
+use testlib_scenario::stop::{Stop, expect};
 
 /// An object: its name, its kind and its number.
 struct Shown(&'static str, Kind, u64);
@@ -33,7 +33,11 @@ fn number_of(object: &Object) -> u64 {
 }
 
 /// Checks if an object exists now.
-fn has_expected_object<K: Keeper>(alloc: Global, keeper: &mut K, shown: &Shown) -> Result<bool, Stop> {
+fn has_expected_object<K: Keeper>(
+    alloc: Global,
+    keeper: &mut K,
+    shown: &Shown,
+) -> Result<bool, Stop> {
     let last = keeper.last();
     match keeper.object(alloc, shown.1, shown.2, last)? {
         Some(object) => Ok(number_of(&object) == shown.2),
@@ -42,7 +46,11 @@ fn has_expected_object<K: Keeper>(alloc: Global, keeper: &mut K, shown: &Shown) 
 }
 
 /// Checks that each object exists now.
-pub fn expect_objects<K: Keeper>(rt: &impl Print, alloc: Global, keeper: &mut K) -> Result<(), Stop> {
+pub fn expect_objects<K: Keeper>(
+    rt: &impl Print,
+    alloc: Global,
+    keeper: &mut K,
+) -> Result<(), Stop> {
     for (place, shown) in SHOWN.iter().enumerate() {
         mark(rt, shown.0)?;
         expect(has_expected_object(alloc, keeper, shown)?, shown.0, place)?;
@@ -60,7 +68,11 @@ const SHEETS: &[Sheet] = &[
 ];
 
 /// Checks if the garden's title sheet has the given number of entries now.
-fn has_expected_entries<K: Keeper>(alloc: Global, keeper: &mut K, sheet: &Sheet) -> Result<bool, Stop> {
+fn has_expected_entries<K: Keeper>(
+    alloc: Global,
+    keeper: &mut K,
+    sheet: &Sheet,
+) -> Result<bool, Stop> {
     let last = keeper.last();
     let caller = Caller {
         party: sheet.1,
@@ -73,7 +85,11 @@ fn has_expected_entries<K: Keeper>(alloc: Global, keeper: &mut K, sheet: &Sheet)
 }
 
 /// Checks that each title sheet has its entries.
-pub fn expect_sheet_entries<K: Keeper>(rt: &impl Print, alloc: Global, keeper: &mut K) -> Result<(), Stop> {
+pub fn expect_sheet_entries<K: Keeper>(
+    rt: &impl Print,
+    alloc: Global,
+    keeper: &mut K,
+) -> Result<(), Stop> {
     for (place, sheet) in SHEETS.iter().enumerate() {
         mark(rt, sheet.0)?;
         expect(has_expected_entries(alloc, keeper, sheet)?, sheet.0, place)?;

@@ -9,8 +9,8 @@ use land_core::role::Role;
 use land_core::roles::Grant;
 use land_core::text::Text;
 use land_keep::keeper::Keeper;
-use testlib_scenario::stop::{Stop, expect};
 use std::alloc::{AllocError, Global};
+use testlib_scenario::stop::{Stop, expect};
 
 /// The act of a test case.
 #[derive(Clone, Copy)]
@@ -128,7 +128,11 @@ fn gives<K: Keeper>(
 }
 
 /// Checks if the slice of an act has its expected size.
-fn has_expected_slice<K: Keeper>(alloc: Global, keeper: &mut K, slice_case: &SliceCase) -> Result<bool, Stop> {
+fn has_expected_slice<K: Keeper>(
+    alloc: Global,
+    keeper: &mut K,
+    slice_case: &SliceCase,
+) -> Result<bool, Stop> {
     let caller = Caller {
         party: slice_case.1,
         role: slice_case.2,
@@ -138,10 +142,18 @@ fn has_expected_slice<K: Keeper>(alloc: Global, keeper: &mut K, slice_case: &Sli
 }
 
 /// Checks that the slice of each act has its expected size.
-pub fn expect_slices<K: Keeper>(rt: &impl Print, alloc: Global, keeper: &mut K) -> Result<(), Stop> {
+pub fn expect_slices<K: Keeper>(
+    rt: &impl Print,
+    alloc: Global,
+    keeper: &mut K,
+) -> Result<(), Stop> {
     for (place, slice_case) in SLICED.iter().enumerate() {
         mark(rt, slice_case.0)?;
-        expect(has_expected_slice(alloc, keeper, slice_case)?, slice_case.0, place)?;
+        expect(
+            has_expected_slice(alloc, keeper, slice_case)?,
+            slice_case.0,
+            place,
+        )?;
     }
     Ok(())
 }

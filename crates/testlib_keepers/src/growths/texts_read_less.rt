@@ -8,9 +8,9 @@ use land_core::role::Role;
 use land_keep::keeper::Keeper;
 use land_select::sql_keeper::SqlKeeper;
 use land_tables::table_keeper::TableKeeper;
+use std::alloc::Global;
 use testlib_scenario::run_scenario::play_steps;
 use testlib_scenario::stop::{Stop, expect};
-use std::alloc::Global;
 
 /// A list: its name, the caller, its role, the kind, and the expected numbers.
 struct List(&'static str, u64, Role, Kind, &'static [u64]);

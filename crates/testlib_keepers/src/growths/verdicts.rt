@@ -9,8 +9,8 @@ use land_core::roles::Grant;
 use land_keep::keeper::Keeper;
 use land_keep::moments::explicit_moment;
 use land_rules::verdict::Verdict;
-use testlib_scenario::stop::{Stop, expect};
 use std::alloc::Global;
+use testlib_scenario::stop::{Stop, expect};
 
 /// The request of a test case.
 #[derive(Clone, Copy)]
@@ -155,7 +155,11 @@ fn has_expected_verdict<K: Keeper>(
 }
 
 /// Checks that each verdict is the expected one.
-pub fn expect_verdicts<K: Keeper>(rt: &impl Print, alloc: Global, keeper: &mut K) -> Result<(), Stop> {
+pub fn expect_verdicts<K: Keeper>(
+    rt: &impl Print,
+    alloc: Global,
+    keeper: &mut K,
+) -> Result<(), Stop> {
     for (place, verdict_case) in JUDGED.iter().enumerate() {
         mark(rt, verdict_case.0)?;
         expect(

@@ -3,10 +3,10 @@ use crate::each::{Trial, over_each};
 use crate::hostile::stream::Stream;
 use land_desk::serve::{DeskFault, Served};
 use land_keep::keeper::Keeper;
+use std::alloc::Global;
 use testlib_scenario::calls::CUT;
 use testlib_scenario::first::{ANNA_ENROLLED_RESPONSE, ENROL_ANNA_REQUEST};
 use testlib_scenario::stop::{Stop, expect};
-use std::alloc::Global;
 
 /// No byte, and no reply.
 const NOTHING: Stream<'static> = Stream {

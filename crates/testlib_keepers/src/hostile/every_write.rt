@@ -5,9 +5,9 @@ use land_core::kind::Kind;
 use land_core::object::Object;
 use land_desk::serve::DeskFault;
 use land_keep::keeper::Keeper;
+use std::alloc::Global;
 use testlib_scenario::first::{ANNA_ENROLLED_RESPONSE, ENROL_ANNA_REQUEST};
 use testlib_scenario::stop::{Stop, expect};
-use std::alloc::Global;
 
 /// A writer that fails after the given number of bytes: the enrolment exists.
 fn unwritten_after(bytes: usize) -> Stream<'static> {

@@ -1,9 +1,9 @@
 //! The largest registration: 64 parcels with outlines of 200 points each.
 use crate::keepers::keepers::play_over_each;
-use testlib_scenario::stop::Stop;
-use testlib_scenario::talk::{OFFICE, Transcript, ExpectedReply};
 use std::alloc::{AllocError, Global};
 use std::fmt::Write;
+use testlib_scenario::stop::Stop;
+use testlib_scenario::talk::{ExpectedReply, OFFICE, Transcript};
 
 /// The number of points of an outline, and of parcels of a unit.
 const POINTS: usize = 200;

@@ -1,10 +1,10 @@
 //! A stream that a keeper serves, with its expected end.
 use land_desk::serve::{DeskFault, Served, serve};
 use land_keep::keeper::Keeper;
-use testlib_scenario::doubles::{ChunkReader, ClockReadings, Sink};
-use testlib_scenario::run_scenario::{ran_out_of_memory, open_sink};
-use testlib_scenario::stop::Stop;
 use std::alloc::Global;
+use testlib_scenario::doubles::{ChunkReader, ClockReadings, Sink};
+use testlib_scenario::run_scenario::{open_sink, ran_out_of_memory};
+use testlib_scenario::stop::Stop;
 
 /// A stream that arrives in chunks until the given number of reads, with a writer that accepts the given
 /// number of bytes, one at a time; and the expected result, replies, and stamp of the latest change.

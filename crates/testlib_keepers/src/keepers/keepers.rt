@@ -1,10 +1,10 @@
 //! A conversation with each keeper.
 use crate::each::{Trial, over_each};
 use land_keep::keeper::Keeper;
+use std::alloc::Global;
 use testlib_scenario::run_scenario::play;
 use testlib_scenario::stop::Stop;
 use testlib_scenario::talk::Transcript;
-use std::alloc::Global;
 
 /// A conversation, and the moments that the clock returns before it stays at 1000.
 #[derive(Clone, Copy)]

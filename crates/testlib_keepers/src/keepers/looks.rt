@@ -1,7 +1,9 @@
 //! Requests in addition to the scenario, after some of its steps. They do not change the register.
 use crate::keepers::story::Story;
 use testlib_scenario::scenario::MORTGAGE;
-use testlib_scenario::talk::ExpectedReply::{self, Denied, Fault, Refused, Sheet, Shown, HeadFault};
+use testlib_scenario::talk::ExpectedReply::{
+    self, Denied, Fault, HeadFault, Refused, Sheet, Shown,
+};
 use testlib_scenario::talk::{ANNA, BANK, BEN, ENROL, NORA, NOTARY, OFFICE, Row, SAM, SURVEYOR};
 
 const GARDEN: ExpectedReply = Shown(r#"{"object":{"checked":true,"name":"Garden","number":9}}"#);

@@ -1,6 +1,6 @@
 //! Requests to a new register, with their replies: each fault of their form, and well-formed requests. The
 //! connection stays open after them.
-use testlib_scenario::talk::ExpectedReply::{Denied, Fault, Shown, HeadFault};
+use testlib_scenario::talk::ExpectedReply::{Denied, Fault, HeadFault, Shown};
 use testlib_scenario::talk::{ANNA, ENROL, OFFICE, Row};
 
 /// Routes and methods.

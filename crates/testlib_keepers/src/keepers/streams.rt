@@ -1,7 +1,7 @@
 //! Streams that end within a request, and heads at the size limit.
+use std::alloc::{AllocError, Global};
 use testlib_scenario::talk::ExpectedReply::{self, Fault, Shown};
 use testlib_scenario::talk::{ENROL, OFFICE, Row, Transcript};
-use std::alloc::{AllocError, Global};
 
 const NAME: &str = "streams";
 

@@ -7,11 +7,11 @@ use crate::keepers::requests::{BODIES, CALLERS, ROUTES, SHARES_AND_OUTLINES, TAR
 use crate::keepers::story::Story;
 use crate::keepers::streams::{cut_in_a_body, heads_at_their_limit};
 use crate::keepers::turns::{EARLY, ROLES, SHOWN, TRANSFERS};
+use std::alloc::{AllocError, Global};
 use testlib_scenario::mandates::MANDATES;
 use testlib_scenario::scenario::STEPS;
 use testlib_scenario::stop::Stop;
 use testlib_scenario::talk::Transcript;
-use std::alloc::{AllocError, Global};
 
 /// Requests to a new register.
 const REQUESTS: &[Story] = &[

@@ -6,8 +6,8 @@ use land_core::object::Object;
 use land_core::parcel::Parcel;
 use land_core::role::Role;
 use land_keep::keeper::Keeper;
-use testlib_scenario::stop::Stop;
 use std::alloc::Global;
+use testlib_scenario::stop::Stop;
 
 /// The office, which sees everything.
 pub const OFFICE: Caller = Caller {

@@ -1,9 +1,9 @@
 //! The three keepers of one register.
 use crate::random::page::{Page, tell};
 use land_keep::keeper::Keeper;
+use std::alloc::Global;
 use testlib_scenario::run_scenario::play_steps;
 use testlib_scenario::stop::{Stop, expect};
-use std::alloc::Global;
 
 /// A register in memory, one on whole tables, and one with indexed queries.
 #[derive(Drop)]
@@ -24,7 +24,12 @@ impl<P: Keeper, T: Keeper, J: Keeper> Keepers<'_, P, T, J> {
     }
 
     /// Checks that all of them return the same reply to the request on a page.
-    pub fn expect_same_replies(&mut self, alloc: Global, page: &mut Page, place: usize) -> Result<(), Stop> {
+    pub fn expect_same_replies(
+        &mut self,
+        alloc: Global,
+        page: &mut Page,
+        place: usize,
+    ) -> Result<(), Stop> {
         tell(alloc, self.plain, page.request.as_str(), &mut page.told)?;
         tell(alloc, self.tables, page.request.as_str(), &mut page.other)?;
         expect(page.is_alike(), "told by tables", place)?;

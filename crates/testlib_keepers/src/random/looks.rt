@@ -7,8 +7,8 @@ use land_core::kind::Kind;
 use land_core::limits::LAST_MOMENT;
 use land_core::role::Role;
 use land_keep::keeper::Keeper;
-use testlib_scenario::stop::{Stop, expect};
 use std::alloc::Global;
+use testlib_scenario::stop::{Stop, expect};
 
 const ROLES: &[Role] = &[
     Role::Citizen,

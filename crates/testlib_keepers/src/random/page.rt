@@ -6,10 +6,10 @@ use crate::random::tally::Tally;
 use crate::serving::serve_stream;
 use land_desk::serve::DeskFault;
 use land_keep::keeper::Keeper;
+use std::alloc::{AllocError, Global};
 use testlib_scenario::doubles::Sink;
 use testlib_scenario::run_scenario::open_sink;
 use testlib_scenario::stop::{Stop, expect};
-use std::alloc::{AllocError, Global};
 
 /// The end of a reply of error 501.
 const NO_ROOM: &[u8] = b"{\"store\":501}";

@@ -9,8 +9,8 @@ use land_keep::keeper::Keeper;
 use land_keep::plain_keeper::PlainKeeper;
 use land_select::sql_keeper::SqlKeeper;
 use land_tables::table_keeper::TableKeeper;
-use testlib_scenario::stop::{Stop, expect};
 use std::alloc::Global;
+use testlib_scenario::stop::{Stop, expect};
 
 /// The number of requests.
 const REQUESTS: u32 = 640;

@@ -10,9 +10,9 @@ use land_core::role::Role;
 use land_keep::keeper::Keeper;
 use land_keep::moments::explicit_moment;
 use land_rules::verdict::Verdict;
-use testlib_scenario::stop::{Stop, expect};
 use sqlite::types::ValueRef;
 use std::alloc::Global;
+use testlib_scenario::stop::{Stop, expect};
 
 /// The SQL statement that returns the roles of the caller.
 const ROLES: &str =

@@ -9,13 +9,13 @@ use land_keep::keeper::Keeper;
 use land_select::sight_text::sight_text;
 use land_select::sql_keeper::SqlKeeper;
 use land_tables::tables::Tables;
+use sqlite::types::ValueRef;
+use sqlite::{Connection, MemStore};
+use std::alloc::Global;
 use testlib_scenario::run_scenario::{play, play_steps};
 use testlib_scenario::stop::{Stop, expect};
 use testlib_scenario::talk::ExpectedReply::Shown;
 use testlib_scenario::talk::{BEN, Row, Transcript};
-use sqlite::types::ValueRef;
-use sqlite::{Connection, MemStore};
-use std::alloc::Global;
 
 /// A caller in each role: the owner, the lodger of two transfers, the notary, the bank, the surveyor and the
 /// office.
@@ -99,7 +99,10 @@ const SAM: Viewer<'static> = Viewer {
 };
 
 /// Returns the register after the scenario, with the mandate if the viewer has one.
-fn play_register_for(alloc: Global, viewer: &Viewer<'_>) -> Result<SqlKeeper<Recorder<MemStore>>, Stop> {
+fn play_register_for(
+    alloc: Global,
+    viewer: &Viewer<'_>,
+) -> Result<SqlKeeper<Recorder<MemStore>>, Stop> {
     let mut keeper = play_register(alloc)?;
     if viewer.principals.is_empty() {
         return Ok(keeper);
@@ -158,7 +161,9 @@ fn run_texts(conn: &mut Recorded, viewer: &Viewer<'_>, kind: Kind) -> Result<(),
 
 /// Returns the reads of the store if the SQL statements of these lists are run.
 fn read_by_texts(alloc: Global, viewer: &Viewer<'_>) -> Result<Reads, Stop> {
-    let mut conn = play_register_for(alloc, viewer)?.into_tables().into_connection();
+    let mut conn = play_register_for(alloc, viewer)?
+        .into_tables()
+        .into_connection();
     for kind in KINDS {
         run_texts(&mut conn, viewer, *kind)?;
     }

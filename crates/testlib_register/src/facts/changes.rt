@@ -8,8 +8,8 @@ use land_core::mandates::Mandate;
 use land_core::role::Role;
 use land_core::roles::Grant;
 use land_core::sequence::{NumberList, Sequence};
-use testlib_cases::stop::Stop;
 use std::alloc::Global;
+use testlib_cases::stop::Stop;
 
 /// Adds a record to a change, if it could be allocated.
 fn add<V: Drop>(

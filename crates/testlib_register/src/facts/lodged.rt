@@ -4,8 +4,8 @@ use land_core::content::{Content, Discharge, Mortgage, Transfer};
 use land_core::mutation::{MutationRecord, MutationState};
 use land_core::text::Text;
 use land_fraction::{Fraction, FractionFault};
-use testlib_cases::stop::Stop;
 use std::alloc::{AllocError, Global};
+use testlib_cases::stop::Stop;
 
 /// The content of a mutation.
 #[derive(Drop)]

@@ -11,8 +11,8 @@ use land_core::text::Text;
 use land_core::unit::UnitRecord;
 use land_fraction::Fraction;
 use land_shape::read_wkt;
-use testlib_cases::stop::Stop;
 use std::alloc::{AllocError, Global};
+use testlib_cases::stop::Stop;
 
 /// Returns a text of a record.
 pub fn text(alloc: Global, text: &str) -> Result<Text, AllocError> {

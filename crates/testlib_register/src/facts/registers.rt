@@ -10,8 +10,8 @@ use land_core::role::Role;
 use land_core::roles::{Grant, Roles};
 use land_core::soundness::Unsound;
 use land_core::soundness::check::check;
-use testlib_cases::stop::Stop;
 use std::alloc::Global;
+use testlib_cases::stop::Stop;
 
 /// Inserts a record, if it could be allocated. Takes the result of the allocation, so that callers need no
 /// early return.

@@ -7,8 +7,8 @@ use land_core::kind::Kind::Party;
 use land_core::kind::PartyKind::Group;
 use land_core::register::Register;
 use land_core::role::Role::{Bank, Citizen};
-use testlib_cases::stop::{Stop, expect};
 use std::alloc::Global;
+use testlib_cases::stop::{Stop, expect};
 
 /// The group of the two banks, which has nothing.
 const BANKS: u64 = 21;

@@ -6,8 +6,8 @@ use land_core::role::Role::{
     self, Bank, CertifiedSurveyor, Citizen, Conveyancer, Notary, StateAdministrator,
 };
 use land_rules::rules::seen;
-use testlib_cases::stop::{Stop, expect};
 use std::alloc::{AllocError, Global};
+use testlib_cases::stop::{Stop, expect};
 
 /// A caller, a kind, and the numbers of that kind that the caller sees.
 pub(super) struct Row(pub u64, pub Role, pub Kind, pub &'static [u64]);

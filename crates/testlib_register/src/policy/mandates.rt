@@ -16,8 +16,8 @@ use land_core::role::Role::{
     Bank, CertifiedSurveyor, Citizen, Conveyancer, Notary, StateAdministrator,
 };
 use land_core::soundness::Unsound;
-use testlib_cases::stop::{Stop, expect};
 use std::alloc::Global;
+use testlib_cases::stop::{Stop, expect};
 
 /// Sam is agent of Anna and Nora, the office of Sam, and the bank North of Lena. Ben had a mandate of Nora.
 const MANDATES: &[Fact] = &[

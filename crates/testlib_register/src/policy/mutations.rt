@@ -17,8 +17,8 @@ use land_core::role::Role::{
     Bank, CertifiedSurveyor, Citizen, Conveyancer, Notary, StateAdministrator,
 };
 use land_core::soundness::Unsound;
-use testlib_cases::stop::{Stop, expect};
 use std::alloc::Global;
+use testlib_cases::stop::{Stop, expect};
 
 /// Lodged by the bank North on the farm (21); by Lena on the house (22), and on the farm, approved (23) and
 /// refused (24); by Nora on no unit (25); and by the office on the house (26).

@@ -21,8 +21,8 @@ use land_core::role::Role::{
 use land_core::sequence::{NumberList, Sequence};
 use land_core::subdivision::{Part, Subdivision};
 use land_shape::read_wkt;
-use testlib_cases::stop::{Stop, expect};
 use std::alloc::{AllocError, Global};
+use testlib_cases::stop::{Stop, expect};
 
 /// A content that a surveyor lodges.
 enum Surveyed {

@@ -11,8 +11,8 @@ use land_core::role::Role::{
     self, Bank, CertifiedSurveyor, Citizen, Conveyancer, Notary, StateAdministrator,
 };
 use land_rules::rules::verdict;
-use testlib_cases::stop::{Stop, expect};
 use std::alloc::{AllocError, Global};
+use testlib_cases::stop::{Stop, expect};
 
 const VIEW: Ask = Ask::View {
     kind: Kind::Parcel,

@@ -7,8 +7,8 @@ use land_core::kind::Kind::{Rrr, Unit};
 use land_core::register::Register;
 use land_core::role::Role::Citizen;
 use land_core::rrr::RightType::Usufruct;
-use testlib_cases::stop::{Stop, expect};
 use std::alloc::Global;
+use testlib_cases::stop::{Stop, expect};
 
 /// Sam has the usufruct of the farm (21).
 const USUFRUCT: &[Fact] = &[

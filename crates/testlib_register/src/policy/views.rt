@@ -9,8 +9,8 @@ use land_core::register::Register;
 use land_core::role::Role::{
     self, Bank, CertifiedSurveyor, Citizen, Conveyancer, Notary, StateAdministrator,
 };
-use testlib_cases::stop::{Stop, expect};
 use std::alloc::Global;
+use testlib_cases::stop::{Stop, expect};
 
 /// A caller, an object, and the number of the rule that denies the view; 0 if none does.
 pub(super) struct Row(pub u64, pub Role, pub Kind, pub u64, pub u8);

@@ -15,8 +15,8 @@ use land_core::kind::PartyKind::{Group, NaturalPerson};
 use land_core::records::Records;
 use land_core::register::{Register, apply};
 use land_core::role::Role;
-use testlib_cases::stop::{Stop, expect};
 use std::alloc::{AllocError, Global};
+use testlib_cases::stop::{Stop, expect};
 
 /// How a change was made.
 #[derive(Drop)]

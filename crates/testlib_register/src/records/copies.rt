@@ -8,9 +8,9 @@ use land_core::kind::Kind;
 use land_core::object::Object;
 use land_core::register::Register;
 use land_core::role::Role;
-use testlib_cases::stop::{Stop, expect};
 use std::alloc::{AllocError, Global};
 use std::fmt::Debug;
+use testlib_cases::stop::{Stop, expect};
 
 /// Returns all fields of a value, in one line.
 pub(super) fn fields<T: Debug>(alloc: Global, value: &T) -> Result<String, AllocError> {

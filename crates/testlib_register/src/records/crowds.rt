@@ -4,8 +4,8 @@ use super::{Part, WITH_GARDEN, fault_of};
 use crate::facts::facts::{Fact, Held};
 use land_core::kind::PartyKind::NaturalPerson;
 use land_core::soundness::Unsound;
-use testlib_cases::stop::{Stop, expect};
 use std::alloc::{AllocError, Global};
+use testlib_cases::stop::{Stop, expect};
 
 /// The kind of object of which a register has many.
 #[derive(Clone, Copy)]

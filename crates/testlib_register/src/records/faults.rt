@@ -6,8 +6,8 @@ use crate::facts::facts::{Fact, Share};
 use land_core::kind::PartyKind::NaturalPerson;
 use land_core::role::Role;
 use land_core::soundness::Unsound;
-use testlib_cases::stop::Stop;
 use std::alloc::Global;
+use testlib_cases::stop::Stop;
 
 const TWO: Fact = Fact::Party(2, NaturalPerson, "Anna");
 

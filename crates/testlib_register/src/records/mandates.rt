@@ -6,8 +6,8 @@ use land_core::change::Change;
 use land_core::duplicate::Duplicate;
 use land_core::mandates::Mandate;
 use land_core::register::{Register, apply};
-use testlib_cases::stop::{Stop, expect};
 use std::alloc::Global;
+use testlib_cases::stop::{Stop, expect};
 
 /// Group 5 can neither give nor have a mandate, nor can 9, which does not exist.
 const PAIRS: &[Case] = &[

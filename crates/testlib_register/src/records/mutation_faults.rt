@@ -6,8 +6,8 @@ use crate::facts::lodged::Asked::{self, Discharge, Mortgage, Transfer};
 use crate::facts::lodged::Lodged;
 use land_core::mutation::MutationState::{Approved, Lodged as Open, Refused};
 use land_core::soundness::Unsound;
-use testlib_cases::stop::Stop;
 use std::alloc::Global;
+use testlib_cases::stop::Stop;
 
 /// The garden, and numbers up to 19.
 const UP_TO_19: &[Part] = &[Part::Persons, Part::Group, Part::Garden, Part::Next20];

@@ -20,8 +20,8 @@ use land_core::rrr::{Class, Rrr};
 use land_core::source::{Source, SourceKind};
 use land_core::unit::Unit;
 use land_fraction::Fraction;
-use testlib_cases::stop::{Stop, expect};
 use std::alloc::{AllocError, Global};
+use testlib_cases::stop::{Stop, expect};
 
 /// The expected data of an object.
 pub(super) enum Look {

@@ -4,8 +4,8 @@ use super::{Case, Part, WITH_TWO_UNITS, expect_faults, fault_of};
 use crate::facts::facts::{Fact, Held, Right};
 use land_core::rrr::RightType::{Lease, Ownership, Usufruct};
 use land_core::soundness::Unsound;
-use testlib_cases::stop::{Stop, expect};
 use std::alloc::{AllocError, Global};
+use testlib_cases::stop::{Stop, expect};
 
 /// Returns rights of the garden, with the numbers from 16 on, and the next number.
 fn rights_of(alloc: Global, rights: &[Right]) -> Result<Vec<Fact>, AllocError> {

@@ -7,8 +7,8 @@ use crate::facts::facts::{Fact, Held};
 use land_core::kind::Kind;
 use land_core::kind::PartyKind::NaturalPerson;
 use land_core::soundness::Unsound;
-use testlib_cases::stop::Stop;
 use std::alloc::Global;
+use testlib_cases::stop::Stop;
 
 const PARCELS: &[Case] = &[
     Case(&[Fact::Parcel(POND, GARDEN, "12b", DEED)], None),

@@ -1,9 +1,9 @@
 //! Replies to a change, and to a read after it, on a store that may stop.
 use land_desk::serve::{DeskFault, Served, serve};
 use land_keep::keeper::Keeper;
+use std::alloc::Global;
 use testlib_scenario::doubles::{ChunkReader, ClockReadings, Sink};
 use testlib_scenario::talk::Transcript;
-use std::alloc::Global;
 
 /// The reply of a keeper whose store fails. The connection closes.
 const FAILED: &[u8] =
@@ -70,7 +70,11 @@ fn is_done_then_failed(talk: &Transcript, adopt_or_stop: &[u8]) -> bool {
 }
 
 /// Determines the outcome from the replies.
-fn ending_of(talk: &Transcript, serve_stream: &Result<Served, DeskFault>, adopt_or_stop: &[u8]) -> Ending {
+fn ending_of(
+    talk: &Transcript,
+    serve_stream: &Result<Served, DeskFault>,
+    adopt_or_stop: &[u8],
+) -> Ending {
     if adopt_or_stop == talk.output.as_bytes() && has_replies(serve_stream, 2) {
         return Ending::ExpectedReply;
     }

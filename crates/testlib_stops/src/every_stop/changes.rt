@@ -6,10 +6,10 @@ use crate::every_stop::opening::{Asked, Room, Way, ask_files};
 use crate::every_stop::registers::{
     Change, MERGER, REGISTRATION, SUBDIVISION, Story, TRANSFER, rows_in, story_of,
 };
+use std::alloc::Global;
 use testlib_scenario::doubles::Sink;
 use testlib_scenario::run_scenario::open_sink;
 use testlib_scenario::stop::{Stop, expect};
-use std::alloc::Global;
 
 /// A run is not stopped if a file may make this many calls.
 pub(crate) const MAX_CALLS: u64 = 100000;
@@ -97,7 +97,11 @@ fn look_at_files(
     calls: usize,
 ) -> Result<(), Stop> {
     let register_with_retries = held_by_files(alloc, files, story)?;
-    expect(is_allowed_after(ending, register_with_retries), "what was written", calls)?;
+    expect(
+        is_allowed_after(ending, register_with_retries),
+        "what was written",
+        calls,
+    )?;
     lose_power(files);
     let synced = held_by_files(alloc, files, story)?;
     expect(is_allowed_after(ending, synced), "what was synced", calls)

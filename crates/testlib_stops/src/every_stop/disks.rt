@@ -1,8 +1,8 @@
 //! Two files in memory: their content, and disks with that content that stop.
-use testlib_scenario::stop::Stop;
 use sqlite::Files;
 use sqlite_disk::{Crash, Disk, Fuse, Memory};
 use std::alloc::{AllocError, Global};
+use testlib_scenario::stop::Stop;
 
 /// A database file and its log, whose disks stop.
 pub type Disks = Files<Fuse<Memory>>;

@@ -7,11 +7,11 @@ use crate::every_stop::opening::{Room, files_of, open_or_stop, options};
 use crate::every_stop::registers::version_1_files;
 use land_tables::fault::AdoptFault;
 use land_tables::tables::Tables;
-use testlib_scenario::looks::{look_at, expect_rows_after_steps};
-use testlib_scenario::stop::{Stop, expect};
-use testlib_tables::tables::migrating::{AFTER, BEFORE};
 use sqlite::{Alter, Connection, Error, ErrorCode};
 use std::alloc::Global;
+use testlib_scenario::looks::{expect_rows_after_steps, look_at};
+use testlib_scenario::stop::{Stop, expect};
+use testlib_tables::tables::migrating::{AFTER, BEFORE};
 
 /// The outcome of a migration.
 #[derive(Clone, Copy)]
@@ -147,7 +147,11 @@ fn look_at_files(
     calls: usize,
 ) -> Result<(), Stop> {
     let register_with_retries = version_in(alloc, files)?;
-    expect(is_allowed_after(ending, register_with_retries), "what was written", calls)?;
+    expect(
+        is_allowed_after(ending, register_with_retries),
+        "what was written",
+        calls,
+    )?;
     lose_power(files);
     let synced = version_in(alloc, files)?;
     expect(is_allowed_after(ending, synced), "what was synced", calls)

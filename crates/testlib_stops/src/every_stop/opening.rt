@@ -5,12 +5,12 @@ use land_select::sql_keeper::SqlKeeper;
 use land_tables::fault::AdoptFault;
 use land_tables::table_keeper::TableKeeper;
 use land_tables::tables::Tables;
-use testlib_scenario::doubles::Sink;
-use testlib_scenario::stop::Stop;
-use testlib_scenario::talk::Transcript;
 use sqlite::{Alter, Connection, Error, ErrorCode, FileStore, Options};
 use sqlite_disk::{Fuse, Memory};
 use std::alloc::Global;
+use testlib_scenario::doubles::Sink;
+use testlib_scenario::stop::Stop;
+use testlib_scenario::talk::Transcript;
 
 /// A store in such files.
 pub type Store = FileStore<Fuse<Memory>>;

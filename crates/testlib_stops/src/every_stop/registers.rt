@@ -5,15 +5,15 @@ use crate::every_stop::rows::rows_at;
 use land_core::limits::LAST_MOMENT;
 use land_tables::table_keeper::TableKeeper;
 use land_tables::tables::Tables;
+use sqlite::{Alter, Connection, Error, MemStore};
+use std::alloc::{AllocError, Global};
 use testlib_scenario::looks::{expect_rows_after_more, expect_rows_after_steps};
 use testlib_scenario::run_scenario::{play, play_more};
 use testlib_scenario::scenario::{MORE, STEPS};
 use testlib_scenario::stop::Stop;
-use testlib_scenario::talk::{OFFICE, Row, Transcript, ExpectedReply};
-use testlib_tables::cases::run_scenario::{create_or_stop, tables_after_scenario, adopt_or_stop};
+use testlib_scenario::talk::{ExpectedReply, OFFICE, Row, Transcript};
+use testlib_tables::cases::run_scenario::{adopt_or_stop, create_or_stop, tables_after_scenario};
 use testlib_tables::tables::migrating::DOWNGRADE;
-use sqlite::{Alter, Connection, Error, MemStore};
-use std::alloc::{AllocError, Global};
 
 /// A change: the number of steps before it, the stamp of the last of them, and its own stamp.
 pub struct Change {

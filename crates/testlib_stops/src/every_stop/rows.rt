@@ -1,8 +1,8 @@
 //! Reads all rows of a store.
-use testlib_scenario::lines::lines;
-use testlib_scenario::stop::Stop;
 use sqlite::{Alter, Connection};
 use std::alloc::{AllocError, Global};
+use testlib_scenario::lines::lines;
+use testlib_scenario::stop::Stop;
 
 /// A table: its name, its key without the beginning, and its other columns without the lifespan.
 struct Table(&'static str, &'static str, &'static str);

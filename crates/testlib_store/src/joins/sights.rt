@@ -12,11 +12,12 @@ use land_tables_rows::listing::fault::ReadFault;
 use land_tables_schema::rows::creation::make_register;
 use land_tables_schema::rows::openness::is_open;
 use land_tables_schema::schema::{is_empty, is_schema_v2};
-use testlib_scenario::stop::{Stop, expect};
 use sqlite::{Connection, Error, ErrorCode, MemStore};
 use std::alloc::Global;
+use testlib_scenario::stop::{Stop, expect};
 
-/// A unit with an owner, a bank's mortgage and a tenant until 2000; a unit that a group owns, of which the tenant
+/// A unit with an owner, a bank's mortgage and a tenant until 2000; a unit that a group owns, of which the
+/// tenant
 /// is a member. A conveyancer lodged two mutations: one on the group's unit is undecided, one on the other
 /// unit is approved.
 const ROWS: &str = "

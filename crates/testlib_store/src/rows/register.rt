@@ -2,9 +2,9 @@
 use crate::rows::table::{Table, expect_tables, unexpected_store};
 use land_tables_schema::rows::creation::make_register;
 use land_tables_schema::schema::{is_empty, is_schema_v2};
-use testlib_scenario::stop::{Stop, expect};
 use sqlite::{Connection, Error, MemStore};
 use std::alloc::Global;
+use testlib_scenario::stop::{Stop, expect};
 
 /// Returns a new register in memory.
 pub fn new_register(alloc: Global) -> Result<Connection<MemStore>, Error> {
@@ -38,6 +38,10 @@ const FIRST: &[(Table, &str)] = &[
 /// A new register has the tables of a register, and its first rows.
 pub fn a_new_register_has_its_first_rows(alloc: Global) -> Result<(), Stop> {
     let mut conn = new_register(alloc)?;
-    expect(is_schema_v2(conn.schema()) && conn.is_autocommit(), "tables", 0)?;
+    expect(
+        is_schema_v2(conn.schema()) && conn.is_autocommit(),
+        "tables",
+        0,
+    )?;
     expect_tables(alloc, &mut conn, FIRST)
 }

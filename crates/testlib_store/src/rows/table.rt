@@ -3,10 +3,10 @@ use land_tables_schema::rows::tables::{
     edition, mandate, member, moments, mutation, names, parcel, party, role, rrr, source, unit,
 };
 use land_tables_schema::schema::is_schema_v2;
-use testlib_scenario::stop::{Stop, expect};
 use sqlite::types::ValueRef;
 use sqlite::{Alter, Connection, Error, ErrorCode, Row};
 use std::alloc::Global;
+use testlib_scenario::stop::{Stop, expect};
 
 /// A table of the register.
 #[derive(Clone, Copy)]

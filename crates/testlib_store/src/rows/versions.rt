@@ -10,9 +10,9 @@ use land_tables_schema::rows::tables::{
     mandate, member, moments, mutation, names, parcel, party, role, rrr, source, unit,
 };
 use land_tables_schema::schema::is_schema_v2;
-use testlib_scenario::stop::{Stop, expect};
 use sqlite::{Alter, Connection, Error, Transaction};
 use std::alloc::Global;
+use testlib_scenario::stop::{Stop, expect};
 
 /// A right of 3/4.
 const RIGHT: RrrCells<'static> = RrrCells {

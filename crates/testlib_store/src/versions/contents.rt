@@ -4,11 +4,11 @@ use land_core::mutation::MutationRecord;
 use land_core::words::act_word;
 use land_tables_history::version::Version;
 use land_tables_rows::reading::from_row::FromRow;
-use testlib_scenario::stop::{Stop, expect};
 use land_wire_json::bodies::wire_fault::WireFault;
 use land_wire_json::texts::mutation::content_text;
 use sqlite::{Alter, Connection, Error, Row};
 use std::alloc::{AllocError, Global};
+use testlib_scenario::stop::{Stop, expect};
 
 /// Returns a mutation with an act and a content.
 fn mutation<S: Alter>(

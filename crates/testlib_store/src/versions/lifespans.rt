@@ -10,9 +10,9 @@ use land_core::roles::Grant;
 use land_tables_history::intervals::has_intervals;
 use land_tables_history::moment::Moment;
 use land_tables_history::register::register_at;
-use testlib_scenario::stop::{Stop, expect};
 use sqlite::{Alter, Connection, Error};
 use std::alloc::Global;
+use testlib_scenario::stop::{Stop, expect};
 
 /// Samples that are current together, and a later version of one of them.
 const SPANS: &[Span] = &[

@@ -21,10 +21,10 @@ use land_tables_history::naming::Naming;
 use land_tables_history::version::Version;
 use land_tables_rows::edition::reading::Edition;
 use land_tables_rows::reading::from_row::FromRow;
-use testlib_scenario::stop::{Stop, expect};
 use land_wire_json::bodies::wire_fault::WireFault;
 use sqlite::{Alter, Connection, Error, Row};
 use std::alloc::{AllocError, Global};
+use testlib_scenario::stop::{Stop, expect};
 
 /// Returns the decoded sample of a table.
 trait Expected: FromRow {

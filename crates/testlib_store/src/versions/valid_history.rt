@@ -9,9 +9,9 @@ use land_tables_history::intervals::has_intervals;
 use land_tables_history::moment::Moment;
 use land_tables_history::moments::{last, next_at};
 use land_tables_validity::valid_history::is_valid_history;
-use testlib_scenario::stop::{Stop, expect};
 use sqlite::{Alter, Connection, Error};
 use std::alloc::Global;
+use testlib_scenario::stop::{Stop, expect};
 
 /// The cells of the Land Office, and of its role.
 const OFFICE: &[(usize, Cell)] = &[

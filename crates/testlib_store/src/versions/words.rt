@@ -8,10 +8,10 @@ use land_core::source::SourceKind;
 use land_tables_rows::reading::words::{
     ClassWord, class_word_at, party_kind_at, role_at, source_kind_at, state_at,
 };
-use testlib_scenario::stop::{Stop, expect};
 use land_wire_json::bodies::wire_fault::WireFault;
 use sqlite::{Alter, Connection, Error, Row};
 use std::alloc::Global;
+use testlib_scenario::stop::{Stop, expect};
 
 const WORDS: &[Cell] = &[
     Cell::Words("naturalPerson"),

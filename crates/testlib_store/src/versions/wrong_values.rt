@@ -3,9 +3,9 @@ use crate::versions::cell::row_with;
 use crate::versions::field::{Value, values_of};
 use crate::versions::sample::sample_of;
 use crate::versions::table::{Table, fault_of};
-use testlib_scenario::stop::{Stop, expect};
 use sqlite::{Alter, Connection, Error};
 use std::alloc::Global;
+use testlib_scenario::stop::{Stop, expect};
 
 /// Returns whether a row of a table has the fault of a wrong value in one of its columns.
 fn has_fault<S: Alter>(

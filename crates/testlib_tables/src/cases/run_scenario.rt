@@ -2,10 +2,10 @@
 use land_tables::fault::AdoptFault;
 use land_tables::table_keeper::TableKeeper;
 use land_tables::tables::Tables;
-use testlib_scenario::run_scenario::{play_more, play_steps};
-use testlib_scenario::stop::Stop;
 use sqlite::{Alter, Connection, MemStore};
 use std::alloc::Global;
+use testlib_scenario::run_scenario::{play_more, play_steps};
+use testlib_scenario::stop::Stop;
 
 /// Creates the tables of a new register in a store.
 pub fn create_or_stop<S: Alter + Drop>(conn: Connection<S>) -> Result<Tables<S>, Stop> {
@@ -24,7 +24,10 @@ fn stop_after_fault(fault: AdoptFault) -> Stop {
 }
 
 /// Opens the tables of a store.
-pub fn adopt_or_stop<S: Alter + Drop>(alloc: Global, conn: Connection<S>) -> Result<Tables<S>, Stop> {
+pub fn adopt_or_stop<S: Alter + Drop>(
+    alloc: Global,
+    conn: Connection<S>,
+) -> Result<Tables<S>, Stop> {
     match Tables::adopt(alloc, conn) {
         Ok(tables) => Ok(tables),
         Err((_, fault)) => Err(stop_after_fault(fault)),

@@ -1,8 +1,8 @@
 //! Stores in memory, and their faults.
 use land_tables::tables::Tables;
-use testlib_scenario::stop::{Stop, expect};
 use sqlite::{Connection, MemStore};
 use std::alloc::Global;
+use testlib_scenario::stop::{Stop, expect};
 
 /// Creates a register in a store. Returns the number of the fault, 0 if it was created, and the store.
 pub fn create_fault(conn: Connection<MemStore>) -> (u16, Connection<MemStore>) {

@@ -1,17 +1,17 @@
 //! Calls that run out of memory and are repeated. `.ci/oom-tests` fails each of their allocations in turn:
 //! then nothing has changed, and the same call succeeds.
-use crate::cases::run_scenario::{create_or_stop, adopt_or_stop};
+use crate::cases::run_scenario::{adopt_or_stop, create_or_stop};
 use land_core::ask::Request;
 use land_keep::keeper::Keeper;
 use land_keep::store_fault::StoreFault;
 use land_tables::fault::AdoptFault;
 use land_tables::table_keeper::TableKeeper;
 use land_tables::tables::Tables;
+use sqlite::{Connection, MemStore};
+use std::alloc::Global;
 use testlib_scenario::first::{first_fault, first_request};
 use testlib_scenario::looks::{Look, look_at};
 use testlib_scenario::stop::{Stop, expect};
-use sqlite::{Connection, MemStore};
-use std::alloc::Global;
 
 /// The rows of the tables after Anna is enrolled, regardless of repeated calls.
 const ONCE: &[Look] = &[
@@ -74,7 +74,10 @@ fn fault_with_retry<K: Keeper>(alloc: Global, keeper: &mut K, request: &Request)
 }
 
 /// Creates a register, opens it as a store, and writes to it.
-fn register_with_retries(alloc: Global, request: &Request) -> Result<(u16, Tables<MemStore>), Stop> {
+fn register_with_retries(
+    alloc: Global,
+    request: &Request,
+) -> Result<(u16, Tables<MemStore>), Stop> {
     let new = create_with_retry(Connection::open_in_memory(alloc)?)?;
     let mut keeper = TableKeeper::new(adopt_with_retry(alloc, new.into_connection())?);
     let fault = fault_with_retry(alloc, &mut keeper, request);

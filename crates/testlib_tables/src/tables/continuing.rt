@@ -1,11 +1,11 @@
 //! A new register that is opened as a store and then used: each allocation of this may fail in turn.
-use crate::cases::run_scenario::{new_tables, adopt_or_stop};
+use crate::cases::run_scenario::{adopt_or_stop, new_tables};
 use land_tables::table_keeper::TableKeeper;
 use land_tables::tables::Tables;
-use testlib_scenario::run_scenario::play_first;
-use testlib_scenario::stop::{Stop, expect};
 use sqlite::MemStore;
 use std::alloc::Global;
+use testlib_scenario::run_scenario::play_first;
+use testlib_scenario::stop::{Stop, expect};
 
 /// Opens the tables of a new register.
 fn adopt_new_tables(alloc: Global) -> Result<Tables<MemStore>, Stop> {

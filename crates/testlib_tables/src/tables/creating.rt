@@ -1,9 +1,9 @@
 //! A new register in a store, and stores in which none is created.
-use crate::cases::stores::{expect_fault, create_fault, store_after_sql};
-use testlib_scenario::looks::{Look, look_at};
-use testlib_scenario::stop::Stop;
+use crate::cases::stores::{create_fault, expect_fault, store_after_sql};
 use sqlite::{Connection, MemStore};
 use std::alloc::Global;
+use testlib_scenario::looks::{Look, look_at};
+use testlib_scenario::stop::Stop;
 
 /// The rows of a new register.
 const NEW: &[Look] = &[

@@ -3,10 +3,10 @@
 use crate::cases::run_scenario::tables_after_scenario;
 use crate::cases::stores::{expect_fault, run, run_on};
 use land_tables::tables::Tables;
-use testlib_scenario::looks::{Look, look_at, expect_rows_after_steps};
-use testlib_scenario::stop::Stop;
 use sqlite::{Connection, MemStore};
 use std::alloc::Global;
+use testlib_scenario::looks::{Look, expect_rows_after_steps, look_at};
+use testlib_scenario::stop::Stop;
 
 /// SQL statements that turn a store of schema version 2 without mandates into one of version 1.
 pub const DOWNGRADE: &str = "DROP TABLE mandate; UPDATE edition SET version = 1";
@@ -87,8 +87,13 @@ pub const AFTER: &[Look] = &[Look("SELECT * FROM mandate", "")];
 fn migrate_fault(alloc: Global, conn: Connection<MemStore>) -> (u16, Connection<MemStore>) {
     match Tables::migrate(alloc, conn) {
         Ok(tables) => {
-            let has_scenario_end = tables.last() == 1017 && tables.next() == 30 && !tables.is_closed();
-            (if has_scenario_end { 0 } else { 1 }, tables.into_connection())
+            let has_scenario_end = tables.last() == 1017
+                && tables.next() == 30
+                && !tables.is_closed();
+            (
+                if has_scenario_end { 0 } else { 1 },
+                tables.into_connection(),
+            )
         }
         Err((conn, fault)) => (fault.number(), conn),
     }
@@ -121,7 +126,12 @@ fn fault_between(
 /// Fails if some change does not have its fault.
 fn are_refused(alloc: Global, left: &mut Option<Connection<MemStore>>) -> Result<(), Stop> {
     for (place, change) in CHANGES.iter().enumerate() {
-        expect_fault(fault_between(alloc, left, change)?, change.2, "change", place)?;
+        expect_fault(
+            fault_between(alloc, left, change)?,
+            change.2,
+            "change",
+            place,
+        )?;
     }
     Ok(())
 }
@@ -161,7 +171,10 @@ fn version_1_store(alloc: Global) -> Result<Option<Connection<MemStore>>, Stop> 
 }
 
 /// Each change is refused, and the store is unchanged.
-fn check_refusals_change_nothing(alloc: Global, left: &mut Option<Connection<MemStore>>) -> Result<(), Stop> {
+fn check_refusals_change_nothing(
+    alloc: Global,
+    left: &mut Option<Connection<MemStore>>,
+) -> Result<(), Stop> {
     check_version_1(alloc, left)?;
     are_refused(alloc, left)?;
     check_version_1(alloc, left)

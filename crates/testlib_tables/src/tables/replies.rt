@@ -8,9 +8,9 @@ use land_keep::keeper::Keeper;
 use land_keep::machine::answer;
 use land_keep::reply::Reply;
 use land_tables::table_keeper::TableKeeper;
+use std::alloc::Global;
 use testlib_scenario::run_scenario::plain;
 use testlib_scenario::stop::{Stop, expect};
-use std::alloc::Global;
 
 /// Callers, by party and role.
 const CALLERS: &[(u64, Role)] = &[
@@ -144,7 +144,11 @@ fn check_same_for_callers<K: Keeper, L: Keeper>(
     other: &mut L,
 ) -> Result<(), Stop> {
     for (place, caller) in CALLERS.iter().enumerate() {
-        expect(same_for_caller(alloc, keeper, other, caller)?, "caller", place)?;
+        expect(
+            same_for_caller(alloc, keeper, other, caller)?,
+            "caller",
+            place,
+        )?;
     }
     Ok(())
 }

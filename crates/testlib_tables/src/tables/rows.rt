@@ -1,9 +1,9 @@
 //! The rows of the tables after the scenario.
-use crate::cases::run_scenario::{tables_after_scenario, tables_after_more};
-use crate::cases::stores::{expect_fault, create_fault};
+use crate::cases::run_scenario::{tables_after_more, tables_after_scenario};
+use crate::cases::stores::{create_fault, expect_fault};
+use std::alloc::Global;
 use testlib_scenario::looks::{expect_rows_after_more, expect_rows_after_steps};
 use testlib_scenario::stop::Stop;
-use std::alloc::Global;
 
 /// The tables have the rows of the scenario, and creating a register in them fails.
 pub fn tables_rows(alloc: Global) -> Result<(), Stop> {

@@ -6,12 +6,12 @@ use land_core::register::Register;
 use land_keep::keeper::Keeper;
 use land_keep::plain_keeper::PlainKeeper;
 use land_tables::tables::Tables;
-use testlib_scenario::run_scenario::plain_more;
-use testlib_scenario::stop::{Stop, expect};
 use land_wire_json::texts::fields::{new_writer, text_of};
 use land_wire_json::texts::object::write_object_json;
 use sqlite::Alter;
 use std::alloc::{AllocError, Global};
+use testlib_scenario::run_scenario::plain_more;
+use testlib_scenario::stop::{Stop, expect};
 
 const KINDS: &[Kind] = &[
     Kind::Party,

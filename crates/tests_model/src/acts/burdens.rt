@@ -4,8 +4,8 @@ use super::{FIRST, STAMP, assert_steps};
 use land_core::act::BurdenClass::{Responsibility, Restriction};
 use land_core::kind::Kind;
 use land_core::rrr::RightType::Ownership;
-use testlib_cases::asked::RowAct::{Burden, Lift, Register};
 use std::test::Fail;
+use testlib_cases::asked::RowAct::{Burden, Lift, Register};
 
 pub(super) const UNIT: Step = Row(
     Register(true, 1, &[(2, Ownership, 1, 1)]),

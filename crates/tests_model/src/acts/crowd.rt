@@ -3,9 +3,9 @@ use land_core::parcel::ParcelRecord;
 use land_core::register::Register;
 use land_core::rrr::{Class, RrrRecord};
 use land_shape::read_wkt;
+use std::alloc::{AllocError, Global};
 use testlib_cases::asked::text;
 use testlib_cases::stop::Stop;
-use std::alloc::{AllocError, Global};
 
 /// Returns a restriction of Anna on unit 6.
 fn restriction(alloc: Global) -> Result<RrrRecord, AllocError> {

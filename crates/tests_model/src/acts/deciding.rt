@@ -4,9 +4,9 @@ use super::burdens::UNIT;
 use super::{FIRST, STAMP, assert_steps};
 use land_core::role::Role::Bank;
 use land_core::rrr::RightType::Ownership;
+use std::test::Fail;
 use testlib_cases::asked::RowAct::{Approve, Grant, Lift, Lodge, Refuse, Register};
 use testlib_cases::lodged::RowContent::{Mortgage, Transfer};
-use std::test::Fail;
 
 /// In a unit with a right and 255 restrictions, the right may move or grow, but no other may be added.
 const FULL: &[Step] = &[

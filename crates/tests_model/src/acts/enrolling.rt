@@ -3,8 +3,8 @@ use super::Step::{self, Holds, Row, Sound};
 use super::{STAMP, assert_steps};
 use land_core::kind::PartyKind::NaturalPerson;
 use land_core::role::Role::Citizen;
-use testlib_cases::asked::RowAct::{self, Enrol};
 use std::test::Fail;
+use testlib_cases::asked::RowAct::{self, Enrol};
 
 const ANNA: RowAct = Enrol(NaturalPerson, "Anna");
 

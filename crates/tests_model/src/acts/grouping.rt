@@ -1,9 +1,9 @@
 //! Groups: created, given other members, and refused.
 use super::Step::{self, Has, Row, Sound};
 use super::{FIRST, STAMP, assert_steps};
+use std::test::Fail;
 use testlib_cases::asked::RowAct::{Group, Regroup};
 use testlib_cases::asked::Share;
-use std::test::Fail;
 
 const THIRDS: &[Share] = &[(2, 1, 3), (3, 1, 3), (4, 1, 3)];
 

@@ -5,10 +5,10 @@ use super::burdens::UNIT;
 use super::{FIRST, STAMP, assert_steps};
 use land_core::kind::Kind::{Parcel, Rrr, Unit};
 use land_core::rrr::RightType::Ownership;
+use std::test::Fail;
 use testlib_cases::asked::RowAct::{Approve, Lodge, Register};
 use testlib_cases::lodged::RowContent::{Merger, Subdivision};
 use testlib_cases::lodged::{RowParcel, RowPart};
-use std::test::Fail;
 
 const SQUARE: &str = "POLYGON ((0 0, 10000 0, 10000 10000, 0 10000, 0 0))";
 

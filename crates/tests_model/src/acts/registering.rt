@@ -3,9 +3,9 @@ use super::Step::{self, Next, Row, Sound, Stands};
 use super::{FIRST, STAMP, assert_steps};
 use land_core::kind::Kind;
 use land_core::rrr::RightType::{Lease, Ownership};
+use std::test::Fail;
 use testlib_cases::asked::Right;
 use testlib_cases::asked::RowAct::Register;
-use std::test::Fail;
 
 const SHARED: &[Right] = &[(2, Ownership, 1, 4), (3, Ownership, 3, 4), (4, Lease, 1, 1)];
 

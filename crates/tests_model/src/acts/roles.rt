@@ -2,8 +2,8 @@
 use super::Step::{self, Holds, Row};
 use super::{FIRST, STAMP, assert_steps};
 use land_core::role::Role::{Bank, Citizen, Notary, StateAdministrator};
-use testlib_cases::asked::RowAct::{Grant, Group, Revoke};
 use std::test::Fail;
+use testlib_cases::asked::RowAct::{Grant, Group, Revoke};
 
 /// Afterwards Anna is a bank and not a notary, and Ben is a notary.
 const ONCE: &[Step] = &[

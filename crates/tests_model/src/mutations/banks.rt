@@ -5,13 +5,13 @@ use land_core::caller::Caller;
 use land_core::kind::Kind::{Mutation, Rrr};
 use land_core::kind::PartyKind::NonNaturalPerson;
 use land_core::role::Role::{Bank, Citizen};
+use std::test::Fail;
 use testlib_cases::asked::OFFICE;
 use testlib_cases::asked::RowAct::{Approve, Enrol, Grant, Lodge, Refuse, Revoke};
 use testlib_cases::asked::RowAsk::{self, Do, List, View};
 use testlib_cases::lodged::RowContent::{Discharge, Mortgage};
 use testlib_cases::rows::Row;
 use testlib_cases::steps::{ANNA, BANK, NORA, SURVEYOR, play_with_mortgage};
-use std::test::Fail;
 
 const SOUTH: Caller = Caller {
     party: 17,

@@ -4,13 +4,13 @@ use crate::conclusion::conclude;
 use land_core::caller::Caller;
 use land_core::kind::Kind::{Mutation, Party, Rrr, Unit};
 use land_core::role::Role::Conveyancer;
+use std::test::Fail;
 use testlib_cases::asked::OFFICE;
 use testlib_cases::asked::RowAct::{Approve, Grant, Lodge, Refuse};
 use testlib_cases::asked::RowAsk::{self, Do, List, View};
 use testlib_cases::lodged::RowContent::{Discharge, Mortgage, Transfer};
 use testlib_cases::rows::Row;
 use testlib_cases::steps::{ANNA, BANK, SURVEYOR, play_with_mortgage};
-use std::test::Fail;
 
 const BEN: Caller = Caller {
     party: 3,

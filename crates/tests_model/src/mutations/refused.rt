@@ -6,13 +6,13 @@ use land_core::kind::Kind::{Mutation, Rrr};
 use land_core::limits::LAST_MOMENT;
 use land_core::role::Role::Bank;
 use land_core::rrr::RightType::Ownership;
+use std::test::Fail;
 use testlib_cases::asked::RowAct::{Approve, Grant, Lodge, Refuse, Register};
 use testlib_cases::asked::RowAsk::{Do, View};
 use testlib_cases::asked::{OFFICE, Right};
 use testlib_cases::lodged::RowContent::{Discharge, Mortgage, Transfer};
 use testlib_cases::rows::Row;
 use testlib_cases::steps::{NORA, QUARTER, play_with_loan, play_with_mortgage};
-use std::test::Fail;
 
 const NOT_LODGED: &[Row] = &[
     Row(1000, OFFICE, Do(Approve(99)), "refused 201"),

@@ -5,13 +5,13 @@ use crate::conclusion::conclude;
 use land_core::caller::Caller;
 use land_core::kind::Kind::Mutation;
 use land_core::role::Role::{Conveyancer, Notary};
+use std::test::Fail;
 use testlib_cases::asked::OFFICE;
 use testlib_cases::asked::RowAct::{Approve, Grant, Lodge, Refuse};
 use testlib_cases::asked::RowAsk::{self, Do, List};
 use testlib_cases::lodged::RowContent::{Discharge, Mortgage, Transfer};
 use testlib_cases::rows::Row;
 use testlib_cases::steps::{BANK, LOAN, NORA, QUARTER, play_with_loan, play_with_mortgage};
-use std::test::Fail;
 
 /// The loan with one cent more.
 const LARGER: RowAsk = Do(Lodge("M1", "Loan 1", Mortgage(9, 4, 2_500_001)));

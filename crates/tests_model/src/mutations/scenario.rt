@@ -3,6 +3,7 @@ use super::{QUARTER_APPROVED, QUARTER_LODGED, UNIT};
 use crate::conclusion::conclude;
 use land_core::kind::Kind::{Mutation, Party, Rrr, Source, Unit};
 use land_core::role::Role::Notary;
+use std::test::Fail;
 use testlib_cases::asked::OFFICE;
 use testlib_cases::asked::RowAct::{Approve, Lodge, Revoke};
 use testlib_cases::asked::RowAsk::{self, Do, List, Sheet, View};
@@ -12,7 +13,6 @@ use testlib_cases::steps::{
     ANNA, BANK, LOAN, NORA, NORA_HERSELF, QUARTER, SAM, SURVEYOR, WHOLE, play_with_garden,
     play_with_mortgage,
 };
-use std::test::Fail;
 
 const LOAN_LODGED: Row = Row(1000, BANK, LOAN, "done 15 made [14, 15] at 1010");
 

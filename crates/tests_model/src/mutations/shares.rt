@@ -3,13 +3,13 @@
 use crate::conclusion::conclude;
 use land_core::kind::Kind::Rrr;
 use land_core::rrr::RightType::{Lease, Ownership};
+use std::test::Fail;
 use testlib_cases::asked::RowAct::{Approve, Lodge, Register};
 use testlib_cases::asked::RowAsk::{Do, List, View};
 use testlib_cases::asked::{OFFICE, Right};
 use testlib_cases::lodged::RowContent::Transfer;
 use testlib_cases::rows::Row;
 use testlib_cases::steps::{NORA, play_with_group, play_with_mortgage};
-use std::test::Fail;
 
 const ANNAS: &[Right] = &[(2, Ownership, 1, 1), (6, Lease, 1, 1)];
 

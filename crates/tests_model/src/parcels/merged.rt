@@ -3,6 +3,7 @@ use super::{ORCHARD_APPROVED, ORCHARD_LODGED, WHOLE};
 use crate::conclusion::conclude;
 use land_core::act::BurdenClass::Restriction;
 use land_core::kind::Kind::{Mutation, Parcel, Rrr, Source, Unit};
+use std::test::Fail;
 use testlib_cases::asked::OFFICE;
 use testlib_cases::asked::RowAct::{Approve, Burden, Lodge};
 use testlib_cases::asked::RowAsk::{self, Do, List, Sheet, View};
@@ -10,7 +11,6 @@ use testlib_cases::lodged::RowContent::Merger;
 use testlib_cases::lodged::RowParcel;
 use testlib_cases::rows::Row;
 use testlib_cases::steps::{BEN, NORA, SURVEYOR, play_with_sale};
-use std::test::Fail;
 
 /// The parcels of the garden and the orchard become one.
 const JOINED: RowAsk = Do(Lodge(

@@ -2,6 +2,7 @@
 use super::{FIRST, LEFT, ORCHARD, ORCHARD_LODGED, RIGHT, WHOLE};
 use crate::conclusion::conclude;
 use land_core::kind::Kind::Parcel;
+use std::test::Fail;
 use testlib_cases::asked::OFFICE;
 use testlib_cases::asked::RowAct::{Approve, Lodge};
 use testlib_cases::asked::RowAsk::{Do, View};
@@ -9,7 +10,6 @@ use testlib_cases::lodged::RowContent::{Merger, Subdivision};
 use testlib_cases::lodged::{RowParcel, RowPart};
 use testlib_cases::rows::Row;
 use testlib_cases::steps::{NORA, SURVEYOR, play_with_sale};
-use std::test::Fail;
 
 /// The right half with a tip: one square millimetre more.
 const DENTED: &str =

@@ -1,13 +1,13 @@
 //! Subdivisions and mergers that are repeated: unchanged, and with another content under the reference.
 use super::{FIRST, LEFT, ORCHARD_APPROVED, ORCHARD_LODGED, RIGHT, WHOLE};
 use crate::conclusion::conclude;
+use std::test::Fail;
 use testlib_cases::asked::RowAct::Lodge;
 use testlib_cases::asked::RowAsk::{self, Do};
 use testlib_cases::lodged::RowContent::{Merger, Subdivision};
 use testlib_cases::lodged::{RowParcel, RowPart};
 use testlib_cases::rows::Row;
 use testlib_cases::steps::{SURVEYOR, play_with_sale};
-use std::test::Fail;
 
 /// The right half from the same point in the opposite direction: the same outline.
 const TURNED: &[RowPart] = &[RowPart(
@@ -66,9 +66,7 @@ const SUBDIVISIONS: &[Row] = &[
 ];
 
 #[test]
-fn a_repeated_subdivision_gets_its_receipt_and_no_other_does(
-    rt: HostRuntime,
-) -> Result<(), Fail> {
+fn a_repeated_subdivision_gets_its_receipt_and_no_other_does(rt: HostRuntime) -> Result<(), Fail> {
     conclude(&rt, play_with_sale(rt.alloc(), SUBDIVISIONS))
 }
 

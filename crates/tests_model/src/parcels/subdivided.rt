@@ -2,6 +2,7 @@
 use super::{FIRST, LEFT, ORCHARD_APPROVED, ORCHARD_LODGED, RIGHT};
 use crate::conclusion::conclude;
 use land_core::kind::Kind::{Mutation, Parcel, Rrr, Source, Unit};
+use std::test::Fail;
 use testlib_cases::asked::OFFICE;
 use testlib_cases::asked::RowAct::{Approve, Lodge};
 use testlib_cases::asked::RowAsk::{self, Do, List, Sheet, View};
@@ -9,7 +10,6 @@ use testlib_cases::lodged::RowContent::Subdivision;
 use testlib_cases::lodged::RowPart;
 use testlib_cases::rows::Row;
 use testlib_cases::steps::{BEN, NORA, SAM, SURVEYOR, play_with_sale};
-use std::test::Fail;
 
 /// The parcel, the unit and the entries of the orchard get the next numbers in this order; the first part
 /// stays in the garden.

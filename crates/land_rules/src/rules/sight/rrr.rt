@@ -41,7 +41,8 @@ pub(crate) fn is_in_sight(at: &Register, caller: Caller, number: u64) -> bool
 }
 
 fn is_visible_to_citizen(at: &Register, caller: Caller, number: u64) -> bool
-    ensures { result ≡ is_rrr_where (is_visible_to_circle at.now (circle_of at.now caller.party)) at.now number }
+    ensures { result ≡ is_rrr_where (is_visible_to_circle at.now (circle_of at.now caller.party)) at.now
+        number }
 {
     at.rrrs
         .get(number)

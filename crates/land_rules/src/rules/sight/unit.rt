@@ -3,7 +3,7 @@ ghost use Rattle.std.specs.Prelude.{◌≡◌};
 ghost use Rattle.land_rules.specs.Rules.{first_denial, is_unit_in_sight, unit_rules};
 
 use crate::circles::is_held_by;
-use crate::relations::{is_creditor_on, has_pending_mutation_on};
+use crate::relations::{has_pending_mutation_on, is_creditor_on};
 use crate::verdict::Verdict;
 use land_core::caller::Caller;
 use land_core::kind::Kind;
@@ -18,7 +18,9 @@ pub(crate) fn verdict(at: &Register, caller: Caller, number: u64) -> Verdict
         Verdict::Denied(11)
     } else if caller.role == Role::Bank && !is_creditor_on(at, caller.party, number) {
         Verdict::Denied(15)
-    } else if caller.role == Role::Conveyancer && !has_pending_mutation_on(at, caller.party, number) {
+    } else if caller.role == Role::Conveyancer
+        && !has_pending_mutation_on(at, caller.party, number)
+    {
         Verdict::Denied(19)
     } else if caller.role == Role::CertifiedSurveyor {
         Verdict::Denied(23)

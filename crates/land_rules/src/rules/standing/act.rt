@@ -2,7 +2,8 @@
 ghost use Rattle.std.specs.Prelude.{◌≡◌};
 ghost use Rattle.land_rules.specs.Acts.{decides, is_between_others, is_discharge_of_another, is_mortgage_of};
 ghost use Rattle.land_rules.specs.Acts.{is_mortgage_of_another, changes_mortgages, is_mandate_act};
-ghost use Rattle.land_rules.specs.Acts.{may_lodge_mortgages, changes_outlines, may_lodge_transfers, is_office_act};
+ghost use Rattle.land_rules.specs.Acts.{may_lodge_mortgages, changes_outlines, may_lodge_transfers};
+ghost use Rattle.land_rules.specs.Acts.{is_office_act};
 ghost use Rattle.land_rules.specs.Acts.{is_transfer, lodges, withdraws};
 ghost use Rattle.land_rules.specs.Relations.{has_lodged, is_rrr_where};
 ghost use Rattle.land_rules.specs.Rules.{first_denial, act_rules};

@@ -35,7 +35,8 @@ pub fn begin<S: Alter>(
     requires has_tables { HasRegisterTables S.Store tx.old.conn.now }
     ensures same_reference { SameReference tx.old tx.new }
     ensures step { InTransaction S.Store result
-        (InsertsVersion mandates (opened_version (record { principal = principal; agent = agent }) since)) tx.old tx.new }
+        (InsertsVersion mandates (opened_version (record { principal = principal; agent = agent }) since))
+        tx.old tx.new }
 {
     tx.execute(
         BEGIN,

@@ -32,7 +32,8 @@ pub fn begin<S: Alter>(
     requires has_tables { HasRegisterTables S.Store tx.old.conn.now }
     ensures same_reference { SameReference tx.old tx.new }
     ensures step { InTransaction S.Store result
-        (InsertsVersion namings (opened_version (record { mutation = mutation; unit = unit }) since)) tx.old tx.new }
+        (InsertsVersion namings (opened_version (record { mutation = mutation; unit = unit }) since)) tx.old
+        tx.new }
 {
     tx.execute(
         BEGIN,

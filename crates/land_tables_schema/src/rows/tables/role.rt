@@ -34,7 +34,8 @@ pub fn begin<S: Alter>(
     requires has_tables { HasRegisterTables S.Store tx.old.conn.now }
     ensures same_reference { SameReference tx.old tx.new }
     ensures step { InTransaction S.Store result
-        (InsertsVersion roles (opened_version (record { party = party; role = role.now }) since)) tx.old tx.new }
+        (InsertsVersion roles (opened_version (record { party = party; role = role.now }) since)) tx.old
+        tx.new }
 {
     tx.execute(BEGIN, &[of_number(party), of_text(role), of_moment(since)])
 }

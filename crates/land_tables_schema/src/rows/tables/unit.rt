@@ -52,7 +52,8 @@ pub fn close<S: Alter>(tx: &mut Transaction<'_, S>, number: u64, stamp: i64) -> 
     requires number_fits { number < 2 ^ 63 }
     requires has_tables { HasRegisterTables S.Store tx.old.conn.now }
     ensures same_reference { SameReference tx.old tx.new }
-    ensures step { InTransaction S.Store result (UpdatesRows units (closed_version (is_unit number) stamp)) tx.old tx.new }
+    ensures step { InTransaction S.Store result (UpdatesRows units (closed_version (is_unit number) stamp))
+        tx.old tx.new }
 {
     tx.execute(CLOSE, &[of_number(number), of_moment(stamp)])
 }
