@@ -35,7 +35,7 @@ use Rattle.sqlite.specs.State.{HasCleanDisk, State}
 pub no_look_needed : {X E : Type 0} (x : X) (Given : X → Type 0) (a : State) → (HasCleanDisk a → IsTrue a.is_open) → Given x → IsStoreRead {X = X} {E = E} (Ok x) Given a a
 no_look_needed x Given a is_open given = record {
   given = λ _. given;
-  same = λ clean. (record { was_open = is_open clean; is_open = is_open clean; now_is = refl; committed_is = refl; autocommit = refl }, record { changes = refl; last_rowid = refl }, refl);
+  same = λ clean. (record { was_open = is_open clean; is_open = is_open clean; now_is = refl; committed_is = refl; mode = refl }, record { changes = refl; last_rowid = refl }, refl);
   left = λ _. tt;
   survives = record { clean = omega arith; shield = λ x. x; counts = omega arith; limit = refl; closes = λ _ t. inl t; crash = λ _ _ x. inl x };
 }

@@ -16,7 +16,7 @@ unchanged_then a b c h k = (
     is_open = k.0.is_open;
     now_is = k.0.now_is ∙ h.0.now_is;
     committed_is = k.0.committed_is ∙ h.0.committed_is;
-    autocommit = k.0.autocommit ∙ h.0.autocommit;
+    mode = k.0.mode ∙ h.0.mode;
   },
   record { changes = k.1.changes ∙ h.1.changes; last_rowid = k.1.last_rowid ∙ h.1.last_rowid },
   k.2 ∙ h.2,
@@ -40,7 +40,7 @@ left_then a b c h k = record {
 pub no_look : {X E : Type 0} (x : X) (Given : X → Type 0) (a : State) → IsTrue a.is_open → (HasCleanDisk a → Given x) → IsStoreRead {X = X} {E = E} (Ok x) Given a a
 no_look x Given a is_open given = record {
   given = given;
-  same = λ _. (record { was_open = is_open; is_open = is_open; now_is = refl; committed_is = refl; autocommit = refl }, record { changes = refl; last_rowid = refl }, refl);
+  same = λ _. (record { was_open = is_open; is_open = is_open; now_is = refl; committed_is = refl; mode = refl }, record { changes = refl; last_rowid = refl }, refl);
   left = λ _. tt;
   survives = record { clean = omega arith; shield = λ x. x; counts = omega arith; limit = refl; closes = λ _ t. inl t; crash = λ _ _ x. inl x };
 }

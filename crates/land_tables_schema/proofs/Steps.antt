@@ -88,7 +88,7 @@ module _ {S : Type 0} (g : Ghosts S) (old new : Held S) (sql : List ℕ) (params
 
   mode_inside : (b : Bool) → (state g old).in_transaction ≡ b → (r : Result ℕ Error) → IsRefused r → Runs r → OnOk r ((state g new).in_transaction ≡ (state g old).in_transaction)
   mode_inside b is (Err f) none runs = tt
-  mode_inside true is (Ok count) none runs = (runs (rw is refl)).1.autocommit ∙ sym is
+  mode_inside true is (Ok count) none runs = (runs (rw is refl)).1.mode ∙ sym is
   mode_inside false is (Ok count) none runs = absurd (let refused = (none is).0 in cc)
 
   keeps_inside : (b : Bool) → (state g old).in_transaction ≡ b → (r : Result ℕ Error) → IsRefused r → Runs r → KeepsCommit (state g old) (state g new)
