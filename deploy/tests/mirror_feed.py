@@ -120,6 +120,7 @@ def test_one_feed(folder, server):
     file = make(folder, server, "twice")
     first = start_feed(folder, server, "twice", file)
     try:
+        wait_for(lambda: state(server, "twice"))        # the first feed has the lock
         check("a second feed is refused", wait_for(lambda: "another feed" in feed_once(folder, server, "twice", file).stderr, 20))
     finally:
         first.kill()

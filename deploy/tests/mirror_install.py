@@ -10,6 +10,8 @@ from stack import TOP, Missing, program
 from systemd_host import SystemdHost
 
 POSTGRES = ["postgresql.service", "postgresql@.service"]
+PACKAGE = ["land@.service", "land-queue.service", "land-backup@.service", "land-backup@.timer", "land-alert@.service", "land-mirror@.service",
+           "land-mirror-read@.service"]
 # The register, as DEPLOY.md installs it, without nginx.
 REGISTER = """set -e
 cp deploy/unit/*.service deploy/unit/*.timer /etc/systemd/system
@@ -36,7 +38,9 @@ def commands():
     with open(os.path.join(TOP, "docs", "MIRROR.md"), encoding="utf-8") as source:
         part = re.search(r"(?ms)^## Installation\n(.*?)^## ", source.read())[1]
     text = "\n".join(re.findall(r"(?m)^    (.*)", part)).replace("\\\n", " ")
-    return [line for line in text.split("\n") if not line.startswith("apt-get ")]
+    lines = text.split("\n")
+    by_hand = next(at for at, line in enumerate(lines) if line.startswith("apt-get "))
+    return lines[by_hand + 1 :]
 
 
 def wait(test, seconds=30):
@@ -50,8 +54,8 @@ def wait(test, seconds=30):
 
 
 class Host:
-    def __init__(self, host):
-        self.host = host
+    def __init__(self, host, by_queue=False):
+        self.host, self.by_queue = host, by_queue
 
     def shell(self, text):
         return self.host.run("bash", "-c", text, stdin=subprocess.DEVNULL)
@@ -60,11 +64,13 @@ class Host:
         return self.shell(text).stdout.strip()
 
     def act(self, name):
-        """Enrols a person at the register, from inside its network."""
-        pid = self.output("systemctl show -P MainPID land@north")
+        """Enrols a person, by the queue or at the register from inside its network."""
+        way = "curl --unix-socket /run/land/queue.sock"
+        if not self.by_queue:
+            way = f"nsenter --target {self.output('systemctl show -P MainPID land@north')} --net curl"
         body = json.dumps({"kind": "naturalPerson", "name": name})
-        return json.loads(self.output(f"nsenter --target {pid} --net curl -s -m 10 -H 'Register-Party: 1' "
-                                      f"-H 'Register-Role: stateAdministrator' --data '{body}' http://127.0.0.1:8080/acts/enrol") or "{}")
+        return json.loads(self.output(f"{way} -s -m 20 -H 'Register-Party: 1' -H 'Register-Role: stateAdministrator' --data '{body}' "
+                                      "http://127.0.0.1:8080/acts/enrol") or "{}")
 
     def read(self, target):
         return self.output(f"{READ} 'http://x{target}'")
@@ -117,6 +123,46 @@ def check_stop(it):
              "'host=/run/postgresql user=postgres' north && systemctl reset-failed land-mirror@north && systemctl start land-mirror@north")
     check("after a rebuild it answers", wait(lambda: '"name": "Carla"' in it.read("/mirror/search/parties?q=carla")),
           it.output("journalctl -u land-mirror@north -n 5 -o cat --no-pager"))
+
+
+def run_package(folder, *_):
+    """Installs the package and runs land-setup --mirror, twice."""
+    try:
+        container = SystemdHost(program(), units=POSTGRES + PACKAGE)
+    except Missing as missing:
+        return note(f"not tested, missing: {missing}")
+    built = subprocess.run([os.path.join(TOP, "deploy", "debian", "build"), "--output", folder.scratch], capture_output=True, text=True,
+                           env=os.environ | {"LAND": program()})
+    if not check("the package is built", built.returncode == 0, built.stderr):
+        return
+    with container as host, open(built.stdout.strip(), "rb") as source:
+        it = Host(host, by_queue=True)
+        subprocess.run(["nsenter", "--target", str(host.first), "--all", "--", "sh", "-c", "cat > /root/land.deb"], stdin=source, check=True)
+        ran = it.shell("rm -f /usr/sbin/policy-rc.d; dpkg --install --force-depends /root/land.deb && systemctl start postgresql@15-main postgresql")
+        check("installation of the package", ran.returncode == 0, ran.stdout + ran.stderr)
+        ran = it.shell("mv /usr/bin/pg_lsclusters /root; ln -s /bin/true /usr/bin/pg_lsclusters; "
+                       "land-setup north land.example.org --mirror --no-prompt; mv -f /root/pg_lsclusters /usr/bin")
+        check("without a cluster it says what to do", "no PostgreSQL cluster" in ran.stderr and "without a mirror" in ran.stderr, ran.stderr)
+        for turn in ("land-setup --mirror", "land-setup --mirror, again"):
+            ran = it.shell("land-setup north land.example.org --mirror --no-prompt")
+            if not check(turn, ran.returncode == 0 and "answers at /mirror/" in ran.stdout, ran.stdout + ran.stderr):
+                return
+        check("it names no step that is done", "--mirror" not in ran.stdout, ran.stdout)
+        hba = it.output("grep -c map=land /etc/postgresql/15/main/pg_hba.conf")
+        check("a repetition adds no line", hba == "1", hba)
+        check_units(it)
+        check_restarts(it)
+        password = it.output("openssl passwd -6 secret")
+        it.shell(f"sed -i 's|^user office 1 .*|user office 1 {password}|' /etc/land/users.list; land-make-users /etc/land/users.list /etc/land; "
+                 "systemctl reload nginx; sleep 1")
+        reply = it.output("curl -sk -m 20 --resolve land.example.org:443:127.0.0.1 -u office:secret -H 'Register-Role: stateAdministrator' "
+                          "'https://land.example.org/mirror/search/parties?q=carla'")
+        check("a signed-in user searches through the site", '"name": "Carla"' in reply, reply)
+        ran = it.shell("dpkg --remove land; systemctl is-active land-mirror@north land-mirror-read@north land@north")
+        check("a removal stops the mirror", "\nactive" not in "\n" + ran.stdout.split("Removing")[-1], ran.stdout)
+        ran = it.shell("dpkg --purge land; ls /etc/land/mirror-north.conf /etc/systemd/system/land@.service.d")
+        check("a purge keeps the database and removes the configuration", "kept the database north" in ran.stdout and ran.returncode != 0,
+              ran.stdout + ran.stderr)
 
 
 def run(*_):
