@@ -277,7 +277,7 @@ fn after_move(
         ≡ after (record (move_change slice.now 0 it.now from.now) { next = slice.now.next }) slice.now) }
 {
     let change = change_of_entries(alloc, slice, 0, it, from)?;
-    slice.changed(alloc, &change)
+    slice.with_change(alloc, &change)
 }
 
 /// Returns whether the shares of a type in a unit have no common denominator up to 1,000,000,000.
