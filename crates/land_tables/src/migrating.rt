@@ -16,7 +16,7 @@ use crate::opening::open_v1_store;
 use crate::timelines::laws::{histories_represent_one_timeline, order_does_not_matter};
 use land_keep::store_fault::StoreFault;
 use land_tables_history::moment::Moment;
-use land_tables_rows::committing::laws::migrated_registers_are_held;
+use land_tables_rows::writing::laws::migrated_registers_are_held;
 use land_tables_rows::listing::fault::ReadFault;
 use land_tables_schema::rows::schema_migration::migrate_register;
 use land_tables_schema::schema_v1::can_migrate;

@@ -57,7 +57,7 @@ impl<L: Connections + Drop> Host for MemoryHost<L> {
     }
 
     fn listen(&mut self, _port: u16) -> io::Result<L> {
-        match self.visits.run_step() {
+        match self.visits.take() {
             Some(visits) => Ok(visits),
             None => Err(io::Error::from(io::ErrorKind::AddrInUse)),
         }

@@ -40,7 +40,7 @@ fn serve_stream<K: Keeper>(
     talk: &Transcript,
     told: &mut Sink,
 ) -> Result<Served, DeskFault> {
-    told.adopt_or_stop.clear();
+    told.taken.clear();
     let mut reader = ChunkReader {
         left: &talk.input,
         piece: 4096,
@@ -56,14 +56,14 @@ fn has_replies(serve_stream: &Result<Served, DeskFault>, replies: u64) -> bool {
 }
 
 /// Whether the change got its own reply, followed by the reply of a failed store.
-fn is_done_then_failed(talk: &Transcript, adopt_or_stop: &[u8]) -> bool {
+fn is_done_then_failed(talk: &Transcript, written: &[u8]) -> bool {
     let Some(mark) = talk.marks.first() else {
         return false;
     };
     if talk.output.len() < mark.told {
         return false;
     }
-    match adopt_or_stop.strip_prefix(&talk.output.as_bytes()[..mark.told]) {
+    match written.strip_prefix(&talk.output.as_bytes()[..mark.told]) {
         Some(rest) => rest == FAILED,
         None => false,
     }
@@ -73,18 +73,18 @@ fn is_done_then_failed(talk: &Transcript, adopt_or_stop: &[u8]) -> bool {
 fn ending_of(
     talk: &Transcript,
     serve_stream: &Result<Served, DeskFault>,
-    adopt_or_stop: &[u8],
+    written: &[u8],
 ) -> Ending {
-    if adopt_or_stop == talk.output.as_bytes() && has_replies(serve_stream, 2) {
+    if written == talk.output.as_bytes() && has_replies(serve_stream, 2) {
         return Ending::ExpectedReply;
     }
-    if adopt_or_stop == FAILED && has_replies(serve_stream, 1) {
+    if written == FAILED && has_replies(serve_stream, 1) {
         return Ending::Failed;
     }
-    if is_done_then_failed(talk, adopt_or_stop) && has_replies(serve_stream, 2) {
+    if is_done_then_failed(talk, written) && has_replies(serve_stream, 2) {
         return Ending::Done;
     }
-    if adopt_or_stop.ends_with(NO_ROOM) || *serve_stream == Err(DeskFault::NoMemory) {
+    if written.ends_with(NO_ROOM) || *serve_stream == Err(DeskFault::NoMemory) {
         return Ending::AllocFailed;
     }
     Ending::Other
@@ -93,13 +93,13 @@ fn ending_of(
 /// Whether a keeper is closed, and the next request gets 503, after which the connection closes.
 fn is_closed<K: Keeper>(alloc: Global, keeper: &mut K, talk: &Transcript, told: &mut Sink) -> bool {
     let outcome = serve_stream(alloc, keeper, talk, told);
-    keeper.is_closed() && told.adopt_or_stop.as_slice() == CLOSED && has_replies(&outcome, 1)
+    keeper.is_closed() && told.taken.as_slice() == CLOSED && has_replies(&outcome, 1)
 }
 
 /// Sends a change and a read as one stream, and again if the store fails.
 pub fn ask<K: Keeper>(alloc: Global, keeper: &mut K, talk: &Transcript, told: &mut Sink) -> Ending {
     let outcome = serve_stream(alloc, keeper, talk, told);
-    let ending = ending_of(talk, &outcome, &told.adopt_or_stop);
+    let ending = ending_of(talk, &outcome, &told.taken);
     let is_well = match ending {
         Ending::Failed | Ending::Done => is_closed(alloc, keeper, talk, told),
         Ending::ExpectedReply => !keeper.is_closed(),
