@@ -21,6 +21,6 @@ are_apart-requires c =
 
 pub returns : goal.returns
 returns c =
-    subst (λ (b : Bool). (b ≡ true) ↔ Never has_clash c.args.moments.now c.args.history.now) (sym c.are_apart.ensures.key_pairs)
+    subst (λ (b : Bool). (b ≡ true) ↔ Never has_clash c.args.moments.now c.args.history.now) (sym c.are_apart.ensures.pairs)
     (entries_apart c.args.moments.now c.args.history.now c.requires c.in_ok-spans.spans.items
     (c.in_ok-spans.ensures ∙ ap (spans_where (λ e. place_of e.1)) c.as_slice.ensures))

@@ -12,6 +12,6 @@ are_apart-requires c =
 
 pub returns : goal.returns
 returns c =
-    subst (λ (b : Bool). (b ≡ true) ↔ Never has_reused_reference c.args.moments.now c.args.history.now) (sym c.are_apart.ensures.key_pairs)
+    subst (λ (b : Bool). (b ≡ true) ↔ Never has_reused_reference c.args.moments.now c.args.history.now) (sym c.are_apart.ensures.pairs)
     (references_apart c.args.moments.now c.args.history.now c.requires c.in_ok-spans.spans.items
     (c.in_ok-spans.ensures ∙ ap (map_list lodged) c.as_slice.ensures))
