@@ -10,7 +10,7 @@ use Rattle.sqlite.specs.Effect.{Database}
 use Rattle.sqlite.specs.Held.{state}
 use Rattle.land_select.proofs.slices.slice.read_parties.Goals as goal
 
-pub returns-clause-reads_only : goal.returns-clause-look
+pub returns-clause-reads_only : goal.returns-clause-reads_only
 returns-clause-reads_only g c =
     let a = state g.S.Store c.args.conn.now in
     let t = c.args.at in

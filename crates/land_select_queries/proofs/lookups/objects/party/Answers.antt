@@ -15,7 +15,7 @@ pub returns-in_err-known-clause-unreadable : goal.returns-in_err-known-clause-un
 returns-in_err-known-clause-unreadable g c clean =
     none_held (state g.S.Store c.args.conn.now).now.trees c.from_residual.result c.in_err-known.field-0.0 c.from_residual.ensures.1 (c.in_err-known.ensures.unreadable clean)
 
-pub returns-in-Some-clause-reads_only : goal.returns-in-Some-clause-look
+pub returns-in-Some-clause-reads_only : goal.returns-in-Some-clause-reads_only
 returns-in-Some-clause-reads_only g c =
     let a = state g.S.Store c.args.conn.now in
     let n = c.args.number in
@@ -32,7 +32,7 @@ returns-in-Some-clause-unreadable g c clean =
     none_after (state g.S.Store c.args.conn.now) (state g.S.Store c.record.new.conn) (state g.S.Store c.party_with.new.conn) c.party_with.result c.party_with.result c.in_ok-known.ensures.reads_only c.party_with.ensures.reads_only clean
     (c.party_with.ensures.unreadable clean)
 
-pub returns-in-None-clause-reads_only : goal.returns-in-None-clause-look
+pub returns-in-None-clause-reads_only : goal.returns-in-None-clause-reads_only
 returns-in-None-clause-reads_only g c =
     let t = c.args.at in
     let when : to_z w64 (of_z w64 t) ≡ t = search rules in

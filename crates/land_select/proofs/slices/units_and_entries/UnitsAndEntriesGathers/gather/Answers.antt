@@ -6,7 +6,7 @@ use Rattle.sqlite.specs.Effect.{Database}
 use Rattle.sqlite.specs.Held.{state}
 use Rattle.land_select.proofs.slices.units_and_entries.UnitsAndEntriesGathers.gather.Goals as goal
 
-pub returns-clause-reads_only : goal.returns-clause-look
+pub returns-clause-reads_only : goal.returns-clause-reads_only
 returns-clause-reads_only g c =
     let a = state g.S.Store c.args.conn.now in
     let n = c.args.number in
