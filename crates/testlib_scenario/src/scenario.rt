@@ -8,7 +8,7 @@ pub const MORTGAGE: &[u8] =
 
 /// The transfer of Anna's quarter to the group.
 pub const QUARTER: &[u8] =
-    br#"{"reference":"T1","document":"FileCommand 2","unit":9,"right":11,"receiver":7,"share":"1/4"}"#;
+    br#"{"reference":"T1","document":"Deed 2","unit":9,"right":11,"receiver":7,"share":"1/4"}"#;
 
 /// The steps. Party 2 is Anna, 3 Ben, 4 the bank, 5 Nora, a notary, 6 Sam, a surveyor, and 7 Anna and Ben as
 /// a group. Unit 9 is the garden, parcel 10 its ground. Anna has a quarter by right 11, the group three by

@@ -24,7 +24,7 @@ struct Place(&'static str, &'static str);
 
 /// A command on a file.
 #[derive(Clone, Copy)]
-enum FileCommand {
+enum Deed {
     /// Creates a register.
     New,
     /// Checks the register.
@@ -39,7 +39,7 @@ enum FileCommand {
 
 /// A command on a file, with its exit status, its output, and its error output.
 #[derive(Clone, Copy)]
-struct Step(FileCommand, u8, &'static str, &'static str);
+struct Step(Deed, u8, &'static str, &'static str);
 
 /// The output of a check of a new register.
 const NEW_IS_SOUND: &str = "sound: last 0, next 2\n";
@@ -58,17 +58,17 @@ const NOT_OURS: &str = "land: fault 520\n";
 const OTHER_VERSION: &str = "land: fault 523\n";
 
 /// Returns the command line of a command.
-fn command(deed: FileCommand, file: &'static str) -> Command<'static> {
+fn command(deed: Deed, file: &'static str) -> Command<'static> {
     match deed {
-        FileCommand::New => Command::New { file },
-        FileCommand::Check => Command::Check { file },
-        FileCommand::Migrate => Command::Migrate { file },
-        FileCommand::Serve(port) => Command::Serve {
+        Deed::New => Command::New { file },
+        Deed::Check => Command::Check { file },
+        Deed::Migrate => Command::Migrate { file },
+        Deed::Serve(port) => Command::Serve {
             file,
             port,
             connections: 1,
         },
-        FileCommand::Extract(party, role, at) => Command::Extract {
+        Deed::Extract(party, role, at) => Command::Extract {
             file,
             clock: 1000,
             caller: Caller { party, role },
@@ -208,10 +208,10 @@ const NEW: Place = Place("land_new.land", "land_new.land-wal");
 
 /// A register is created only once.
 const MADE: &[Step] = &[
-    Step(FileCommand::New, 0, "", ""),
-    Step(FileCommand::Check, 0, NEW_IS_SOUND, ""),
-    Step(FileCommand::New, 1, "", HAS_TABLES),
-    Step(FileCommand::Check, 0, NEW_IS_SOUND, ""),
+    Step(Deed::New, 0, "", ""),
+    Step(Deed::Check, 0, NEW_IS_SOUND, ""),
+    Step(Deed::New, 1, "", HAS_TABLES),
+    Step(Deed::Check, 0, NEW_IS_SOUND, ""),
 ];
 
 /// Checks that a created register is sound, and is not created again.
@@ -290,22 +290,22 @@ const NO_ENTRIES: &str = "number,unit,party,name,class,share,amount,currency,ran
 
 /// Last stamp, next number and extracts after the scenario.
 const AFTER_STEPS: &[Step] = &[
-    Step(FileCommand::Check, 0, "sound: last 1017, next 30\n", ""),
-    Step(FileCommand::Extract(3, Role::Citizen, None), 0, ENTRIES, ""),
+    Step(Deed::Check, 0, "sound: last 1017, next 30\n", ""),
+    Step(Deed::Extract(3, Role::Citizen, None), 0, ENTRIES, ""),
     Step(
-        FileCommand::Extract(6, Role::CertifiedSurveyor, None),
+        Deed::Extract(6, Role::CertifiedSurveyor, None),
         0,
         NO_ENTRIES,
         "",
     ),
     Step(
-        FileCommand::Extract(3, Role::Citizen, Some(1018)),
+        Deed::Extract(3, Role::Citizen, Some(1018)),
         1,
         "",
         "land: fault 135\n",
     ),
     Step(
-        FileCommand::Extract(9, Role::Citizen, None),
+        Deed::Extract(9, Role::Citizen, None),
         1,
         "",
         "land: denied 1\n",
@@ -338,17 +338,17 @@ fn play_v1<H: Host>(rt: &HostRuntime, host: &mut H) -> Result<(), Stop> {
 
 /// A register of schema version 1 is migrated once, and then has version 2.
 const MIGRATED: &[Step] = &[
-    Step(FileCommand::Check, 1, "", OTHER_VERSION),
+    Step(Deed::Check, 1, "", OTHER_VERSION),
     Step(
-        FileCommand::Migrate,
+        Deed::Migrate,
         0,
         "migrated: last 1017, next 30\n",
         "",
     ),
-    Step(FileCommand::Check, 0, "sound: last 1017, next 30\n", ""),
-    Step(FileCommand::Migrate, 1, "", OTHER_VERSION),
-    Step(FileCommand::Check, 0, "sound: last 1017, next 30\n", ""),
-    Step(FileCommand::Extract(3, Role::Citizen, None), 0, ENTRIES, ""),
+    Step(Deed::Check, 0, "sound: last 1017, next 30\n", ""),
+    Step(Deed::Migrate, 1, "", OTHER_VERSION),
+    Step(Deed::Check, 0, "sound: last 1017, next 30\n", ""),
+    Step(Deed::Extract(3, Role::Citizen, None), 0, ENTRIES, ""),
 ];
 
 /// Checks that only a register of schema version 1 is migrated.
@@ -368,11 +368,11 @@ const MISSING: Place = Place("land_missing.land", "land_missing.land-wal");
 
 /// No register is opened if the file cannot be opened.
 const CANNOT_BE_OPENED: &[Step] = &[
-    Step(FileCommand::Check, 1, "", CANNOT_OPEN),
-    Step(FileCommand::Migrate, 1, "", CANNOT_OPEN),
-    Step(FileCommand::Serve(1), 1, "", CANNOT_OPEN),
+    Step(Deed::Check, 1, "", CANNOT_OPEN),
+    Step(Deed::Migrate, 1, "", CANNOT_OPEN),
+    Step(Deed::Serve(1), 1, "", CANNOT_OPEN),
     Step(
-        FileCommand::Extract(1, Role::Citizen, None),
+        Deed::Extract(1, Role::Citizen, None),
         1,
         "",
         CANNOT_OPEN,
@@ -380,7 +380,7 @@ const CANNOT_BE_OPENED: &[Step] = &[
 ];
 
 /// And none is created.
-const CANNOT_BE_CREATED: &[Step] = &[Step(FileCommand::New, 1, "", CANNOT_OPEN)];
+const CANNOT_BE_CREATED: &[Step] = &[Step(Deed::New, 1, "", CANNOT_OPEN)];
 
 /// Checks that no command creates a missing file.
 fn check_missing<H: Host>(rt: &HostRuntime, host: &mut H) -> Result<(), Stop> {
@@ -417,9 +417,9 @@ const EMPTY: Place = Place("land_empty.land", "land_empty.land-wal");
 
 /// A file without the tables of a register.
 const UNOWNED: &[Step] = &[
-    Step(FileCommand::Check, 1, "", NOT_OURS),
-    Step(FileCommand::Migrate, 1, "", NOT_OURS),
-    Step(FileCommand::Serve(1), 1, "", NOT_OURS),
+    Step(Deed::Check, 1, "", NOT_OURS),
+    Step(Deed::Migrate, 1, "", NOT_OURS),
+    Step(Deed::Serve(1), 1, "", NOT_OURS),
 ];
 
 /// Checks that an empty file is not a register and stays empty, until one is created in it.
@@ -472,7 +472,7 @@ fn make_foreign<H: Host>(rt: &HostRuntime, host: &mut H) -> Result<(), Stop> {
 }
 
 /// No register is created in it.
-const OWNED_ELSEWHERE: &[Step] = &[Step(FileCommand::New, 1, "", HAS_TABLES)];
+const OWNED_ELSEWHERE: &[Step] = &[Step(Deed::New, 1, "", HAS_TABLES)];
 
 /// Checks that a store of another application is not a register, and no register is created in it.
 fn check_foreign<H: Host>(rt: &HostRuntime, host: &mut H) -> Result<(), Stop> {
@@ -500,7 +500,7 @@ fn run_steps_while_open<H: Host>(host: &mut H, tables: Tables<H::Store>) -> Resu
 }
 
 /// After closing, the register is unchanged.
-const CLOSED_AGAIN: &[Step] = &[Step(FileCommand::Check, 0, NEW_IS_SOUND, "")];
+const CLOSED_AGAIN: &[Step] = &[Step(Deed::Check, 0, NEW_IS_SOUND, "")];
 
 /// Checks that a file that is open elsewhere is rejected until it is closed.
 fn check_open_elsewhere<H: Host>(rt: &HostRuntime, host: &mut H) -> Result<(), Stop> {
@@ -521,12 +521,12 @@ const TAKEN: Place = Place("land_taken.land", "land_taken.land-wal");
 /// Checks that a register cannot be served on a port in use.
 fn serve_on<H: Host>(rt: &HostRuntime, host: &mut H, port: u16) -> Result<(), Stop> {
     delete_files(rt, TAKEN);
-    run_step(host, TAKEN.0, 0, Step(FileCommand::New, 0, "", ""))?;
+    run_step(host, TAKEN.0, 0, Step(Deed::New, 0, "", ""))?;
     run_step(
         host,
         TAKEN.0,
         1,
-        Step(FileCommand::Serve(port), 1, "", CANNOT_LISTEN),
+        Step(Deed::Serve(port), 1, "", CANNOT_LISTEN),
     )?;
     delete_files(rt, TAKEN);
     Ok(())

@@ -40,7 +40,7 @@ const FIRST_CITIZEN: &[Row] = &[
         OFFICE,
         b"",
         Shown(
-            r#"{"object":{"kind":"nonNaturalPerson","members":[],"name":"Schemas Office","number":1,"roles":["stateAdministrator"]}}"#,
+            r#"{"object":{"kind":"nonNaturalPerson","members":[],"name":"Land Office","number":1,"roles":["stateAdministrator"]}}"#,
         ),
     ),
 ];

@@ -138,7 +138,7 @@ const SEEN_FROM_ANOTHER_UNIT: &[Row] = &[
     Row(
         "POST /acts/transfer",
         NOTARY,
-        br#"{"reference":"T3","document":"FileCommand 4","unit":25,"right":29,"receiver":2,"share":"1/1"}"#,
+        br#"{"reference":"T3","document":"Deed 4","unit":25,"right":29,"receiver":2,"share":"1/1"}"#,
         Shown(r#"{"made":[30,31],"number":31,"stamp":1018}"#),
     ),
     Row(

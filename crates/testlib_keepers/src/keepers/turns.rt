@@ -57,7 +57,7 @@ const OUTLINES: &[Row] = &[
     Row(
         "POST /acts/register",
         OFFICE,
-        br#"{"name":"Strips","checked":false,"document":"FileCommand","parcels":[{"label":"a","outline":"polygon((0.0 0, 10000 0,10000 10000, 0 10000, 0 0))"},{"label":"b","outline":"POLYGON ((0 0, 1 0, 0 1, 0 0))"},{"label":"c","outline":"POLYGON ((0 0, 0 10, 10 10, 10 0, 0 0))"}],"rights":[{"party":2,"type":"ownership","share":"2/2000000000"}]}"#,
+        br#"{"name":"Strips","checked":false,"document":"Deed","parcels":[{"label":"a","outline":"polygon((0.0 0, 10000 0,10000 10000, 0 10000, 0 0))"},{"label":"b","outline":"POLYGON ((0 0, 1 0, 0 1, 0 0))"},{"label":"c","outline":"POLYGON ((0 0, 0 10, 10 10, 10 0, 0 0))"}],"rights":[{"party":2,"type":"ownership","share":"2/2000000000"}]}"#,
         Shown(r#"{"made":[3,4,5,6,7,8],"number":4,"stamp":1001}"#),
     ),
     Row(
@@ -99,7 +99,7 @@ const ENTRIES: &[Row] = &[
     Row(
         "POST /acts/register",
         OFFICE,
-        br#"{"name":"Field","checked":false,"document":"FileCommand","parcels":[{"label":"1","outline":"POLYGON ((0 0, 1 0, 0 1, 0 0))"}],"rights":[{"party":2,"type":"ownership","share":"1/1"},{"party":3,"type":"usufruct","share":"1/2"}]}"#,
+        br#"{"name":"Field","checked":false,"document":"Deed","parcels":[{"label":"1","outline":"POLYGON ((0 0, 1 0, 0 1, 0 0))"}],"rights":[{"party":2,"type":"ownership","share":"1/1"},{"party":3,"type":"usufruct","share":"1/2"}]}"#,
         Shown(r#"{"made":[5,6,7,8,9],"number":6,"stamp":1004}"#),
     ),
     Row(
@@ -124,7 +124,7 @@ const ENTRIES: &[Row] = &[
         "GET /sources/5",
         OFFICE,
         b"",
-        Shown(r#"{"object":{"kind":"administrative","number":5,"title":"FileCommand"}}"#),
+        Shown(r#"{"object":{"kind":"administrative","number":5,"title":"Deed"}}"#),
     ),
     Row(
         "GET /rrrs/9",
@@ -346,7 +346,7 @@ const PART_OF_A_RIGHT: &[Row] = &[
     Row(
         "POST /acts/transfer",
         NOTARY,
-        br#"{"reference":"P1","document":"FileCommand","unit":9,"right":12,"receiver":2,"share":"1/4"}"#,
+        br#"{"reference":"P1","document":"Deed","unit":9,"right":12,"receiver":2,"share":"1/4"}"#,
         Shown(r#"{"made":[17,18],"number":18,"stamp":1012}"#),
     ),
     Row(
@@ -386,7 +386,7 @@ const BECOMES_CONVEYANCER: Row = Row(
 const CONVEYED: Row = Row(
     "POST /acts/transfer",
     CONVEYANCER,
-    br#"{"reference":"C1","document":"FileCommand 2","unit":9,"right":11,"receiver":7,"share":"1/4"}"#,
+    br#"{"reference":"C1","document":"Deed 2","unit":9,"right":11,"receiver":7,"share":"1/4"}"#,
     Shown(r#"{"made":[17,18],"number":18,"stamp":1013}"#),
 );
 
@@ -443,7 +443,7 @@ const CONVEYANCE: &[Row] = &[
     Row(
         "POST /acts/transfer",
         CONVEYANCER,
-        br#"{"reference":"C2","document":"FileCommand 3","unit":77,"right":11,"receiver":7,"share":"1/4"}"#,
+        br#"{"reference":"C2","document":"Deed 3","unit":77,"right":11,"receiver":7,"share":"1/4"}"#,
         Shown(r#"{"made":[19,20],"number":20,"stamp":1015}"#),
     ),
     Row("GET /units/77", CONVEYANCER, b"", Denied(27)),
@@ -485,7 +485,7 @@ const SHARE_TOO_LARGE: &[Row] = &[
     Row(
         "POST /acts/transfer",
         NOTARY,
-        br#"{"reference":"T0","document":"FileCommand 2","unit":9,"right":11,"receiver":7,"share":"1/2"}"#,
+        br#"{"reference":"T0","document":"Deed 2","unit":9,"right":11,"receiver":7,"share":"1/2"}"#,
         Shown(r#"{"made":[17,18],"number":18,"stamp":1012}"#),
     ),
     Row(

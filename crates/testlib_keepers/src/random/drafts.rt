@@ -65,13 +65,13 @@ pub const DRAFTS: &[Draft] = &[
         11,
         "POST /acts/register",
         OFFICE,
-        r#"{"name":"Unit ;","checked":true,"document":"FileCommand","parcels":[{"label":"a","outline":"POLYGON ((0 0, 1024 0, 1024 10000, 0 10000, 0 0))"}],"rights":[{"party":@,"type":"ownership","share":"1/2"},{"party":&,"type":"ownership","share":"1/*"},{"party":7,"type":"lease","share":"1/1"}]}"#,
+        r#"{"name":"Unit ;","checked":true,"document":"Deed","parcels":[{"label":"a","outline":"POLYGON ((0 0, 1024 0, 1024 10000, 0 10000, 0 0))"}],"rights":[{"party":@,"type":"ownership","share":"1/2"},{"party":&,"type":"ownership","share":"1/*"},{"party":7,"type":"lease","share":"1/1"}]}"#,
     ),
     Draft(
         12,
         "POST /acts/register",
         OFFICE,
-        r#"{"name":"Unit ;","checked":false,"document":"FileCommand","parcels":[{"label":"a","outline":"POLYGON ((0 0, 1024 0, 1024 10000, 0 10000, 0 0))"}],"rights":[{"party":@,"type":"ownership","share":"1/*"},{"party":&,"type":"usufruct","share":"1/*"}]}"#,
+        r#"{"name":"Unit ;","checked":false,"document":"Deed","parcels":[{"label":"a","outline":"POLYGON ((0 0, 1024 0, 1024 10000, 0 10000, 0 0))"}],"rights":[{"party":@,"type":"ownership","share":"1/*"},{"party":&,"type":"usufruct","share":"1/*"}]}"#,
     ),
     Draft(
         13,
@@ -86,13 +86,13 @@ pub const DRAFTS: &[Draft] = &[
         25,
         "POST /acts/transfer",
         NOTARY,
-        r#"{"reference":"R;","document":"FileCommand","unit":~,"right":$,"receiver":@,"share":"1/*"}"#,
+        r#"{"reference":"R;","document":"Deed","unit":~,"right":$,"receiver":@,"share":"1/*"}"#,
     ),
     Draft(
         28,
         "POST /acts/transfer",
         CONVEYANCER,
-        r#"{"reference":"R;","document":"FileCommand","unit":~,"right":$,"receiver":@,"share":"1/*"}"#,
+        r#"{"reference":"R;","document":"Deed","unit":~,"right":$,"receiver":@,"share":"1/*"}"#,
     ),
     Draft(
         31,
