@@ -61,18 +61,18 @@ PARTS = {
 }
 # Functions that are measured with all that they call, including memory.
 INCLUSIVE = {
-    "of it: reading the header section, its fields and the route": "land_desk::turn::request_at",
-    "of it: body and header section of the reply": "land_desk::exchange::answered",
+    "of it: reading the header section, its fields and the route": "land_desk::next_item::parse_first",
+    "of it: body and header section of the reply": "land_desk::handler::try_respond",
 }
 # The parts of an opening, each with the prefixes of the names of its functions.
 OPENING = {
     "the kit opens the file and checks its pages and trees": "sqlite::file",
     "the kit checks each row against its keys and indexes": "sqlite::connection::Connection::over",
     "the kit lists rows and rowids": "sqlite::connection::Connection::query_all",
-    "decoding rows": "land_tables::shaped land_tables_rows",
+    "decoding rows": "land_tables::store_versions land_tables_rows",
     "reading outlines and contents": "land_wire_json land_shape",
     "comparing rowids": "land_tables_rows::rowids",
-    "validating the history": "land_tables::judging land_tables_history land_tables_validity",
+    "validating the history": "land_tables::validation land_tables_history land_tables_validity",
 }
 
 

@@ -22,81 +22,81 @@ for folder, names in (("land_select_queries/src/joins", SELECTIONS), ("land_tabl
 
 
 def of_circle(*names):
-    """Statements that are run for each member of a citizen's circle: its principals, then itself (running::unite_for)."""
+    """Statements that are run for each member of a citizen's circle: its principals, then itself (running::run_union_for)."""
     others = [f"each MANDATES_OF_AGENT {name} MANDATES_OF_AGENT.principal now" for name in names]
     return ["MANDATES_OF_AGENT $1 now", *others, *(f"{name} $1 now" for name in names)]
 
 
-# Parts of requests, each with the function of land_select that runs it. $1 is the caller, $2 the number in the path, $3 the unit that the
-# JSON of a mutation refers to.
-CALLER = [f"ROLES_OF_PARTY $1 {LAST}"]                                                              # standing::person: does it hold the role
-GROUPS = of_circle("own/GROUPS")                                                                    # interests::names_of, of a citizen
-PARTIES = of_circle("own/ITSELF", "own/GROUPS", "holder/PARTIES", "group/PARTIES")                  # sight::Sight, of a citizen
-UNIT = ["ENTRIES_OF_UNIT $2 now"]                                                                   # interests::unit_with_entries
-ENTRY = ["ENTRY $2 now", "ENTRIES_OF_UNIT ENTRY.unit now"]                                          # interests::entry_shown
-NAMING = ["MUTATION $2 now", "ENTRIES_OF_UNIT $3 now"]                                              # naming::mutation_shown
-AWAITED = ["LODGERS_ON_UNIT $2 now"]                                                                # lodgers::is_lodger_on
-RECORD = ["UNIT $2 now"]                                                                            # view::record_of
-PARCELS = ["PARCELS_OF_UNIT $2 now"]                                                                # view::parcels_of
+# Parts of requests, each with the function of land_select, or of its module verdict, that runs it. $1 is the caller, $2 the number in the
+# path, $3 the unit that the JSON of a mutation refers to.
+CALLER = [f"ROLES_OF_PARTY $1 {LAST}"]                                                              # caller::read_caller_and_roles
+GROUPS = of_circle("own/GROUPS")                                                                    # interest::read_names, of a citizen
+PARTIES = of_circle("own/ITSELF", "own/GROUPS", "holder/PARTIES", "group/PARTIES")                  # sight::SightQuery, of a citizen
+UNIT = ["ENTRIES_OF_UNIT $2 now"]                                                                   # interest::read_shown_unit
+ENTRY = ["ENTRY $2 now", "ENTRIES_OF_UNIT ENTRY.unit now"]                                          # interest::read_shown_entry
+NAMING = ["MUTATION $2 now", "ENTRIES_OF_UNIT $3 now"]                                              # mutation::read_shown_mutation
+AWAITED = ["LODGERS_ON_UNIT $2 now"]                                                                # lodgers::has_pending_mutation_on
+RECORD = ["UNIT $2 now"]                                                                            # view::read_unit_record
+PARCELS = ["PARCELS_OF_UNIT $2 now"]                                                                # view::read_parcels
 NAMES = ["PARTIES_OF_UNIT $2 now"]                                                                  # of_entries::parties
 
-# The statements of each read after CALLER, and the functions that run them. viewing::in_sight or sheet::sheet computes the verdict first,
-# and a denial needs no further statement; then the rows that are not yet cached are read. A list is sight::Sight: each selection of the
-# role and the kind, for a citizen over its circle. An object is object::ObjectAt, a sheet view::UnitSeen; lodgers::has_lodged reads a
-# mutation's lodger.
+# The statements of each read after CALLER, and the functions that run them. view::is_visible or sheet::read_sheet_verdict computes the
+# verdict first, and a denial needs no further statement; then the rows that are not yet cached are read. A list is sight::SightQuery: each
+# selection of the role and the kind, for a citizen over its circle. An object is object::ObjectQuery, a sheet view::UnitViewQuery;
+# lodgers::has_lodged reads a mutation's lodger.
 READS = {
-    ("citizen", "list own units"): of_circle("holder/UNITS", "group/UNITS"),                  # Sight
-    ("citizen", "list visible entries"): of_circle("holder/ENTRIES", "group/ENTRIES"),        # Sight
-    ("citizen", "list visible parties"): PARTIES,                                             # Sight
-    ("citizen", "view a visible party"): [                                                    # party::party_in_sight, ObjectAt
-        *GROUPS, "SEERS_BY_HOLDING $2 now", "PARTY $2 now", "ROLES_OF_PARTY $2 now", "MEMBERS_OF_GROUP $2 now"],
-    ("citizen", "view a visible entry"): [*ENTRY, *GROUPS],                                   # interests::entry_shown
-    ("citizen", "view a denied entry"): [*ENTRY, *GROUPS],                                    # interests::entry_shown
-    ("citizen", "view a parcel"): ["PARCEL $2 now"],                                          # viewing::standing_object
-    ("citizen", "view own unit"): [*UNIT, *GROUPS, *RECORD],                                  # interests::is_unit_shown, ObjectAt
-    ("citizen", "own title sheet"): [*UNIT, *GROUPS, *RECORD, *PARCELS, *NAMES],              # interests::unit_with_entries, UnitSeen
-    ("citizen", "denied title sheet"): [*UNIT, *GROUPS],                                      # interests::unit_with_entries
-    ("bank", "list visible units"): ["creditor/UNITS $1 now"],                                # Sight
-    ("bank", "list visible entries"): ["creditor/ENTRIES $1 now"],                            # Sight
-    ("bank", "view own mortgage"): ENTRY,                                                     # interests::entry_shown
-    ("bank", "view a denied entry"): ENTRY,                                                   # interests::entry_shown
-    ("bank", "title sheet"): [*UNIT, *RECORD, *PARCELS, *NAMES],                              # interests::unit_with_entries, UnitSeen
-    ("bank", "view an entry, mortgages on all other units"): ENTRY,                           # interests::entry_shown
-    ("bank", "view an owner, mortgages on all other units"): [                                # party::party_in_sight, ObjectAt
-        "SEERS_BY_CREDITING $2 now", "PARTY $2 now", "ROLES_OF_PARTY $2 now", "MEMBERS_OF_GROUP $2 now"],
-    ("citizen", "mutation of own unit"): [*NAMING, *GROUPS],                                  # naming::mutation_shown
-    ("citizen", "denied mutation"): [*NAMING, *GROUPS],                                       # naming::mutation_shown
-    ("conveyancer", "mutation, if it filed all"): ["LODGER_OF_MUTATION $2 now", "MUTATION $2 now"],  # has_lodged, ObjectAt
+    ("citizen", "list own units"): of_circle("holder/UNITS", "group/UNITS"),                  # SightQuery
+    ("citizen", "list visible entries"): of_circle("holder/ENTRIES", "group/ENTRIES"),        # SightQuery
+    ("citizen", "list visible parties"): PARTIES,                                             # SightQuery
+    ("citizen", "view a visible party"): [                                                    # party::is_party_visible, ObjectQuery
+        *GROUPS, "VIEWERS_BY_HOLDING $2 now", "PARTY $2 now", "ROLES_OF_PARTY $2 now", "MEMBERS_OF_GROUP $2 now"],
+    ("citizen", "view a visible entry"): [*ENTRY, *GROUPS],                                   # interest::read_shown_entry
+    ("citizen", "view a denied entry"): [*ENTRY, *GROUPS],                                    # interest::read_shown_entry
+    ("citizen", "view a parcel"): ["PARCEL $2 now"],                                          # view::read_object
+    ("citizen", "view own unit"): [*UNIT, *GROUPS, *RECORD],                                  # interest::is_unit_shown, ObjectQuery
+    ("citizen", "own title sheet"): [*UNIT, *GROUPS, *RECORD, *PARCELS, *NAMES],              # interest::read_shown_unit, UnitViewQuery
+    ("citizen", "denied title sheet"): [*UNIT, *GROUPS],                                      # interest::read_shown_unit
+    ("bank", "list visible units"): ["creditor/UNITS $1 now"],                                # SightQuery
+    ("bank", "list visible entries"): ["creditor/ENTRIES $1 now"],                            # SightQuery
+    ("bank", "view own mortgage"): ENTRY,                                                     # interest::read_shown_entry
+    ("bank", "view a denied entry"): ENTRY,                                                   # interest::read_shown_entry
+    ("bank", "title sheet"): [*UNIT, *RECORD, *PARCELS, *NAMES],                              # interest::read_shown_unit, UnitViewQuery
+    ("bank", "view an entry, mortgages on all other units"): ENTRY,                           # interest::read_shown_entry
+    ("bank", "view an owner, mortgages on all other units"): [                                # party::is_party_visible, ObjectQuery
+        "VIEWERS_BY_CREDITING $2 now", "PARTY $2 now", "ROLES_OF_PARTY $2 now", "MEMBERS_OF_GROUP $2 now"],
+    ("citizen", "mutation of own unit"): [*NAMING, *GROUPS],                                  # mutation::read_shown_mutation
+    ("citizen", "denied mutation"): [*NAMING, *GROUPS],                                       # mutation::read_shown_mutation
+    ("conveyancer", "mutation, if it filed all"): ["LODGER_OF_MUTATION $2 now", "MUTATION $2 now"],  # has_lodged, ObjectQuery
     ("conveyancer", "mutation filed by another"): ["LODGER_OF_MUTATION $2 now"],              # lodgers::has_lodged
-    ("conveyancer", "view a unit, all its filings decided"): AWAITED,                         # awaited::unit_awaited
-    ("notary", "view an entry"): ["ENTRY $2 now"],                                            # viewing::standing_object
-    ("notary", "view a missing entry"): ["ENTRY $2 now"],                                     # viewing::standing_object
-    ("notary", "title sheet"): [*RECORD, *PARCELS, "ENTRIES_OF_UNIT $2 now", *NAMES],         # viewing::standing_object, UnitSeen
-    ("notary", "list all units"): ["all/UNITS $1 now"],                                       # Sight
-    ("citizen", "list all parcels"): ["all/PARCELS $1 now"],                                  # Sight, which has no circle for parcels
+    ("conveyancer", "view a unit, all its filings decided"): AWAITED,                         # conveyancer::read_pending_unit
+    ("notary", "view an entry"): ["ENTRY $2 now"],                                            # view::read_object
+    ("notary", "view a missing entry"): ["ENTRY $2 now"],                                     # view::read_object
+    ("notary", "title sheet"): [*RECORD, *PARCELS, "ENTRIES_OF_UNIT $2 now", *NAMES],         # view::read_object, UnitViewQuery
+    ("notary", "list all units"): ["all/UNITS $1 now"],                                       # SightQuery
+    ("citizen", "list all parcels"): ["all/PARCELS $1 now"],                                  # SightQuery, which has no circle for parcels
 }
 
 
 def person(number):
-    """A party that an act refers to (slices::people)."""
+    """A party that an act refers to (slices::parties_and_roles)."""
     return [f"PARTY {number} {LAST}", f"ROLES_OF_PARTY {number} {LAST}", f"MEMBERS_OF_GROUP {number} {LAST}"]
 
 
 def unit(number):
-    """A unit that an act refers to (slices::holdings)."""
+    """A unit that an act refers to (slices::units_and_entries)."""
     return [f"UNIT {number} {LAST}", f"PARCELS_OF_UNIT {number} {LAST}", f"ENTRIES_OF_UNIT {number} {LAST}"]
 
 
 def made(table, number, *cells):
-    """The new version of an object (land_tables_rows, recording::all::change): an earlier version is closed, and this one is inserted."""
+    """The new version of an object (land_tables_rows, change_writing::all::change): an earlier one is closed, and this one is inserted."""
     return [f"{table}/CLOSE {number} stamp", f"{table}/BEGIN {number} {' '.join(cells)} stamp"]
 
 
-OFFICE = [f"ADMINISTRATORS 0 {LAST}"]                                                          # slices::slice::people_of
+OFFICE = [f"ADMINISTRATORS 0 {LAST}"]                                                          # slices::slice::read_parties
 OFFICERS = [f"each ADMINISTRATORS {step}" for step in person("ADMINISTRATORS.party")]
 
 # For each act the number of object numbers that it allocates, and the statements after CALLER: slices::slice::slice_at, then
-# recording::change::record_change (land_tables_rows): people, estates, papers, the stamp.
+# change_writing::change::write_change (land_tables_rows): parties and roles, units and entries, sources and mutations, the stamp.
 ACTS = {
     # $2 is the name.
     "enrol": (1, [*OFFICE, *OFFICERS, *made("party", "next+0", "$2", "=naturalPerson"),
@@ -111,7 +111,7 @@ ACTS = {
                      *made("source", "next+0", "=administrative", "=Deed"),
                      *made("mutation", "next+1", "$1", "$2", "next+0", "stamp", "=transfer", "$5", "=lodged"),
                      "names/BEGIN next+1 $3 stamp", "moments/INSERT stamp next+2"]),
-    # $2 is the mutation, $3 its unit, $4 the transferred right, $5 the receiver; standing::named reads the mutation too.
+    # $2 is the mutation, $3 its unit, $4 the transferred right, $5 the receiver; caller::read_referenced reads the mutation too.
     "approve": (1, [f"MUTATION $2 {LAST}", f"MUTATION $2 {LAST}", *OFFICE, *person("$5"), *OFFICERS, *unit("$3"),
                     f"SOURCE MUTATION.source {LAST}", "rrr/CLOSE next+0 stamp", "rrr/CLOSE $4 stamp",
                     "rrr/BEGIN next+0 $3 $5 =ownership 1 2 - - - - MUTATION.source stamp",

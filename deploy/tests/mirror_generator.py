@@ -38,7 +38,7 @@ CHANGES = [
     (f"{RULES}/denials/sight.rt", "Kind::Rrr => 16", "Kind::Rrr => 8 + 8"),
     (f"{RULES}/denials/sight.rt", "Verdict::Denied(27)", "Verdict::Denied(26)"),
     (f"{RULES}/denials/sight.rt", "number == caller.party", "number != caller.party"),
-    (f"{RULES}/rules/standing.rt", "past && is_of_the_present(caller)", "is_of_the_present(caller)"),
+    (f"{RULES}/rules/standing.rt", "past && sees_only_present(caller)", "sees_only_present(caller)"),
     (f"{RULES}/rules/standing.rt", "caller.role == Role::Bank\n", "caller.role != Role::Bank\n"),
     ("land_select_queries/src/lookups/texts.rt", "FROM mandate WHERE agent = ?1", "FROM mandate WHERE principal = ?1"),
     ("land_core/src/words.rt", 'Role::Bank => "bank"', 'Role::Bank => bank_word()'),

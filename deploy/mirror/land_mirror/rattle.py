@@ -26,14 +26,14 @@ PINNED = {
     (CIRCLE, "has_circle"): "role == Role::Citizen && !sees_all(role, kind)",
     (DENIALS, "sees_all"): "kind == Kind::Parcel || role == Role::Notary || role == Role::StateAdministrator",
     (DENIALS, "is_unit_of_conveyancer"): "kind == Kind::Unit && role == Role::Conveyancer",
-    (DENIALS, "is_itself"): "kind == Kind::Party && number == caller.party",
+    (DENIALS, "views_itself"): "kind == Kind::Party && number == caller.party",
     (DENIALS, "view_verdict"):
-        "if in_sight { Verdict::Allowed } else if is_unit_of_conveyancer(caller.role, kind) && awaited || is_itself(caller, kind, number) "
-        "{ Verdict::Denied(27) } else { Verdict::Denied(rule_of_role(caller.role, kind)) }",
+        "if in_sight { Verdict::Allowed } else if is_unit_of_conveyancer(caller.role, kind) && awaited || "
+        "views_itself(caller, kind, number) { Verdict::Denied(27) } else { Verdict::Denied(rule_of_role(caller.role, kind)) }",
     (STANDING, "caller_verdict"):
         "if !now.stands(Kind::Party, caller.party) { Verdict::Denied(1) } "
         "else if !now.holds(caller.party, caller.role) { Verdict::Denied(2) } "
-        "else if past && is_of_the_present(caller) { Verdict::Denied(3) } else { Verdict::Allowed }",
+        "else if past && sees_only_present(caller) { Verdict::Denied(3) } else { Verdict::Allowed }",
 }
 # The statements behind the circle and behind `awaited`, which sql/standing.sql repeats.
 PINNED_TEXTS = {
@@ -178,10 +178,10 @@ class Policy:
         return denials
 
     def read_present(self):
-        tests = [it.strip() for it in self.body(STANDING, "is_of_the_present").split("||")]
+        tests = [it.strip() for it in self.body(STANDING, "sees_only_present").split("||")]
         roles = [re.fullmatch(r"caller\.role == Role::(\w+)", it) for it in tests]
         if not all(roles):
-            raise Unexpected(STANDING, "function `is_of_the_present`")
+            raise Unexpected(STANDING, "function `sees_only_present`")
         return [it[1] for it in roles]
 
     def check_pinned(self):
