@@ -1,0 +1,85 @@
+"""Accessibility: the criteria of WCAG 2.2 AA that a script can check, and operation by keyboard."""
+from harness import check
+from page_browser import NARROW, PHONE, WIDE
+
+VIEWS = [("nora", "#/start?role=notary"), ("nora", "#/do/transfer/unit-9?role=notary"), ("office", "#/units/9?role=stateAdministrator"),
+         ("office", "#/mutations/{pending}?role=stateAdministrator"), ("anna", "#/parcels?role=citizen"), ("bank.clerk", "#/start?role=bank"),
+         ("ben", "#/units/9?role=citizen&at=1000"), ("office", "#/parties/7?role=stateAdministrator"), ("office", "#/map?role=stateAdministrator"),
+         ("office", "#/do/register?role=stateAdministrator"), ("office", "#/do/group?role=stateAdministrator"),
+         ("sam", "#/do/subdivision/parcel-24?role=certifiedSurveyor"), ("sam", "#/do/merger?role=certifiedSurveyor"),
+         ("office", "#/start?role=stateAdministrator")]
+CHECKS = ["contrast", "names", "order", "targets", "reflow", "spacing"]
+
+
+def faults(it, names, pending):
+    """Runs checks of page_checks.js on all views."""
+    found = []
+    for user, place in VIEWS:
+        it.sign_in(user)
+        for name in names:
+            it.resize(NARROW if name in ("reflow", "spacing") and it.name == "Chromium" else PHONE if name in ("reflow", "spacing") else WIDE)
+            it.go(place.format(pending=pending))
+            found += [f"{place} {name}: {fault}" for fault in it.run_check(name)]
+    it.resize(WIDE)
+    return found
+
+
+def tab_order_faults(it, place):
+    """Tabs through a view: every control must be reached, in document order, with a visible focus indicator."""
+    it.go(place)
+    count = it.js("""const all = [...document.querySelectorAll("a[href],button,input,select,textarea,summary,canvas[tabindex],pre[tabindex]")];
+        const controls = all.filter((e) => !e.disabled && e.checkVisibility() && e.getClientRects().length > 0);
+        controls.forEach((e, n) => e.setAttribute("data-order", n));
+        return controls.length;""")
+    found, reached = [], []
+    for _ in range(3 * count + 20):      # scrollable elements and the parts of a date picker may also get the focus
+        it.press("Tab")
+        index = it.js("return document.activeElement.getAttribute('data-order')")
+        if index is not None and int(index) not in reached:
+            reached.append(int(index))
+        found += it.run_check("focused")
+        if len(reached) == count:
+            break
+    return sorted(set(found)) + ([] if count > 20 and reached == list(range(count)) else [f"{place}: {count} controls, reached {reached}"])
+
+
+def keyboard_faults(it, pending):
+    """The page must be operable by keyboard: tab order, skip link, focus after navigation, search, forms, dialogs."""
+    it.sign_in("office")
+    found = tab_order_faults(it, f"#/mutations/{pending}?role=stateAdministrator")
+    found += tab_order_faults(it, "#/units/9?role=stateAdministrator") + tab_order_faults(it, "#/do/register?role=stateAdministrator")
+    it.go("#/start?role=stateAdministrator")
+    it.press("Tab", "Enter")
+    if it.js("return document.activeElement.id") != "main":
+        found.append("the skip link leads to " + it.js("return document.activeElement.outerHTML.slice(0, 60)"))
+    it.js("[...document.querySelectorAll('#tabs a')].find((a) => a.textContent === 'Units').focus()")
+    it.press("Enter")
+    it.settle(lambda: it.has("Units 1 to"))
+    if it.js("return document.activeElement.id") != "main" or it.js("return document.title") != "Units - Land register":
+        found.append("after navigation the focus or the title is wrong")
+    it.js("document.getElementById('search').focus()")
+    it.type("orchard")
+    it.settle(lambda: it.count("#search-form [role=option]"))
+    it.press("Down", "Enter")
+    if not it.settle(lambda: it.has("Orchard") and it.js("return document.activeElement.id") == "main"):
+        found.append("the search is not operable by keyboard: " + it.text()[:200])
+    it.go(f"#/mutations/{pending}?role=stateAdministrator")
+    it.js("[...document.querySelectorAll('main button')].find((b) => b.innerText === 'Refuse').focus()")
+    it.press("Enter")
+    if not it.until(lambda: it.count("dialog[open]"), 5) or not it.js("return document.activeElement.closest('dialog') !== null"):
+        found.append("the dialog does not have the focus")
+    it.press("Escape")
+    if not it.until(lambda: not it.count("dialog"), 5) or "waiting" not in it.text():
+        found.append("Escape does not close the dialog, or decides")
+    it.js("const e = document.getElementById('role'); e.value = 'citizen'; e.dispatchEvent(new Event('change'))")
+    if not it.settle(lambda: "role=citizen" in it.js("return location.href")):
+        found.append("changing the role does not navigate")
+    return found
+
+
+def run(it, pending):
+    for name in CHECKS:
+        found = faults(it, [name], pending)
+        check(f"{it.name}: accessibility: {name}, on {len(VIEWS)} views", not found, found)
+    found = keyboard_faults(it, pending)
+    check(f"{it.name}: keyboard operation", not found, found)
