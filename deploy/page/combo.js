@@ -21,7 +21,12 @@ export function combo({ kinds, take, type = "text", placeholder = "", filter = (
   function close() {
     latest += 1;
     clearTimeout(timer);
+    hide();
+  }
+
+  function hide() {
     list.hidden = true;
+    list.replaceChildren();
     field.setAttribute("aria-expanded", "false");
     field.removeAttribute("aria-activedescendant");
     active = -1;
@@ -46,13 +51,15 @@ export function combo({ kinds, take, type = "text", placeholder = "", filter = (
     const options = items.map((item, n) => h("li", { role: "option", id: id + "-" + n, "aria-selected": "false",
       onpointerdown: (event) => event.preventDefault(), onclick: () => choose(n) },
       h("span", { class: "option-kind" }, one(item.kind)), " ", safeText(item.text), small(item.number)));
+    status.textContent = t("find.count", { n: items.length });
+    if (items.length === 0 && type !== "search") return hide();
     const none = items.length ? [] : [h("li", { class: "option-none" }, t("find.none"))];
     const note = partial ? [h("li", { class: "option-none" }, t("find.partial"))] : [];
     list.replaceChildren(...options, ...none, ...note);
     list.hidden = false;
     field.setAttribute("aria-expanded", "true");
-    status.textContent = t("find.count", { n: items.length });
     active = -1;
+    return undefined;
   }
 
   async function update() {

@@ -183,7 +183,7 @@ export const de = {
   "field.noSuch.parties": "Kein Beteiligter mit dieser Nummer oder diesem Namen.",
   "field.noSuch.units": "Kein Grundstück mit dieser Nummer oder diesem Namen.",
   "field.noSuch.parcels": "Kein Flurstück mit dieser Nummer oder Bezeichnung.",
-  "field.unseen": "Sie dürfen diese Nummer nicht sehen, deshalb kann sie hier nicht geprüft werden. Das Amt prüft sie bei der Entscheidung.",
+  "field.unseen": "Sie dürfen diese Nummer nicht sehen. Das Amt prüft sie.",
   "field.notGroup": "Eine Gemeinschaft ist hier nicht möglich.", "field.onlyGroup": "Dieser Beteiligte ist keine Gemeinschaft.",
   "field.unitFirst": "Wählen Sie zuerst das Grundstück", "field.partyFirst": "Wählen Sie zuerst den Beteiligten",
   "field.parcelFirst": "Wählen Sie zuerst das Flurstück.", "field.parcelsFirst": "Wählen Sie zuerst die Flurstücke",

@@ -178,7 +178,7 @@ export const en = {
   "field.pick.parties": "Name or number", "field.pick.units": "Name or number", "field.pick.parcels": "Label or number",
   "field.noSuch.parties": "No party with this number or name.", "field.noSuch.units": "No unit with this number or name.",
   "field.noSuch.parcels": "No parcel with this number or label.",
-  "field.unseen": "You may not see this number, so it cannot be checked here. The office checks it when it decides.",
+  "field.unseen": "You may not see this number. The office checks it.",
   "field.notGroup": "A group cannot be chosen here.", "field.onlyGroup": "This party is not a group.",
   "field.unitFirst": "Choose the unit first", "field.partyFirst": "Choose the party first", "field.parcelFirst": "Choose the parcel first.",
   "field.parcelsFirst": "Choose the parcels first", "field.noEntries": "This unit has none",

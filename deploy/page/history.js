@@ -40,10 +40,11 @@ async function listed(number, out, progress) {
   if (reply === null || reply.status !== 200) return searched(number, null, out, progress);
   opened = number + " " + state.role;
   const { history } = reply.body;
+  const moments = history.map((change) => change.stamp);
+  const items = await Promise.all(history.map(changeItem));
+  out.replaceChildren(periods(history), chooser(number, moments), h("ol", { class: "history" }, ...items));
   progress.textContent = history.length ? t("history.count", { n: history.length }) + (history.length === MOST ? " " + t("history.more") : "")
     : t("history.none");
-  const moments = history.map((change) => change.stamp);
-  out.replaceChildren(periods(history), chooser(number, moments), h("ol", { class: "history" }, ...await Promise.all(history.map(changeItem))));
   return undefined;
 }
 

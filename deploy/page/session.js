@@ -6,7 +6,7 @@ import { h } from "./dom.js";
 import { settings } from "./settings.js";
 import { t } from "./words.js";
 
-const WARN = 2 * 60000;
+const MINUTE = 60000;
 const NOBODY = "signed-out";
 let lastAct = Date.now();
 let unsaved = () => false;
@@ -47,8 +47,8 @@ export async function signOut() {
 
 async function warn() {
   warning = true;
-  const left = h("p", {}, t("session.text", { n: Math.round(WARN / 60000) }), unsaved() ? " " + t("session.unsaved") : "");
-  const timer = setTimeout(signOut, WARN);
+  const left = h("p", {}, t("session.text", { n: settings.warnMinutes }), unsaved() ? " " + t("session.unsaved") : "");
+  const timer = setTimeout(signOut, settings.warnMinutes * MINUTE);
   const answer = await ask(t("session.title"), [left], [["stay", t("session.stay"), true], ["out", t("session.out")]]);
   clearTimeout(timer);
   warning = false;
@@ -64,6 +64,6 @@ export function watchSession() {
   });
   setInterval(() => {
     const idle = Date.now() - lastAct;
-    if (!warning && idle > settings.idleMinutes * 60000 - WARN) warn();
-  }, Math.min(5000, settings.idleMinutes * 6000));
+    if (!warning && idle > (settings.idleMinutes - settings.warnMinutes) * MINUTE) warn();
+  }, Math.min(5000, settings.idleMinutes * MINUTE / 10));
 }

@@ -34,7 +34,7 @@ KEYS = {"Tab": "\ue004", "Enter": "\ue007", "Escape": "\ue00c", "Down": "\ue015"
 # Finds the control of a field by its key (data-key, name or id), the last one if a form has several rows.
 FIELD = """const all = [...document.querySelectorAll(`main [data-key="${arguments[0]}"]`)];
     const place = arguments[1] === null ? all[all.length - 1] : all[arguments[1]];
-    return place && (place.querySelector('input:not([hidden]), select, textarea') || place);"""
+    return place && (place.querySelector(`[name="${arguments[0]}"]`) || place.querySelector('input:not([hidden]), select, textarea') || place);"""
 
 
 class Page:
@@ -78,9 +78,9 @@ class Page:
         return all(word in text for word in words)
 
     def click(self, selector, n=0):
-        """Clicks the middle of an element, after scrolling to it."""
+        """Clicks the middle of an element, or of its first line, after scrolling to it."""
         self.js("document.querySelectorAll(arguments[0])[arguments[1]].scrollIntoView({block: 'center', inline: 'nearest'})", selector, n)
-        x, y = self.js("const b = document.querySelectorAll(arguments[0])[arguments[1]].getBoundingClientRect();"
+        x, y = self.js("const b = document.querySelectorAll(arguments[0])[arguments[1]].getClientRects()[0];"
                        "return [b.x + b.width / 2, b.y + b.height / 2]", selector, n)
         self.click_at(x, y)
 
@@ -194,6 +194,10 @@ class Chromium(Page):
         self.driver.get(self.root.replace("//", f"//{user}:secret-{user}@"))
         self.driver.get(self.root)
 
+    def forget_files(self):
+        """Clears the cache, since a file of the page was changed."""
+        self.driver.execute_cdp_cmd("Network.clearBrowserCache", {})
+
     def load(self, url):
         self.driver.get(url)
 
@@ -218,8 +222,8 @@ class Chromium(Page):
 
     def console_errors(self):
         """Returns the errors and warnings on the browser's console."""
-        return [it["message"] for it in self.driver.get_log("browser") if it["level"] in ("SEVERE",
-            "WARNING") and "status of 4" not in it["message"]]
+        return [it["message"] for it in self.driver.get_log("browser") if it["level"] in ("SEVERE", "WARNING") and
+                not any(word in it["message"] for word in ("status of 4", "willReadFrequently"))]
 
     def resize(self, width, height=1000, mobile=False):
         self.driver.execute_cdp_cmd("Emulation.setDeviceMetricsOverride",
@@ -269,7 +273,7 @@ class Firefox(Page):
                     "browser.download.folderList": 2, "browser.download.dir": self.downloads}
         with open(os.path.join(self.profile, "user.js"), "w", encoding="utf-8") as sink:
             sink.writelines(f"user_pref({json.dumps(key)}, {json.dumps(value)});\n" for key, value in settings.items())
-        words = ["firefox-esr", "--headless", "--marionette", "--no-remote", "--profile", self.profile, "--width", str(WIDE), "--height",
+        words = ["firefox-esr", "--headless", "--marionette", "--remote-allow-system-access", "--no-remote", "--profile", self.profile, "--width", str(WIDE), "--height",
                  "1100"]
         environment = {**os.environ, "HOME": self.profile, "TZ": "Europe/Berlin", "MOZ_HEADLESS": "1"}
         self.process = subprocess.Popen(words, stdout=subprocess.DEVNULL, stderr=subprocess.DEVNULL, env=environment, cwd=self.profile)
@@ -277,8 +281,7 @@ class Firefox(Page):
         self.number = 0
         self.buffer = b""
         self.receive()
-        self.command("WebDriver:NewSession", {"capabilities": {"alwaysMatch": {"acceptInsecureCerts": True,
-            "timeouts": {"script": 60000, "pageLoad": 120000, "implicit": 0}}}})
+        self.command("WebDriver:NewSession", {"acceptInsecureCerts": True, "timeouts": {"script": 60000, "pageLoad": 120000, "implicit": 0}})
         self.user = None
 
     def connect(self, port, seconds=90):
@@ -329,6 +332,11 @@ class Firefox(Page):
         self.sign_in(user)
         self.load(self.root)
 
+    def forget_files(self):
+        self.command("Marionette:SetContext", {"value": "chrome"})
+        self.js("Services.cache2.clear()")
+        self.command("Marionette:SetContext", {"value": "content"})
+
     def load(self, url):
         self.command("WebDriver:Navigate", {"url": url})
 
@@ -355,11 +363,12 @@ class Firefox(Page):
         return []
 
     def resize(self, width, height=1000, mobile=False):
-        self.command("WebDriver:SetWindowRect", {"x": 0, "y": 0, "width": width, "height": height + 90})
-        # the window has a least width: a narrower page is a frame of the window's content
-        inner = self.js("return window.innerWidth")
-        if inner != width:
-            self.command("WebDriver:SetWindowRect", {"width": width + width - inner, "height": height + 90})
+        # a window is at least 500 pixels wide: a narrower page is shown enlarged
+        zoom = 1 if width >= 500 else 500 / width
+        self.command("WebDriver:SetWindowRect", {"x": 0, "y": 0, "width": round(width * zoom), "height": round(height * zoom) + 90})
+        self.command("Marionette:SetContext", {"value": "chrome"})
+        self.js("gBrowser.selectedBrowser.fullZoom = arguments[0]", zoom)
+        self.command("Marionette:SetContext", {"value": "content"})
 
     def print_media(self, on):
         """Shows the page with the style of paper, or again as on a screen: Firefox has no command for it."""
