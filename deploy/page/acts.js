@@ -1,7 +1,9 @@
-// The 17 acts: which role does which, and the forms of the acts of the office and of citizens. The lodgings are in lodgings.js.
+// The 17 acts: which role does which, and the forms of the acts of the office and of citizens. The lodgings
+// are in lodgings.js.
 import { ROLES, objectOf, state } from "./api.js";
 import { errorBox } from "./components.js";
-import { checkField, choiceField, entryField, partyField, pickField, rows, shareField, singleParty, textField } from "./fields.js";
+import { checkField, choiceField, entryField, partyField, pickField, rows, shareField, singleParty,
+  textField } from "./fields.js";
 import { formView, group } from "./form.js";
 import { LODGINGS } from "./lodgings.js";
 import { outlineField } from "./outlines.js";
@@ -19,10 +21,12 @@ export const ACTS_OF = {
 };
 
 const nameField = (key, label) => textField({ key, label: t(label) });
-const documentField = () => textField({ key: "document", label: t("col.document"), help: t("field.documentHelp") });
+const documentField = () => textField({ key: "document", label: t("col.document"),
+  help: t("field.documentHelp") });
 
 function enrol() {
-  const kind = choiceField({ key: "kind", label: t("col.kind"), options: ["naturalPerson", "nonNaturalPerson"].map((k) => [k, t("party." + k)]) });
+  const kind = choiceField({ key: "kind", label: t("col.kind"),
+    options: ["naturalPerson", "nonNaturalPerson"].map((k) => [k, t("party." + k)]) });
   const name = nameField("name", "col.name");
   return { fields: [kind, name], body: () => ({ kind: kind.read(), name: name.read() }) };
 }
@@ -30,7 +34,8 @@ function enrol() {
 // Members with shares that sum to one, each party once.
 function members(start) {
   const make = (party = null, share = "") => {
-    const fields = [partyField({ key: "party", label: t("one.parties"), value: party, allow: singleParty }), shareField({ value: share })];
+    const fields = [partyField({ key: "party", label: t("one.parties"), value: party, allow: singleParty }),
+      shareField({ value: share })];
     return { fields, read: () => ({ party: fields[0].read(), share: fields[1].read() }) };
   };
   const list = rows({ least: 2, most: 64, make, addText: t("form.addMember") });
@@ -41,7 +46,8 @@ function members(start) {
   }
   const read = () => list.list.map((row) => row.read());
   const check = async () => wholeError(read().map((m) => m.share)) || twiceError(read().map((m) => m.party));
-  return { ...group({ key: "members", label: t("party.members"), fields: () => list.list.flatMap((row) => row.fields), content: list.content, check }), read };
+  return { ...group({ key: "members", label: t("party.members"),
+    fields: () => list.list.flatMap((row) => row.fields), content: list.content, check }), read };
 }
 
 function wholeError(shares) {
@@ -71,8 +77,10 @@ function regroup(prefill) {
     list = members(party.members);
     place.replaceChildren(list.node);
   };
-  const which = partyField({ key: "group", label: t("party.oneGroup"), value: prefill.group || null, allow: isGroup, onpick: fill });
-  return { fields: [which, { node: place, check: () => list.check() }], body: () => ({ group: which.read(), members: list.read() }) };
+  const which = partyField({ key: "group", label: t("party.oneGroup"), value: prefill.group || null,
+    allow: isGroup, onpick: fill });
+  return { fields: [which, { node: place, check: () => list.check() }],
+    body: () => ({ group: which.read(), members: list.read() }) };
 }
 
 // A role that the party does not hold (grant), or holds (revoke).
@@ -82,10 +90,12 @@ function roleAct(held) {
     const onpick = async (item) => {
       const party = item && await objectOf("parties", item.number, null);
       const fit = party ? ROLES.filter((one) => party.roles.includes(one) === held) : [];
-      const options = [["", t(party ? "field.choose" : "field.partyFirst")], ...fit.map((one) => [one, t("role.title." + one)])];
+      const options = [["", t(party ? "field.choose" : "field.partyFirst")],
+        ...fit.map((one) => [one, t("role.title." + one)])];
       role.input.replaceChildren(...options.map(([value, text]) => new Option(text, value)));
     };
-    const party = partyField({ key: "party", label: t("one.parties"), value: prefill.party || null, allow: singleParty, onpick });
+    const party = partyField({ key: "party", label: t("one.parties"), value: prefill.party || null,
+      allow: singleParty, onpick });
     return { fields: [party, role], body: () => ({ party: party.read(), role: role.read() }) };
   };
 }
@@ -95,15 +105,18 @@ function registerAct() {
   const documentTitle = documentField();
   const checked = checkField({ key: "checked", label: t("field.checked"), help: t("field.checkedHelp") });
   const parcel = () => {
-    const fields = [textField({ key: "label", label: t("col.label"), most: 40, size: "short" }), outlineField({ others: () => parcels.list.map((row) => row.fields[1]) })];
+    const fields = [textField({ key: "label", label: t("col.label"), most: 40, size: "short" }),
+      outlineField({ others: () => parcels.list.map((row) => row.fields[1]) })];
     return { fields, read: () => ({ label: fields[0].read(), outline: fields[1].read() }) };
   };
   const parcels = rows({ least: 1, most: 64, make: parcel, addText: t("form.addParcel") });
   const right = () => {
     const fields = [partyField({ key: "party", label: t("one.parties") }),
-      choiceField({ key: "type", label: t("field.rightType"), options: ["ownership", "lease", "usufruct"].map((c) => [c, t("class." + c)]) }),
+      choiceField({ key: "type", label: t("field.rightType"),
+        options: ["ownership", "lease", "usufruct"].map((c) => [c, t("class." + c)]) }),
       shareField({ value: "1/1" })];
-    return { fields, read: () => ({ party: fields[0].read(), type: fields[1].read(), share: fields[2].read() }) };
+    return { fields, read: () => ({ party: fields[0].read(), type: fields[1].read(),
+      share: fields[2].read() }) };
   };
   const rights = rows({ least: 1, most: 64, make: right, addText: t("form.addRight") });
   const read = (list) => list.list.map((row) => row.read());
@@ -111,31 +124,40 @@ function registerAct() {
     const all = read(rights);
     if (!all.some((one) => one.type === "ownership")) return t("field.noOwner");
     const types = [...new Set(all.map((one) => one.type))];
-    const wrong = checked.read() && types.map((type) => wholeError(all.filter((one) => one.type === type).map((one) => one.share))).find(Boolean);
+    const wrong = checked.read() &&
+      types.map((type) => wholeError(all.filter((one) => one.type === type).map((one) => one.share)))
+        .find(Boolean);
     return wrong || twiceError(all.map((one) => one.type + one.party));
   };
   const fieldsOf = (list) => () => list.list.flatMap((row) => row.fields);
   return {
     fields: [name, documentTitle, checked,
-      group({ key: "parcels", label: t("many.parcels"), fields: fieldsOf(parcels), content: parcels.content }),
-      group({ key: "rights", label: t("field.rights"), fields: fieldsOf(rights), content: rights.content, check: checkRights })],
-    body: () => ({ name: name.read(), checked: checked.read(), document: documentTitle.read(), parcels: read(parcels), rights: read(rights) }),
+      group({ key: "parcels", label: t("many.parcels"), fields: fieldsOf(parcels),
+        content: parcels.content }),
+      group({ key: "rights", label: t("field.rights"), fields: fieldsOf(rights), content: rights.content,
+        check: checkRights })],
+    body: () => ({ name: name.read(), checked: checked.read(), document: documentTitle.read(),
+      parcels: read(parcels), rights: read(rights) }),
   };
 }
 
 function burden(prefill) {
   const unit = pickField({ key: "unit", kind: "units", label: t("one.units"), value: prefill.unit || null });
   const party = partyField({ key: "party", label: t("field.burdenParty"), help: t("field.burdenHelp") });
-  const kind = choiceField({ key: "class", label: t("col.kind"), options: ["restriction", "responsibility"].map((c) => [c, t("class." + c)]) });
+  const kind = choiceField({ key: "class", label: t("col.kind"),
+    options: ["restriction", "responsibility"].map((c) => [c, t("class." + c)]) });
   const words = textField({ key: "words", label: t("field.words") });
   const documentTitle = documentField();
   return { fields: [unit, kind, words, party, documentTitle],
-    body: () => ({ unit: unit.read(), party: party.read(), class: kind.read(), words: words.read(), document: documentTitle.read() }) };
+    body: () => ({ unit: unit.read(), party: party.read(), class: kind.read(), words: words.read(),
+      document: documentTitle.read() }) };
 }
 
 function lift(prefill) {
-  const entry = entryField({ key: "rrr", label: t("field.burdenEntry"), classes: ["restriction", "responsibility"], value: prefill.rrr || null });
-  const unit = pickField({ key: "unit", kind: "units", label: t("one.units"), onpick: (item) => entry.load(item && item.number) });
+  const entry = entryField({ key: "rrr", label: t("field.burdenEntry"),
+    classes: ["restriction", "responsibility"], value: prefill.rrr || null });
+  const unit = pickField({ key: "unit", kind: "units", label: t("one.units"),
+    onpick: (item) => entry.load(item && item.number) });
   const ready = async () => {
     const found = prefill.rrr && await objectOf("rrrs", prefill.rrr, null);
     const of = found && await objectOf("units", found.unit, null);
@@ -147,29 +169,36 @@ function lift(prefill) {
 const notSelf = async (item) => (item.number === state.me ? t("refusal.219") : singleParty(item));
 
 function mandate() {
-  const agent = partyField({ key: "agent", label: t("field.agent"), help: t("field.agentHelp"), allow: notSelf });
+  const agent = partyField({ key: "agent", label: t("field.agent"), help: t("field.agentHelp"),
+    allow: notSelf });
   return { fields: [agent], body: () => ({ agent: agent.read() }) };
 }
 
 function withdraw() {
-  const way = choiceField({ key: "way", label: t("field.mandate"), options: [["given", t("field.given")], ["held", t("field.held")]] });
+  const way = choiceField({ key: "way", label: t("field.mandate"),
+    options: [["given", t("field.given")], ["held", t("field.held")]] });
   const other = partyField({ key: "other", label: t("field.other"), allow: notSelf });
-  return { fields: [way, other], body: () => (way.read() === "given" ? { principal: state.me, agent: other.read() } : { principal: other.read(), agent: state.me }) };
+  return { fields: [way, other], body: () => (way.read() === "given" ?
+    { principal: state.me, agent: other.read() } : { principal: other.read(), agent: state.me }) };
 }
 
-const BUILD = { enrol, group: groupAct, regroup, grant: roleAct(false), revoke: roleAct(true), register: registerAct, burden, lift, mandate, withdraw, ...LODGINGS };
+const BUILD = { enrol, group: groupAct, regroup, grant: roleAct(false), revoke: roleAct(true),
+  register: registerAct, burden, lift, mandate, withdraw, ...LODGINGS };
 
 // The view of an act. The path may name an object to start with: do/transfer/unit-9.
 export function actView(name, path) {
   const title = name in BUILD ? t("act." + name) : t("app.title");
-  if (!(ACTS_OF[state.role] || []).includes(name)) return [title, errorBox({ status: 403, body: { denied: ruleOf(name) } })];
+  if (!(ACTS_OF[state.role] || []).includes(name)) return [title,
+    errorBox({ status: 403, body: { denied: ruleOf(name) } })];
   const prefill = {};
   for (const word of path) {
     const found = /^([a-z]+)-(\d{1,10})$/.exec(word);
     if (found) prefill[found[1]] = Number(found[2]);
   }
-  return [title, ...formView({ name, leadText: t("act.lead." + name), build: () => BUILD[name](prefill), lodging: name in LODGINGS })];
+  return [title, ...formView({ name, leadText: t("act.lead." + name), build: () => BUILD[name](prefill),
+    lodging: name in LODGINGS })];
 }
 
 // The rule that denies an act to other roles.
-const ruleOf = (name) => ({ transfer: 5, subdivision: 6, merger: 6, mortgage: 7, discharge: 7, mandate: 28, withdraw: 28 }[name] || 4);
+const ruleOf = (name) => ({ transfer: 5, subdivision: 6, merger: 6, mortgage: 7, discharge: 7, mandate: 28,
+  withdraw: 28 }[name] || 4);

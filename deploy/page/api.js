@@ -1,6 +1,7 @@
 // Sends requests to the register. All requests of the page go through this module.
 
-export const state = { role: "citizen", at: null, me: null, roles: null, name: null, clock: 0, stamp: 0, signedOut: false };
+export const state = { role: "citizen", at: null, me: null, roles: null, name: null, clock: 0, stamp: 0,
+  signedOut: false };
 const base = new URL(".", location.href.split("#")[0]);
 const MAX_CONCURRENT = 6;
 const MAX_TRIES = 12;
@@ -90,14 +91,16 @@ export const forget = () => { seen = new Map(); };
 export function objectOf(kind, number, at = state.at) {
   const key = [state.role, at, kind, number].join(" ");
   if (!seen.has(key)) {
-    seen.set(key, get(kind + "/" + number, at).then((reply) => (reply.status === 200 ? reply.body.object : null)));
+    seen.set(key, get(kind + "/" + number, at).then((reply) => (reply.status === 200 ? reply.body.object :
+      null)));
   }
   return seen.get(key);
 }
 
 export const ROLES = ["stateAdministrator", "notary", "bank", "certifiedSurveyor", "conveyancer", "citizen"];
 
-// Finds out which party the caller is and which roles it holds. The reply to any request names the party; in a role that it holds,
+// Finds out which party the caller is and which roles it holds. The reply to any request names the party; in
+// a role that it holds,
 // the register shows the party its roles.
 export async function signIn() {
   if (state.me === null) await send("parties/1", undefined, { role: "citizen" });

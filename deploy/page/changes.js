@@ -1,11 +1,13 @@
-// Finds the moments at which the caller's view of a unit changed, without a mirror, since the register has no list of them.
+// Finds the moments at which the caller's view of a unit changed, without a mirror, since the register has no
+// list of them.
 import { numbersOf, objectOf, sheetOf } from "./api.js";
 import { refersTo } from "./mutations.js";
 
 const STEPS = 64;
 const MUTATIONS = 300;
 
-// Requests title sheets at a moment: its text without the date, null if it is not shown, or undefined if the request failed.
+// Requests title sheets at a moment: its text without the date, null if it is not shown, or undefined if the
+// request failed.
 function reader(number, report) {
   const seen = new Map();
   const read = async (at) => {
@@ -25,15 +27,19 @@ function reader(number, report) {
   };
 }
 
-// The moments at which the unit's mutations were lodged, as far as the caller sees them: good places to look between.
+// The moments at which the unit's mutations were lodged, as far as the caller sees them: good places to look
+// between.
 async function hints(number, last) {
   const { numbers } = await numbersOf("mutations", null);
-  const found = await Promise.all((numbers || []).slice(-MUTATIONS).map((n) => objectOf("mutations", n, null)));
+  const found = await Promise.all((numbers || []).slice(-MUTATIONS).map((n) => objectOf("mutations", n,
+    null)));
   return found.filter((o) => o && refersTo(o, number)).map((o) => o.lodged).filter((at) => at < last);
 }
 
-// Searches from the newest change back to the first: { found: [{ at, before, after }] newest first, requests, failed }. An interval whose
-// two ends are equal has no change, or changes that were undone; so each interval is also searched at steps in it.
+// Searches from the newest change back to the first: { found: [{ at, before, after }] newest first, requests,
+// failed }. An interval whose
+// two ends are equal has no change, or changes that were undone; so each interval is also searched at steps
+// in it.
 export async function searchChanges(number, last, report) {
   const found = new Map();
   const list = () => [...found.values()].sort((a, b) => b.at - a.at);
@@ -71,8 +77,11 @@ export async function searchChanges(number, last, report) {
   return { found: list(), requests: sheets.seen.size, failed };
 }
 
-// If the unit is hidden at both ends, a moment at which it was shown: looked for in ever finer steps back from the end.
+// If the unit is hidden at both ends, a moment at which it was shown: looked for in ever finer steps back
+// from the end.
 async function earliest(sheets, last) {
-  for (let span = 1000 * 60; span < last; span *= 2) if (await sheets.at(last - span)) return last - span * 2 > 0 ? last - span * 2 : 0;
+  for (let span = 1000 * 60; span < last; span *= 2) {
+    if (await sheets.at(last - span)) return Math.max(0, last - span * 2);
+  }
   return null;
 }

@@ -1,4 +1,5 @@
-// A text field with suggestions while typing, by the pattern "combobox" of ARIA: arrow keys choose, Enter takes, Escape closes.
+// A text field with suggestions while typing, by the pattern "combobox" of ARIA: arrow keys choose, Enter
+// takes, Escape closes.
 import { one, small } from "./components.js";
 import { h, newId, safeText } from "./dom.js";
 import { find } from "./find.js";
@@ -6,12 +7,15 @@ import { t } from "./words.js";
 
 const PAUSE = 180;
 
-// { field, node, close }. `take(item)` is called for the chosen item, `note(text)` with the number of results for screen readers.
+// { field, node, close }. `take(item)` is called for the chosen item, `note(text)` with the number of results
+// for screen readers.
 export function combo({ kinds, take, type = "text", placeholder = "", filter = () => true, more = {} }) {
   const id = newId("list");
-  const list = h("ul", { id, role: "listbox", class: "options", hidden: true, "aria-label": t("find.results") });
+  const list = h("ul", { id, role: "listbox", class: "options", hidden: true,
+    "aria-label": t("find.results") });
   const status = h("span", { class: "visually-hidden", role: "status" });
-  const field = h("input", { type, role: "combobox", autocomplete: "off", "aria-autocomplete": "list", "aria-expanded": "false",
+  const field = h("input", { type, role: "combobox", autocomplete: "off", "aria-autocomplete": "list",
+    "aria-expanded": "false",
     "aria-controls": id, placeholder, spellcheck: "false", maxlength: "200", ...more });
   let items = [];
   let active = -1;
@@ -48,7 +52,8 @@ export function combo({ kinds, take, type = "text", placeholder = "", filter = (
 
   function show({ found, partial }) {
     items = found.filter(filter);
-    const options = items.map((item, n) => h("li", { role: "option", id: id + "-" + n, "aria-selected": "false",
+    const options = items.map((item, n) => h("li", { role: "option", id: id + "-" + n,
+      "aria-selected": "false",
       onpointerdown: (event) => event.preventDefault(), onclick: () => choose(n) },
       h("span", { class: "option-kind" }, one(item.kind)), " ", safeText(item.text), small(item.number)));
     status.textContent = t("find.count", { n: items.length });
@@ -83,7 +88,8 @@ export function combo({ kinds, take, type = "text", placeholder = "", filter = (
     } else if (event.key === "ArrowDown" || event.key === "ArrowUp") {
       event.preventDefault();
       if (list.hidden) update();
-      else if (items.length) mark((active + (event.key === "ArrowDown" ? 1 : -1) + items.length) % items.length);
+      else if (items.length) mark((active + (event.key === "ArrowDown" ? 1 : -1) +
+        items.length) % items.length);
     } else if (event.key === "Enter" && !list.hidden && (active >= 0 || type === "search")) {
       event.preventDefault();
       if (items.length) choose(Math.max(active, 0));

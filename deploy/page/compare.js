@@ -12,10 +12,12 @@ function linesOf(unit) {
   if (unit.reply) return found;
   found.set("name", [t("col.name"), [safeText(unit.sheet.name)], unit.sheet.name]);
   for (const p of unit.sheet.parcels) {
-    found.set("parcel " + p.number, [t("one.parcels") + " " + p.number, [safeText(p.label), ", " + decimal(p.area) + " m²"], p.label + p.area]);
+    found.set("parcel " + p.number, [t("one.parcels") + " " + p.number,
+      [safeText(p.label), ", " + decimal(p.area) + " m²"], p.label + p.area]);
   }
   for (const e of unit.entries) {
-    found.set("entry " + e.number, [classOf(e) + " " + e.number, [named("parties", e.party, e.name), ", ", detailOf(e)], e.party + e.name + e.rest]);
+    found.set("entry " + e.number, [classOf(e) + " " + e.number,
+      [named("parties", e.party, e.name), ", ", detailOf(e)], e.party + e.name + e.rest]);
   }
   return found;
 }
@@ -38,5 +40,6 @@ export async function compareMoments(number, first, second) {
     return [(a || b)[0], cell(a), cell(b)];
   });
   const head = (at) => (at === null ? t("compare.now") : when(at).textContent);
-  return [table(t("compare.caption", { n: differences }), [t("change.what"), head(first), head(second)], rows, "changes")];
+  return [table(t("compare.caption", { n: differences }), [t("change.what"), head(first), head(second)], rows,
+    "changes")];
 }

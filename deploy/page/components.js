@@ -22,13 +22,15 @@ export function queryOf(at) {
   return "?" + words;
 }
 
-export const link = (kind, number, text = one(kind) + " " + number) => h("a", { href: hrefOf(kind, number) }, text);
+export const link = (kind, number, text = one(kind) + " " + number) => h("a", { href: hrefOf(kind, number) },
+  text);
 
 // The number of an object, small, after its name.
 export const small = (number) => h("span", { class: "num" }, "\u00a0" + number);
 
 // A name with the number small next to it, as a link.
-export const named = (kind, number, name) => h("a", { href: hrefOf(kind, number) }, safeText(name), small(number));
+export const named = (kind, number, name) => h("a", { href: hrefOf(kind, number) }, safeText(name),
+  small(number));
 
 export async function partyLink(number, at = state.at) {
   const party = await objectOf("parties", number, at);
@@ -42,7 +44,8 @@ export async function unitLink(number, at = state.at) {
 
 export async function parcelLink(number, at = state.at) {
   const parcel = await objectOf("parcels", number, at);
-  return parcel ? h("a", { href: hrefOf("parcels", number) }, one("parcels") + " ", safeText(parcel.label), small(number))
+  return parcel ? h("a", { href: hrefOf("parcels", number) }, one("parcels") + " ", safeText(parcel.label),
+    small(number))
     : link("parcels", number);
 }
 
@@ -56,10 +59,12 @@ export async function nameOf(kind, number, at = state.at) {
 export function errorBox(reply, more) {
   const error = explain(reply.status, reply.body);
   return h("div", { class: "message", role: "alert" }, h("h2", {}, error.title),
-    h("p", {}, error.text + " ", error.mark ? h("span", { class: "mark" }, "(" + error.mark + ")") : ""), more);
+    h("p", {}, error.text + " ", error.mark ? h("span", { class: "mark" }, "(" + error.mark + ")") : ""),
+      more);
 }
 
-export const message = (title, ...content) => h("div", { class: "message", role: "alert" }, h("h2", {}, title), ...content);
+export const message = (title, ...content) => h("div", { class: "message", role: "alert" },
+  h("h2", {}, title), ...content);
 
 export const success = (title, ...content) => h("div", { class: "message success", role: "status" },
   title ? h("h2", {}, title) : "", h("p", {}, ...content));
@@ -76,7 +81,8 @@ export const panel = (heading, ...content) =>
 
 export const lead = (text) => h("p", { class: "lead" }, text);
 
-// A table. A heading that starts with # marks a column of numbers. On narrow screens each row becomes a block.
+// A table. A heading that starts with # marks a column of numbers. On narrow screens each row becomes a
+// block.
 export function table(caption, heads, rows, name = "") {
   const kind = heads.map((text) => (text.startsWith("#") ? "number" : ""));
   const plain = heads.map((text) => text.replace(/^#/, ""));

@@ -8,7 +8,8 @@ export function ask(title, content, choices) {
   return new Promise((answer) => {
     const id = newId("dialog");
     const node = h("dialog", { "aria-labelledby": id }, h("h2", { id }, title), ...content,
-      h("p", { class: "tools" }, ...choices.map(([value, text, main]) => button(text, () => node.close(value), { class: main ? "main" : "" }))));
+      h("p", { class: "tools" }, ...choices.map(([value, text, main]) => button(text, () => node.close(value),
+        { class: main ? "main" : "" }))));
     node.addEventListener("close", () => {
       node.remove();
       answer(node.returnValue || null);

@@ -1,4 +1,5 @@
-// A drawing board: shows outlines, and takes points. A point snaps to the nearest corner, else to a whole-millimetre point of an edge, else
+// A drawing board: shows outlines, and takes points. A point snaps to the nearest corner, else to a whole-
+// millimetre point of an edge, else
 // to whole millimetres.
 import { h, safeString } from "./dom.js";
 import { snap } from "./ground.js";
@@ -13,7 +14,8 @@ const span = (values) => [Math.min(...values), Math.max(...values)];
 // Metres of a point, as text.
 export const metresText = (p) => p.map((v) => String(v / 1000)).join(" ");
 
-// Points that a user entered, in metres: "5 0; 5 10". Returns millimetres, or null. Decimals may have a point or a comma.
+// Points that a user entered, in metres: "5 0; 5 10". Returns millimetres, or null. Decimals may have a point
+// or a comma.
 export function readPoints(text) {
   const found = text.split(/[;\n]/).map((one) => one.trim()).filter(Boolean).map((one) => one.split(/\s+/));
   const number = /^-?\d+([.,]\d{1,3})?$/;
@@ -21,8 +23,10 @@ export function readPoints(text) {
   return found.map((words) => words.map((word) => Math.round(Number(word.replace(",", ".")) * 1000) || 0));
 }
 
-// A board: { node, draw }. `draw({ shapes, line, marks })` shows rings ({ ring, label, mark }), the line drawn so far, and segments that are
-// wrong. `onpoint(point, on)` is called for each new point. `box`: the extent in millimetres [west, south, east, north].
+// A board: { node, draw }. `draw({ shapes, line, marks })` shows rings ({ ring, label, mark }), the line
+// drawn so far, and segments that are
+// wrong. `onpoint(point, on)` is called for each new point. `box`: the extent in millimetres [west, south,
+// east, north].
 export function board({ box, onpoint, label }) {
   const [west, south, east, north] = box;
   const scale = SIZE / Math.max(east - west, north - south, 1);
@@ -33,7 +37,8 @@ export function board({ box, onpoint, label }) {
   let snapped = [];
   const layer = h("g", {});
   const hover = h("circle", { class: "hover", r: "0" });
-  const svg = h("svg", { class: "plan board", role: "group", "aria-label": label, preserveAspectRatio: "xMidYMid meet" }, layer, hover);
+  const svg = h("svg", { class: "plan board", role: "group", "aria-label": label,
+    preserveAspectRatio: "xMidYMid meet" }, layer, hover);
   const place = ([x, y]) => [(x - west) * scale, (north - y) * scale];
   const pixel = () => {
     const matrix = svg.getScreenCTM();
@@ -53,12 +58,15 @@ export function board({ box, onpoint, label }) {
   set(whole);
 
   let held = null;
-  svg.addEventListener("pointerdown", (event) => { held = { x: event.clientX, y: event.clientY, view, moved: false }; });
+  svg.addEventListener("pointerdown", (event) => { held = { x: event.clientX, y: event.clientY, view,
+    moved: false }; });
   svg.addEventListener("pointermove", (event) => {
-    if (held && event.buttons === 1 && (held.moved || Math.hypot(event.clientX - held.x, event.clientY - held.y) > 6)) {
+    if (held && event.buttons === 1 && (held.moved || Math.hypot(event.clientX - held.x,
+      event.clientY - held.y) > 6)) {
       held.moved = true;
       const k = pixel();
-      set([held.view[0] - (event.clientX - held.x) * k, held.view[1] - (event.clientY - held.y) * k, held.view[2], held.view[3]]);
+      set([held.view[0] - (event.clientX - held.x) * k, held.view[1] - (event.clientY - held.y) * k,
+        held.view[2], held.view[3]]);
     } else if (event.pointerType === "mouse") showHover(event);
   });
   svg.addEventListener("pointerup", (event) => {
@@ -81,12 +89,14 @@ export function board({ box, onpoint, label }) {
   const way = (points) => points.map((p) => place(p).map((v) => v.toFixed(2)).join(" ")).join("L");
 
   function draw({ shapes = [], line = [], marks = [] }) {
-    snapped = [...shapes.map((one) => one.ring), ...(line.length > 2 ? [line.slice(0, 1)] : [])].filter((ring) => ring.length);
+    snapped = [...shapes.map((one) => one.ring), ...(line.length > 2 ? [line.slice(0, 1)] :
+      [])].filter((ring) => ring.length);
     const nodes = shapes.flatMap(({ ring, label: text, mark }) => {
       const { x, y, room } = labelPosition(ring.map(place));
       const words = text ? safeString([...text].slice(0, 12).join("")) : "";
       const size = Math.min(44, room / 2.5, room * 1.6 / Math.max(1, words.length)).toFixed(1);
-      return [h("path", { d: "M" + way(ring) + "Z", class: mark || "" }), words && room > 8 ? h("text", { x, y, "font-size": size }, words) : ""];
+      return [h("path", { d: "M" + way(ring) + "Z", class: mark || "" }), words && room > 8 ?
+        h("text", { x, y, "font-size": size }, words) : ""];
     });
     const r = String(5 * pixel());
     const wrong = marks.map((segment) => h("path", { class: "wrong-line", d: "M" + way(segment) }));
@@ -95,7 +105,8 @@ export function board({ box, onpoint, label }) {
     layer.replaceChildren(...nodes.filter(Boolean), ...wrong, ...drawn, ...points);
   }
 
-  const zoom = (by) => set([view[0] + view[2] * (1 - by) / 2, view[1] + view[3] * (1 - by) / 2, view[2] * by, view[3] * by]);
+  const zoom = (by) => set([view[0] + view[2] * (1 - by) / 2, view[1] + view[3] * (1 - by) / 2, view[2] * by,
+    view[3] * by]);
   const move = (dx, dy) => set([view[0] + view[2] * dx, view[1] + view[3] * dy, view[2], view[3]]);
   return { node: h("div", { class: "drawing" }, svg, viewButtons(zoom, move, () => set(whole))), draw };
 }
@@ -110,7 +121,8 @@ export function boxOf(rings, margin = 0) {
 
 // A field for the points of a line, which drawing fills in: the way to draw by keyboard.
 export function pointsInput(id, onchange) {
-  const input = h("input", { type: "text", id, class: "points", placeholder: "5 0; 5 10", spellcheck: "false" });
+  const input = h("input", { type: "text", id, class: "points", placeholder: "5 0; 5 10",
+    spellcheck: "false" });
   input.addEventListener("change", () => {
     const points = readPoints(input.value);
     input.setAttribute("aria-invalid", String(points === null));

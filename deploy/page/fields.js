@@ -20,13 +20,17 @@ function textError(text, most) {
 }
 
 export function textField({ key, label, most = 200, help, value = "", size }) {
-  const input = h("input", { type: "text", name: key, maxlength: String(most * 2), value, class: size || "" });
-  return field({ key, label, input, help, read: () => input.value.trim(), check: async () => textError(input.value.trim(), most) });
+  const input = h("input", { type: "text", name: key, maxlength: String(most * 2), value, class: size ||
+    "" });
+  return field({ key, label, input, help, read: () => input.value.trim(),
+    check: async () => textError(input.value.trim(), most) });
 }
 
 export function choiceField({ key, label, options, value, help, onchange = () => null }) {
-  const input = select(options, value === undefined ? options[0][0] : value, { name: key, onchange: () => onchange(input.value) });
-  return { ...field({ key, label, input, help, read: () => input.value, check: async () => (input.value ? "" : t("field.choose")) }), input };
+  const input = select(options, value === undefined ? options[0][0] : value,
+    { name: key, onchange: () => onchange(input.value) });
+  return { ...field({ key, label, input, help, read: () => input.value,
+    check: async () => (input.value ? "" : t("field.choose")) }), input };
 }
 
 export function checkField({ key, label, help, value = true }) {
@@ -35,8 +39,10 @@ export function checkField({ key, label, help, value = true }) {
   return field({ key, label, input, help, read: () => input.checked });
 }
 
-export function shareField({ key = "share", label = t("content.share"), help, value = "", more = async () => "" }) {
-  const input = h("input", { type: "text", name: key, inputmode: "text", placeholder: "1/2", value, class: "short" });
+export function shareField({ key = "share", label = t("content.share"), help, value = "",
+  more = async () => "" }) {
+  const input = h("input", { type: "text", name: key, inputmode: "text", placeholder: "1/2", value,
+    class: "short" });
   const read = () => input.value.trim();
   const check = async () => {
     const share = readShare(read());
@@ -46,24 +52,30 @@ export function shareField({ key = "share", label = t("content.share"), help, va
 }
 
 export function moneyField() {
-  const currency = h("input", { type: "text", name: "currency", value: "EUR", class: "currency", maxlength: "3", "aria-label": t("content.currency") });
-  const amount = h("input", { type: "text", name: "amount", inputmode: "decimal", class: "amount", placeholder: t("field.amountSample") });
+  const currency = h("input", { type: "text", name: "currency", value: "EUR", class: "currency",
+    maxlength: "3", "aria-label": t("content.currency") });
+  const amount = h("input", { type: "text", name: "amount", inputmode: "decimal", class: "amount",
+    placeholder: t("field.amountSample") });
   const echo = h("p", { class: "picked", role: "status" });
   const code = () => currency.value.trim().toUpperCase();
   const read = () => (/^[A-Z]{3}$/.test(code()) ? minorUnits(amount.value.trim(), code()) : null);
   const show = () => { echo.textContent = read() === null ? "" : money(read(), code()); };
   for (const node of [currency, amount]) node.addEventListener("input", show);
-  const check = async () => (!/^[A-Z]{3}$/.test(code()) ? t("field.currency") : read() === null ? t("field.amount") : "");
-  const made = field({ key: "amount", label: t("content.amount"), input: h("span", { class: "money" }, currency, amount), focus: amount,
+  const check = async () => (!/^[A-Z]{3}$/.test(code()) ? t("field.currency") : read() === null ?
+    t("field.amount") : "");
+  const made = field({ key: "amount", label: t("content.amount"),
+    input: h("span", { class: "money" }, currency, amount), focus: amount,
     help: t("field.amountHelp"), extra: [echo], read, check });
   return { ...made, currency: code };
 }
 
 // A field in which an object is picked by its name or number.
-export function pickField({ key, label, kind, help, value = null, allow = async () => "", onpick = () => null, filter }) {
+export function pickField({ key, label, kind, help, value = null, allow = async () => "", onpick = () => null,
+  filter }) {
   let item = null;
   const note = h("p", { class: "picked", role: "status" });
-  const box = combo({ kinds: [kind], take: (found) => set(found), filter, more: { name: key }, placeholder: t("field.pick." + kind) });
+  const box = combo({ kinds: [kind], take: (found) => set(found), filter, more: { name: key },
+    placeholder: t("field.pick." + kind) });
 
   function set(found) {
     item = found;
@@ -83,7 +95,8 @@ export function pickField({ key, label, kind, help, value = null, allow = async 
       else if (!seesAll(kind)) set({ kind, number: Number(words), text: "", unseen: true });
       return;
     }
-    const same = (await find(words, [kind])).found.filter((one) => one.text.toLowerCase() === words.toLowerCase());
+    const same = (await find(words,
+      [kind])).found.filter((one) => one.text.toLowerCase() === words.toLowerCase());
     if (same.length === 1) set(same[0]);
   }
 
@@ -98,7 +111,8 @@ export function pickField({ key, label, kind, help, value = null, allow = async 
     if (!item) return box.field.value.trim() === "" ? t("field.empty") : t("field.noSuch." + kind);
     return allow(item);
   };
-  const made = field({ key, label, input: box.node, focus: box.field, help, extra: [note], read: () => (item ? item.number : null), check });
+  const made = field({ key, label, input: box.node, focus: box.field, help, extra: [note],
+    read: () => (item ? item.number : null), check });
   if (value !== null) {
     box.field.value = String(value);
     queueMicrotask(resolve);
@@ -115,7 +129,8 @@ export async function singleParty(item) {
   return party && party.kind === "group" ? t("field.notGroup") : "";
 }
 
-// A field for an entry of the unit in another field: a list of the unit's entries, or a number if the caller may not see the unit.
+// A field for an entry of the unit in another field: a list of the unit's entries, or a number if the caller
+// may not see the unit.
 export function entryField({ key, label, classes, help, value = null, onpick = () => null }) {
   const place = h("span", {});
   const id = newId(key);
@@ -132,13 +147,17 @@ export function entryField({ key, label, classes, help, value = null, onpick = (
 
   async function load(unit) {
     entries = [];
-    if (unit === null) return replace(h("select", { id, name: key, disabled: true }, new Option(t("field.unitFirst"), "")));
+    if (unit === null) return replace(h("select", { id, name: key, disabled: true },
+      new Option(t("field.unitFirst"), "")));
     const found = await loadUnit(unit, null);
-    if (found.reply) return replace(h("input", { id, name: key, type: "text", inputmode: "numeric", placeholder: t("field.number"), value: value || "" }));
+    if (found.reply) return replace(h("input", { id, name: key, type: "text", inputmode: "numeric",
+      placeholder: t("field.number"), value: value || "" }));
     entries = found.entries.filter((e) => classes.includes(e.class));
-    const text = (e) => classOf(e) + ": " + safeString(e.name) + ", " + (e.share || textOf(e)) + " (" + e.number + ")";
+    const text = (e) => classOf(e) + ": " + safeString(e.name) + ", " + (e.share || textOf(e)) + " (" +
+      e.number + ")";
     const options = entries.map((e) => [String(e.number), text(e)]);
-    const node = select([["", entries.length ? t("field.choose") : t("field.noEntries")], ...options], "", { id, name: key, onchange: () => onpick(chosen()) });
+    const node = select([["", entries.length ? t("field.choose") : t("field.noEntries")], ...options], "",
+      { id, name: key, onchange: () => onpick(chosen()) });
     if (value && entries.some((e) => e.number === value)) node.value = String(value);
     else if (entries.length === 1) node.value = String(entries[0].number);
     replace(node);

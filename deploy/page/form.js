@@ -6,15 +6,18 @@ import { when } from "./moments.js";
 import { guard } from "./session.js";
 import { parts, t } from "./words.js";
 
-// A field: a label, an input, a help text and an error. `input` may be any node; `focus` is the element to focus.
-export function field({ key, label, input, focus = input, help = "", read, check = async () => "", extra = [] }) {
+// A field: a label, an input, a help text and an error. `input` may be any node; `focus` is the element to
+// focus.
+export function field({ key, label, input, focus = input, help = "", read, check = async () => "",
+  extra = [] }) {
   if (!focus.id) focus.id = newId(key);
   const helpId = focus.id + "-help";
   const errorId = focus.id + "-error";
   const error = h("p", { class: "field-error", id: errorId });
   focus.setAttribute("aria-describedby", [help ? helpId : "", errorId].filter(Boolean).join(" "));
   const node = h("div", { class: "field", "data-key": key }, h("label", { for: focus.id }, label),
-    h("div", { class: "value" }, input, help ? h("p", { class: "help", id: helpId }, help) : "", ...extra, error));
+    h("div", { class: "value" }, input, help ? h("p", { class: "help", id: helpId }, help) : "", ...extra,
+      error));
   const show = (text) => {
     error.textContent = text;
     if (text) focus.setAttribute("aria-invalid", "true");
@@ -32,7 +35,8 @@ export function field({ key, label, input, focus = input, help = "", read, check
 // A group of fields under a heading; `fields()` returns those that are shown now.
 export function group({ key, label, fields, content, check = async () => "" }) {
   const error = h("p", { class: "field-error", id: newId(key) });
-  const node = h("fieldset", { class: "group", "data-key": key, tabindex: "-1" }, h("legend", {}, label), ...content, error);
+  const node = h("fieldset", { class: "group", "data-key": key, tabindex: "-1" }, h("legend", {}, label),
+    ...content, error);
   return { key, node,
     check: async () => {
       const found = (await Promise.all(fields().map((one) => one.check()))).flat();
@@ -56,7 +60,8 @@ async function madeLinks(numbers) {
   return links.flatMap((node, n) => [n ? ", " : "", node]);
 }
 
-// The view of a form: `build()` makes { fields, body } anew after each success, so that the next act starts with empty fields.
+// The view of a form: `build()` makes { fields, body } anew after each success, so that the next act starts
+// with empty fields.
 export function formView({ name, leadText, build, lodging }) {
   const place = h("div", {});
   const answer = h("div", { class: "answer" });
@@ -66,8 +71,10 @@ export function formView({ name, leadText, build, lodging }) {
     current = build();
     const summary = h("div", {});
     const submit = h("button", { class: "main" }, t("act.send." + (lodging ? "lodge" : name)));
-    const form = h("form", { class: "form panel", novalidate: true, autocomplete: "off" }, summary, ...current.fields.map((one) => one.node),
-      h("p", { class: "tools" }, submit, button(t("form.clear"), () => { answer.replaceChildren(); start(); })));
+    const form = h("form", { class: "form panel", novalidate: true, autocomplete: "off" }, summary,
+      ...current.fields.map((one) => one.node),
+      h("p", { class: "tools" }, submit, button(t("form.clear"),
+        () => { answer.replaceChildren(); start(); })));
     let touched = false;
     form.addEventListener("input", () => { touched = true; });
     guard(() => touched && form.isConnected);
@@ -89,7 +96,8 @@ export function formView({ name, leadText, build, lodging }) {
     const wrong = (await Promise.all(current.fields.map((one) => one.check()))).flat();
     summary.replaceChildren();
     if (wrong.length) {
-      const items = wrong.map((one) => h("li", {}, button(one.label + ": " + one.text, one.focus, { class: "as-link" })));
+      const items = wrong.map((one) => h("li", {}, button(one.label + ": " + one.text, one.focus,
+        { class: "as-link" })));
       summary.replaceChildren(message(t("form.wrong", { n: wrong.length }), h("ul", {}, ...items)));
       wrong[0].focus();
       return false;
@@ -109,11 +117,13 @@ export function formView({ name, leadText, build, lodging }) {
 
   async function doneBox(body) {
     if (lodging) {
-      return success(t("form.lodged"), ...parts("form.lodgedText", { mutation: h("a", { href: hrefOf("mutations", body.number) },
+      return success(t("form.lodged"), ...parts("form.lodgedText",
+        { mutation: h("a", { href: hrefOf("mutations", body.number) },
         t("act." + name), h("span", { class: "num" }, "\u00a0" + body.number)), when: when(body.stamp) }));
     }
     const made = await madeLinks(body.made.length ? body.made : name === "lift" ? [] : [body.number]);
-    return success(t("form.done." + name), ...(made.length ? parts("form.made", { list: made }) : []), " ", ...parts("decide.at", { when: when(body.stamp) }));
+    return success(t("form.done." + name), ...(made.length ? parts("form.made", { list: made }) : []), " ",
+      ...parts("decide.at", { when: when(body.stamp) }));
   }
 
   start();

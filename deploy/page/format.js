@@ -30,10 +30,12 @@ export function placesOf(currency) {
 export function money(amount, currency) {
   const places = placesOf(currency);
   const digits = String(amount).padStart(places + 1, "0");
-  return currency + "\u00a0" + withSeparators(digits.slice(0, digits.length - places), places ? digits.slice(-places) : "");
+  return currency + "\u00a0" + withSeparators(digits.slice(0, digits.length - places), places ?
+    digits.slice(-places) : "");
 }
 
-// The minor units of an amount that a user entered, or null. A point or a comma before the last digits separates minor units.
+// The minor units of an amount that a user entered, or null. A point or a comma before the last digits
+// separates minor units.
 export function minorUnits(text, currency) {
   const places = placesOf(currency);
   const plain = text.replace(/[\s\u00a0\u202f'’]/g, "");
@@ -43,7 +45,8 @@ export function minorUnits(text, currency) {
   if (mark && whole.includes(mark)) return null;
   if (mark && (places === 0 || rest.length > places)) {
     // 25.000 or 25,000: thousands, only if the reader writes them so
-    return rest.length === 3 && mark === separators().group ? minorUnits(plain.replaceAll(mark, ""), currency) : null;
+    return rest.length === 3 && mark === separators().group ?
+      minorUnits(plain.replaceAll(mark, ""), currency) : null;
   }
   const value = BigInt(whole.replace(/[.,]/g, "") + rest.padEnd(places, "0"));
   return value >= 1n && value <= 1000000000000000n ? Number(value) : null;

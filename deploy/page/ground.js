@@ -1,4 +1,5 @@
-// Whether two lists of outlines cover the same ground, by the rule of docs/OUTLINES.md; and the two operations on parcels that keep it:
+// Whether two lists of outlines cover the same ground, by the rule of docs/OUTLINES.md; and the two
+// operations on parcels that keep it:
 // cutting one along a line, and joining several.
 import { contains, isInside, ringOf, samePoint } from "./shape.js";
 
@@ -36,7 +37,8 @@ function segmentsOf(edge, inside) {
   return chain.slice(1).map((p, n) => [chain[n], p]).filter(([p, q]) => !samePoint(p, q));
 }
 
-// For each directed segment: how often the list has it, less how often it has the reverse one. A segment is listed in one direction.
+// For each directed segment: how often the list has it, less how often it has the reverse one. A segment is
+// listed in one direction.
 function countsOf(rings, inside) {
   const counts = new Map();
   for (const edge of edgesOf(rings)) {
@@ -63,7 +65,8 @@ export function compareGround(rings, others) {
   return { same: segments.length === 0, segments };
 }
 
-// The ring with a point of its boundary as a corner: [ring, index], or null if the point is not on the boundary.
+// The ring with a point of its boundary as a corner: [ring, index], or null if the point is not on the
+// boundary.
 function withCorner(ring, p) {
   const corner = ring.findIndex((one) => samePoint(one, p));
   if (corner >= 0) return [ring, corner];
@@ -71,7 +74,8 @@ function withCorner(ring, p) {
   return edge < 0 ? null : [[...ring.slice(0, edge + 1), p, ...ring.slice(edge + 1)], edge + 1];
 }
 
-// Cuts a ring along a line whose ends are on its boundary: { rings: [a, b] } or { error: a key of the strings }.
+// Cuts a ring along a line whose ends are on its boundary: { rings: [a, b] } or { error: a key of the strings
+// }.
 export function cut(ring, line) {
   if (line.length < 2) return { error: "draw.short" };
   const [start, end] = [line[0], line[line.length - 1]];
@@ -86,7 +90,8 @@ export function cut(ring, line) {
   if (to === 0) return { error: "draw.closed" };
   const middle = line.slice(1, -1);
   if (!middle.every((p) => contains(ring, p))) return { error: "draw.leaves" };
-  const sides = [[...turned.slice(0, to + 1), ...middle.slice().reverse()], [...turned.slice(to), turned[0], ...middle]];
+  const sides = [[...turned.slice(0, to + 1), ...middle.slice().reverse()],
+    [...turned.slice(to), turned[0], ...middle]];
   const checked = sides.map((side) => ringOf([...side, side[0]]));
   if (checked.some((one) => one.fault)) return { error: "draw.crosses" };
   const rings = checked.map((one) => one.ring);
@@ -95,7 +100,8 @@ export function cut(ring, line) {
 
 // The corners of a ring without those in the middle of a straight line.
 function straightened(ring) {
-  return ring.filter((p, n) => !isInside(p, ring[(n + ring.length - 1) % ring.length], ring[(n + 1) % ring.length]));
+  return ring.filter((p, n) => !isInside(p, ring[(n + ring.length - 1) % ring.length],
+    ring[(n + 1) % ring.length]));
 }
 
 // Joins rings that touch along edges: { ring } or { error }.
@@ -127,7 +133,8 @@ export function join(rings) {
   return compareGround([checked.ring], rings).same ? checked : { error: "draw.overlap" };
 }
 
-// The point with whole coordinates on an edge that is nearest to a place. An edge has such points only at multiples of its smallest step.
+// The point with whole coordinates on an edge that is nearest to a place. An edge has such points only at
+// multiples of its smallest step.
 function nearestOnEdge([x, y], a, b) {
   const [dx, dy] = [b[0] - a[0], b[1] - a[1]];
   const steps = Number(greatest(BigInt(Math.abs(dx)), BigInt(Math.abs(dy))));
@@ -138,7 +145,8 @@ function nearestOnEdge([x, y], a, b) {
 
 const greatest = (a, b) => (b === 0n ? a : greatest(b, a % b));
 
-// Snaps a place to the nearest corner, else to the nearest whole point of an edge, within a tolerance; else to whole millimetres.
+// Snaps a place to the nearest corner, else to the nearest whole point of an edge, within a tolerance; else
+// to whole millimetres.
 export function snap(place, rings, tolerance) {
   const near = (p) => Math.hypot(p[0] - place[0], p[1] - place[1]);
   const best = (list) => list.reduce((a, b) => (a === null || near(b) < near(a) ? b : a), null);

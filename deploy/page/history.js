@@ -1,4 +1,5 @@
-// The history of a unit: the mirror's list of changes, else the moments of change that a search in title sheets finds.
+// The history of a unit: the mirror's list of changes, else the moments of change that a search in title
+// sheets finds.
 import { objectOf, sheetOf, state } from "./api.js";
 import { button, classOf, hrefAt, hrefOf, panel, select, small } from "./components.js";
 import { compareMoments } from "./compare.js";
@@ -43,25 +44,31 @@ async function listed(number, out, progress) {
   const moments = history.map((change) => change.stamp);
   const items = await Promise.all(history.map(changeItem));
   out.replaceChildren(periods(history), chooser(number, moments), h("ol", { class: "history" }, ...items));
-  progress.textContent = history.length ? t("history.count", { n: history.length }) + (history.length === MOST ? " " + t("history.more") : "")
+  progress.textContent = history.length ? t("history.count", { n: history.length }) +
+    (history.length === MOST ? " " + t("history.more") : "")
     : t("history.none");
   return undefined;
 }
 
-// The periods in which the caller had an ownership, from the entries that began and ended. Helps a former owner.
+// The periods in which the caller had an ownership, from the entries that began and ended. Helps a former
+// owner.
 function periods(history) {
   if (state.role !== "citizen") return "";
   const mine = [];
   for (const { stamp, began, ended } of [...history].reverse()) {
-    for (const e of ended) if (e.rrr && e.rrr.party === state.me && e.rrr.class === "ownership") end(mine, e.rrr.number, stamp);
-    for (const e of began) if (e.rrr && e.rrr.party === state.me && e.rrr.class === "ownership") begin(mine, e.rrr, stamp);
+    for (const e of ended) if (e.rrr && e.rrr.party === state.me && e.rrr.class === "ownership") end(mine,
+      e.rrr.number, stamp);
+    for (const e of began) if (e.rrr && e.rrr.party === state.me && e.rrr.class === "ownership") begin(mine,
+      e.rrr, stamp);
   }
   const rows = mine.map((p) => h("li", {}, ...parts(p.until ? "history.period" : "history.periodOpen",
     { share: p.share, from: when(p.from), until: p.until ? when(p.until) : "" })));
-  return rows.length ? h("div", {}, h("h3", {}, t("history.yours")), h("ul", { class: "plain" }, ...rows)) : "";
+  return rows.length ? h("div", {}, h("h3", {}, t("history.yours")), h("ul", { class: "plain" }, ...rows)) :
+    "";
 }
 
-const end = (list, number, stamp) => list.filter((p) => p.number === number && !p.until).forEach((p) => { p.until = stamp; });
+const end = (list, number, stamp) => list.filter((p) => p.number === number &&
+  !p.until).forEach((p) => { p.until = stamp; });
 const begin = (list, rrr, stamp) => list.push({ number: rrr.number, share: rrr.share, from: stamp });
 
 async function changeItem({ stamp, began, ended, mutations }) {
@@ -73,33 +80,39 @@ async function changeItem({ stamp, began, ended, mutations }) {
     items.push(await changeLine(before < 0 ? null : rest.splice(before, 1)[0], e, stamp));
   }
   for (const e of rest) items.push(await changeLine(e, null, stamp));
-  return h("li", {}, h("div", {}, h("a", { href: hrefAt(stamp), "aria-current": state.at === stamp ? "true" : "" }, when(stamp))),
+  return h("li", {}, h("div", {}, h("a", { href: hrefAt(stamp), "aria-current": state.at === stamp ? "true" :
+    "" }, when(stamp))),
     h("ul", {}, ...items.map((item) => h("li", {}, ...item))));
 }
 
-const same = (a, b) => ["unit", "parcel", "rrr"].some((key) => a[key] && b[key] && a[key].number === b[key].number);
+const same = (a, b) => ["unit", "parcel", "rrr"].some((key) => a[key] && b[key] &&
+  a[key].number === b[key].number);
 
 async function mutationLine(m) {
   const known = await objectOf("mutations", m.number);
   const source = known && known.source ? await documentOf(known.source) : "";
-  return [h("a", { href: hrefOf("mutations", m.number) }, t("act." + m.act), small(m.number)), " " + t("history.was." + m.state), source ? [", ", source] : ""];
+  return [h("a", { href: hrefOf("mutations", m.number) }, t("act." + m.act), small(m.number)), " " +
+    t("history.was." + m.state), source ? [", ", source] : ""];
 }
 
 async function documentOf(number) {
-  const source = ["notary", "stateAdministrator"].includes(state.role) ? await objectOf("sources", number) : null;
+  const source = ["notary", "stateAdministrator"].includes(state.role) ? await objectOf("sources", number) :
+    null;
   return source ? h("a", { href: hrefOf("sources", number) }, safeText(source.title)) : "";
 }
 
 // A row that began, ended, or changed.
 async function changeLine(before, after, stamp) {
   const o = after || before;
-  const sign = h("span", { class: after ? (before ? "sign" : "sign plus") : "sign minus" }, before && after ? t("history.changed") : t(after ? "history.began" : "history.ended"));
+  const sign = h("span", { class: after ? (before ? "sign" : "sign plus") : "sign minus" }, before && after ?
+    t("history.changed") : t(after ? "history.began" : "history.ended"));
   if (o.unit) return [sign, " ", t("one.units") + " ", safeText(o.unit.name)];
   if (o.parcel) return [sign, " ", t("one.parcels") + " ", safeText(o.parcel.label), small(o.parcel.number)];
   const name = await objectOf("parties", o.rrr.party, after ? stamp : stamp - 1);
   const source = before && !after ? "" : await documentOf(o.rrr.source);
   const detail = before && after ? [detailOf(before.rrr), " → ", detailOf(after.rrr)] : [detailOf(o.rrr)];
-  return [sign, " ", classOf(o.rrr) + ": ", name ? safeText(name.name) : t("one.parties") + " " + o.rrr.party, ", ", ...detail, source ? [", ", source] : ""];
+  return [sign, " ", classOf(o.rrr) + ": ", name ? safeText(name.name) : t("one.parties") + " " + o.rrr.party,
+    ", ", ...detail, source ? [", ", source] : ""];
 }
 
 // ---- without the mirror
@@ -108,7 +121,8 @@ async function searched(number, sheet, out, progress) {
   opened = number + " " + state.role;
   const last = await currentTime(number, sheet);
   const show = (found) => {
-    out.replaceChildren(chooser(number, found.map((one) => one.at)), h("ol", { class: "history" }, ...found.map(momentItem)));
+    out.replaceChildren(chooser(number, found.map((one) => one.at)),
+      h("ol", { class: "history" }, ...found.map(momentItem)));
   };
   const result = await searchChanges(number, last, (n, found) => {
     progress.textContent = t("history.searching", { n });
@@ -116,15 +130,18 @@ async function searched(number, sheet, out, progress) {
   });
   show(result.found);
   const text = result.found.length ? t("history.found", { n: result.found.length }) : t("history.none");
-  progress.textContent = text + " " + t("history.howSearched", { n: result.requests }) + (result.failed ? " " + t("history.failed", { n: result.failed }) : "");
+  progress.textContent = text + " " + t("history.howSearched", { n: result.requests }) +
+    (result.failed ? " " + t("history.failed", { n: result.failed }) : "");
 }
 
 function momentItem({ at, before, after }) {
   const key = after === null ? "history.hidden" : before === null ? "history.shown" : "history.differs";
-  return h("li", {}, h("a", { href: hrefAt(at), "aria-current": state.at === at ? "true" : "" }, when(at)), " ", t(key));
+  return h("li", {}, h("a", { href: hrefAt(at), "aria-current": state.at === at ? "true" : "" }, when(at)),
+    " ", t(key));
 }
 
-// The current time, also while the page shows an earlier one: from a title sheet, else from the gateway's clock.
+// The current time, also while the page shows an earlier one: from a title sheet, else from the gateway's
+// clock.
 async function currentTime(number, sheet) {
   if (sheet && state.at === null) return sheet.at;
   const now = await sheetOf(number, null);

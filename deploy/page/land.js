@@ -1,4 +1,5 @@
-// The entry point of the page: routing, role, time, language. The page shows the register's replies and enforces no rules of its own.
+// The entry point of the page: routing, role, time, language. The page shows the register's replies and
+// enforces no rules of its own.
 import { ROLES, firstRole, forget, signIn, state } from "./api.js";
 import { actView } from "./acts.js";
 import { KINDS, errorBox, hrefOf, many, queryOf } from "./components.js";
@@ -29,7 +30,8 @@ function parseLocation() {
   state.role = ROLES.includes(role) ? role : firstRole();
   state.at = momentFromUrl(parameters.get("at"));
   const from = Number(parameters.get("from"));
-  return { way: path ? path.split("/") : ["start"], from: Number.isSafeInteger(from) && from > 0 ? from : 0, sort: parameters.get("sort") || undefined };
+  return { way: path ? path.split("/") : ["start"], from: Number.isSafeInteger(from) && from > 0 ? from : 0,
+    sort: parameters.get("sort") || undefined };
 }
 
 // The view if a reply cannot be displayed.
@@ -43,13 +45,16 @@ async function viewOf([kind, number, ...rest], options) {
   if (kind === "do" && number) return actView(number, rest);
   if (kind === "map") return mapView(number);
   if (KINDS.includes(kind) && number === undefined) return listView(kind, options);
-  if (KINDS.includes(kind) && /^\d{1,13}$/.test(number)) return kind === "units" ? unitView(Number(number)) : objectView(kind, Number(number));
+  if (KINDS.includes(kind) && /^\d{1,13}$/.test(number)) return kind === "units" ? unitView(Number(number)) :
+    objectView(kind, Number(number));
   return startView();
 }
 
 function showTabs(here) {
-  const tabs = [["start", titleOf(state.role)], ["map", t("map.tab")], ...KINDS.map((kind) => [kind, many(kind)])];
-  const tab = ([kind, text]) => h("li", {}, h("a", { href: hrefOf(kind), "aria-current": kind === here ? "page" : "" }, text));
+  const tabs = [["start", titleOf(state.role)], ["map", t("map.tab")],
+    ...KINDS.map((kind) => [kind, many(kind)])];
+  const tab = ([kind, text]) => h("li", {}, h("a", { href: hrefOf(kind), "aria-current": kind === here ?
+    "page" : "" }, text));
   by("tabs").replaceChildren(...tabs.map(tab));
 }
 
@@ -69,7 +74,8 @@ async function render(moved) {
   const [title, ...view] = await viewOf(way, options).catch(failedView);
   if (rendering !== latest) return;
   document.title = safeString(title) + " - " + t("app.title");
-  main.replaceChildren(h("h1", {}, safeText(title)), takeNotice(), ...view.filter((one) => one !== "" && one));
+  main.replaceChildren(h("h1", {}, safeText(title)), takeNotice(),
+    ...view.filter((one) => one !== "" && one));
   main.removeAttribute("aria-busy");
   status.textContent = safeString(title);
   if (moved) main.focus();
@@ -80,13 +86,17 @@ async function render(moved) {
 function showCaller() {
   const who = by("who");
   if (state.me === null) return who.replaceChildren("\u00a0");
-  return who.replaceChildren(...(state.name ? [safeText(state.name), h("span", { class: "num" }, " " + t("one.parties") + " " + state.me)] : [t("one.parties") + " " + state.me]));
+  return who.replaceChildren(...(state.name ? [safeText(state.name),
+    h("span", { class: "num" }, " " + t("one.parties") + " " + state.me)] :
+    [t("one.parties") + " " + state.me]));
 }
 
 function fillRoles() {
   const held = state.roles || ROLES;
-  const option = (role) => h("option", { value: role }, t("role.title." + role) + (held.includes(role) ? "" : " " + t("role.notYours")));
-  roleField.replaceChildren(...ROLES.filter((role) => held.includes(role)).map(option), ...ROLES.filter((role) => !held.includes(role)).map(option));
+  const option = (role) => h("option", { value: role }, t("role.title." + role) +
+    (held.includes(role) ? "" : " " + t("role.notYours")));
+  roleField.replaceChildren(...ROLES.filter((role) => held.includes(role)).map(option),
+    ...ROLES.filter((role) => !held.includes(role)).map(option));
 }
 
 // Navigates to the same view in another role or at another time.
@@ -113,9 +123,11 @@ function applyTime() {
 // The texts of the page's frame in the chosen language.
 function showFrame() {
   document.documentElement.lang = language;
-  for (const node of document.querySelectorAll("[data-t]")) node.textContent = t(node.dataset.t, { zone: zoneName() });
+  for (const node of document.querySelectorAll("[data-t]")) node.textContent = t(node.dataset.t,
+    { zone: zoneName() });
   by("nav").setAttribute("aria-label", t("app.parts"));
-  by("language").replaceChildren(...LANGUAGES.map((one) => h("option", { value: one, lang: one }, languageName(one))));
+  by("language").replaceChildren(...LANGUAGES.map((one) => h("option", { value: one, lang: one },
+    languageName(one))));
   by("language").value = language;
   setUpSearch(by("search-form"), by("search-label"));
   fillRoles();

@@ -1,7 +1,8 @@
 // Lists of a kind: newest first, in pages, with a filter and CSV. With the mirror a page is one request.
 import { numbersOf, objectOf, state } from "./api.js";
 import {
-  button, classOf, csvOf, download, entryText, errorBox, hrefOf, kindOfParty, labelled, many, named, panel, partyLink, pastNotice,
+  button, classOf, csvOf, download, entryText, errorBox, hrefOf, kindOfParty, labelled, many, named, panel,
+    partyLink, pastNotice,
   queryOf, rolesText, select, small, table, unitLink,
 } from "./components.js";
 import { h, safeText } from "./dom.js";
@@ -16,18 +17,23 @@ const PAGE = 20;
 
 // The columns of a kind: their headings, the cells of an object, and the texts of its row in a file.
 const COLUMNS = {
-  units: [["col.name", "col.shares"], async (o) => [named("units", o.number, o.name), t(o.checked ? "shares.checked" : "shares.unchecked")],
+  units: [["col.name", "col.shares"], async (o) => [named("units", o.number, o.name),
+    t(o.checked ? "shares.checked" : "shares.unchecked")],
     (o) => [o.number, o.name, o.checked]],
-  parties: [["col.name", "col.kind", "col.roles"], async (o) => [named("parties", o.number, o.name), kindOfParty(o), rolesText(o.roles)],
+  parties: [["col.name", "col.kind", "col.roles"], async (o) => [named("parties", o.number, o.name),
+    kindOfParty(o), rolesText(o.roles)],
     (o) => [o.number, o.name, o.kind, o.roles.join(" ")]],
   parcels: [["col.label", "col.unit", "#col.area"],
     async (o) => [named("parcels", o.number, o.label), await unitLink(o.unit), areaOf(o.outline) + " m²"],
     (o) => [o.number, o.label, o.unit, areaOf(o.outline), o.outline]],
   rrrs: [["col.entry", "col.unit", "col.holder", "col.details"],
-    async (o) => [h("a", { href: hrefOf("rrrs", o.number) }, classOf(o), small(o.number)), await unitLink(o.unit),
+    async (o) => [h("a", { href: hrefOf("rrrs", o.number) }, classOf(o), small(o.number)),
+      await unitLink(o.unit),
       await partyLink(o.party), entryText(o)],
-    (o) => [o.number, o.class, o.unit, o.party, o.share || o.words || o.amount, o.currency || "", o.rank || ""]],
-  sources: [["col.document", "col.kind"], async (o) => [named("sources", o.number, o.title), t("source." + o.kind)],
+    (o) => [o.number, o.class, o.unit, o.party, o.share || o.words || o.amount, o.currency || "", o.rank ||
+      ""]],
+  sources: [["col.document", "col.kind"], async (o) => [named("sources", o.number, o.title),
+    t("source." + o.kind)],
     (o) => [o.number, o.title, o.kind]],
   mutations: [["col.request", "col.reference", "col.lodged", "col.state"],
     async (o) => [await mutationTitle(o), safeText(o.reference), when(o.lodged), t("state." + o.state)],
@@ -49,22 +55,27 @@ async function pageFrom(kind, from, sort) {
   if (sort !== "number") numbers.reverse();
   const first = Math.min(from, Math.max(0, Math.floor((numbers.length - 1) / PAGE) * PAGE));
   const objects = await Promise.all(numbers.slice(first, first + PAGE).map((n) => objectOf(kind, n)));
-  return { objects: objects.filter(Boolean), from: first, total: numbers.length, more: first + PAGE < numbers.length };
+  return { objects: objects.filter(Boolean), from: first, total: numbers.length, more: first +
+    PAGE < numbers.length };
 }
 
 function pager(kind, { from, more, total }, sort) {
-  const step = (to, key) => h("a", { href: "#/" + kind + queryOf(state.at) + "&from=" + to + "&sort=" + sort }, t(key));
+  const step = (to, key) => h("a", { href: "#/" + kind + queryOf(state.at) + "&from=" + to + "&sort=" +
+    sort }, t(key));
   const last = total && Math.floor((total - 1) / PAGE) * PAGE;
   const back = from > 0 ? [step(0, "page.first"), step(Math.max(0, from - PAGE), "page.previous")] : [];
   const on = more ? [step(from + PAGE, "page.next"), ...(last ? [step(last, "page.last")] : [])] : [];
-  return back.length + on.length ? h("nav", { class: "tools", "aria-label": t("page.pages") }, ...back, ...on) : "";
+  return back.length + on.length ? h("nav", { class: "tools", "aria-label": t("page.pages") }, ...back,
+    ...on) : "";
 }
 
 const SORTS = { newest: "-number", oldest: "number", name: "name" };
 
 function sortField(kind, sort) {
-  const options = Object.keys(SORTS).filter((key) => key !== "name" || !["rrrs", "mutations"].includes(kind)).map((key) => [key, t("sort." + key)]);
-  const field = select(options, sort, { onchange: () => { location.hash = "#/" + kind + queryOf(state.at) + "&sort=" + field.value; } });
+  const options = Object.keys(SORTS).filter((key) => key !== "name" ||
+    !["rrrs", "mutations"].includes(kind)).map((key) => [key, t("sort." + key)]);
+  const field = select(options, sort, { onchange: () => { location.hash = "#/" + kind + queryOf(state.at) +
+    "&sort=" + field.value; } });
   return labelled(t("sort.by"), field);
 }
 
@@ -81,14 +92,17 @@ export async function listView(kind, { from = 0, sort = "newest" } = {}) {
   const order = sort in SORTS ? sort : "newest";
   const page = await pageFrom(kind, from, SORTS[order]);
   if (page.reply) return [title, pastNotice(), errorBox(page.reply)];
-  if (page.objects.length === 0) return [title, pastNotice(), h("p", {}, t(mayList(kind) ? "list.none" : "list.notInRole"))];
+  if (page.objects.length === 0) return [title, pastNotice(),
+    h("p", {}, t(mayList(kind) ? "list.none" : "list.notInRole"))];
   const { objects } = page;
   const range = { from: page.from + 1, to: page.from + objects.length, kind: title };
   const caption = page.total ? t("list.range", { ...range, total: page.total }) : t("list.rangeOpen", range);
   const view = [title, pastNotice(), h("div", { class: "tools" }, sortField(kind, order),
-    button(t("csv.save"), () => save(kind, objects))), panel("", await tableOf(kind, objects, caption)), pager(kind, page, order)];
+    button(t("csv.save"), () => save(kind, objects))), panel("", await tableOf(kind, objects, caption)),
+      pager(kind, page, order)];
   if (kind === "parcels") {
-    view.push(panel(t("list.theseParcels"), plan(objects.map((o) => ({ ...o, href: hrefOf("parcels", o.number) })))));
+    view.push(panel(t("list.theseParcels"), plan(objects.map((o) => ({ ...o,
+      href: hrefOf("parcels", o.number) })))));
   }
   return view;
 }

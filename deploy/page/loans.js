@@ -1,4 +1,5 @@
-// A bank's mortgages by loan. A subdivision copies a mortgage to each new unit, with the same document, amount and rank: one loan.
+// A bank's mortgages by loan. A subdivision copies a mortgage to each new unit, with the same document,
+// amount and rank: one loan.
 import { numbersOf, objectOf, state } from "./api.js";
 import { button, csvOf, download, errorBox, hrefOf, panel, small, table, unitLink } from "./components.js";
 import { h } from "./dom.js";
@@ -37,7 +38,8 @@ export function totalsOf(loans) {
 
 async function loanRow(loan) {
   const units = await Promise.all(loan.entries.map(async (e) => h("div", {}, await unitLink(e.unit))));
-  const entries = loan.entries.map((e) => h("div", {}, h("a", { href: hrefOf("rrrs", e.number) }, t("sheet.rank", { n: e.rank }), small(e.number))));
+  const entries = loan.entries.map((e) => h("div", {}, h("a", { href: hrefOf("rrrs", e.number) },
+    t("sheet.rank", { n: e.rank }), small(e.number))));
   return [units, entries, money(loan.amount, loan.currency)];
 }
 
@@ -50,12 +52,16 @@ export async function loansPanel() {
   const add = async () => {
     const rows = await Promise.all(loans.slice(shown, shown + PAGE).map(loanRow));
     shown += PAGE;
-    body.append(table(t("loans.caption", { n: loans.length, entries: entries.length }), [t("loans.units"), t("loans.entries"), "#" + t("content.amount")], rows));
+    body.append(table(t("loans.caption", { n: loans.length, entries: entries.length }),
+      [t("loans.units"), t("loans.entries"), "#" + t("content.amount")], rows));
     more.hidden = shown >= loans.length;
   };
   const more = button(t("page.more"), add);
-  const save = button(t("csv.save"), () => download("loans.csv", csvOf(t("csv.loans").split(","), loans.map((loan) =>
-    [loan.source, loan.amount, loan.currency, loan.entries.map((e) => e.unit).join(" "), loan.entries.map((e) => e.number).join(" ")])), "text/csv"));
+  const save = button(t("csv.save"), () => download("loans.csv",
+    csvOf(t("csv.loans").split(","), loans.map((loan) =>
+    [loan.source, loan.amount, loan.currency, loan.entries.map((e) => e.unit).join(" "),
+      loan.entries.map((e) => e.number).join(" ")])), "text/csv"));
   await add();
-  return panel(t("loans.title"), h("p", { class: "sum" }, t("loans.total", { n: loans.length, total: totalsOf(loans) })), h("div", { class: "tools no-print" }, save), body, more);
+  return panel(t("loans.title"), h("p", { class: "sum" }, t("loans.total",
+    { n: loans.length, total: totalsOf(loans) })), h("div", { class: "tools no-print" }, save), body, more);
 }

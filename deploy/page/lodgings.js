@@ -1,8 +1,10 @@
-// The forms of the five lodgings. What the caller may see is checked before sending; the office checks the rest when it decides.
+// The forms of the five lodgings. What the caller may see is checked before sending; the office checks the
+// rest when it decides.
 import { objectOf, state } from "./api.js";
 import { h, safeText } from "./dom.js";
 import { button, small } from "./components.js";
-import { choiceField, entryField, moneyField, newReference, partyField, pickField, shareField, textField } from "./fields.js";
+import { choiceField, entryField, moneyField, newReference, partyField, pickField, shareField,
+  textField } from "./fields.js";
 import { field } from "./form.js";
 import { join } from "./ground.js";
 import { allOf } from "./mirror.js";
@@ -13,9 +15,12 @@ import { isAbove, readShare } from "./shares.js";
 import { t } from "./words.js";
 
 function head() {
-  const reference = textField({ key: "reference", label: t("col.reference"), most: 40, value: newReference(), help: t("field.referenceHelp"), size: "short" });
-  const documentTitle = textField({ key: "document", label: t("col.document"), help: t("field.documentHelp") });
-  return { fields: [reference, documentTitle], read: () => ({ reference: reference.read(), document: documentTitle.read() }) };
+  const reference = textField({ key: "reference", label: t("col.reference"), most: 40, value: newReference(),
+    help: t("field.referenceHelp"), size: "short" });
+  const documentTitle = textField({ key: "document", label: t("col.document"),
+    help: t("field.documentHelp") });
+  return { fields: [reference, documentTitle], read: () => ({ reference: reference.read(),
+    document: documentTitle.read() }) };
 }
 
 // Sets a unit field to the unit of an entry.
@@ -27,15 +32,21 @@ async function unitOfEntry(unit, number) {
 
 function transfer(prefill) {
   const top = head();
-  const right = entryField({ key: "right", label: t("content.right"), classes: ["ownership", "lease", "usufruct"], value: prefill.right || null,
+  const right = entryField({ key: "right", label: t("content.right"),
+    classes: ["ownership", "lease", "usufruct"], value: prefill.right || null,
     onpick: (entry) => { if (entry && !share.input.value) share.input.value = entry.share; } });
-  const unit = pickField({ key: "unit", kind: "units", label: t("one.units"), value: prefill.unit || null, onpick: (item) => right.load(item && item.number) });
+  const unit = pickField({ key: "unit", kind: "units", label: t("one.units"), value: prefill.unit || null,
+    onpick: (item) => right.load(item && item.number) });
   const receiver = partyField({ key: "receiver", label: t("content.receiver"), help: t("field.receiverHelp"),
-    allow: async (item) => (right.chosen() && right.chosen().party === item.number ? t("field.isHolder") : "") });
+    allow: async (item) => (right.chosen() && right.chosen().party === item.number ? t("field.isHolder") :
+      "") });
   const share = shareField({ help: t("field.shareHelp"),
-    more: async (value) => (right.chosen() && isAbove(value, readShare(right.chosen().share)) ? t("field.shareAbove", { share: right.chosen().share }) : "") });
-  return { fields: [unit, right, receiver, share, ...top.fields], ready: () => unitOfEntry(unit, prefill.right),
-    body: () => ({ ...top.read(), unit: unit.read(), right: right.read(), receiver: receiver.read(), share: share.read() }) };
+    more: async (value) => (right.chosen() && isAbove(value, readShare(right.chosen().share)) ?
+      t("field.shareAbove", { share: right.chosen().share }) : "") });
+  return { fields: [unit, right, receiver, share, ...top.fields],
+    ready: () => unitOfEntry(unit, prefill.right),
+    body: () => ({ ...top.read(), unit: unit.read(), right: right.read(), receiver: receiver.read(),
+      share: share.read() }) };
 }
 
 async function isBank(item) {
@@ -47,26 +58,32 @@ function mortgage(prefill) {
   const top = head();
   const unit = pickField({ key: "unit", kind: "units", label: t("one.units"), value: prefill.unit || null });
   const amount = moneyField();
-  const creditor = state.role === "bank" ? null : partyField({ key: "creditor", label: t("content.creditor"), allow: isBank });
+  const creditor = state.role === "bank" ? null : partyField({ key: "creditor", label: t("content.creditor"),
+    allow: isBank });
   return { fields: [unit, ...(creditor ? [creditor] : []), amount, ...top.fields],
-    body: () => ({ ...top.read(), unit: unit.read(), creditor: creditor ? creditor.read() : state.me, amount: amount.read(), currency: amount.currency() }) };
+    body: () => ({ ...top.read(), unit: unit.read(), creditor: creditor ? creditor.read() : state.me,
+      amount: amount.read(), currency: amount.currency() }) };
 }
 
 function discharge(prefill) {
   const top = head();
-  const entry = entryField({ key: "mortgage", label: t("class.mortgage"), classes: ["mortgage"], value: prefill.mortgage || null });
-  const unit = pickField({ key: "unit", kind: "units", label: t("one.units"), value: prefill.unit || null, onpick: (item) => entry.load(item && item.number) });
+  const entry = entryField({ key: "mortgage", label: t("class.mortgage"), classes: ["mortgage"],
+    value: prefill.mortgage || null });
+  const unit = pickField({ key: "unit", kind: "units", label: t("one.units"), value: prefill.unit || null,
+    onpick: (item) => entry.load(item && item.number) });
   return { fields: [unit, entry, ...top.fields], ready: () => unitOfEntry(unit, prefill.mortgage),
     body: () => ({ ...top.read(), unit: unit.read(), mortgage: entry.read() }) };
 }
 
-const asItem = (parcel) => ({ kind: "parcels", number: parcel.number, text: parcel.label, unit: parcel.unit });
+const asItem = (parcel) => ({ kind: "parcels", number: parcel.number, text: parcel.label,
+  unit: parcel.unit });
 
 function subdivision(prefill) {
   const top = head();
   const divided = partsField();
   let parcel = null;
-  const which = pickField({ key: "parcel", kind: "parcels", label: t("content.parcel"), value: prefill.parcel || null, onpick: async (item) => {
+  const which = pickField({ key: "parcel", kind: "parcels", label: t("content.parcel"),
+    value: prefill.parcel || null, onpick: async (item) => {
     parcel = item && await objectOf("parcels", item.number, null);
     divided.load(parcel);
   } });
@@ -81,11 +98,13 @@ function merger(prefill) {
   let joined = null;
   const list = h("ul", { class: "plain" });
   const drawing = h("div", {});
-  const stays = choiceField({ key: "unit", label: t("field.stays"), options: [["", t("field.parcelsFirst")]], help: t("field.staysHelp") });
+  const stays = choiceField({ key: "unit", label: t("field.stays"), options: [["", t("field.parcelsFirst")]],
+    help: t("field.staysHelp") });
   const label = textField({ key: "label", label: t("field.newLabel"), most: 40, size: "short" });
 
   function update() {
-    list.replaceChildren(...chosen.map((p) => h("li", {}, safeText(p.label), small(p.number), " ", t("one.units") + " " + p.unit + " ",
+    list.replaceChildren(...chosen.map((p) => h("li", {}, safeText(p.label), small(p.number), " ",
+      t("one.units") + " " + p.unit + " ",
       button(t("form.remove"), () => {
         chosen = chosen.filter((other) => other !== p);
         update();
@@ -96,7 +115,8 @@ function merger(prefill) {
     if (units.includes(Number(before))) stays.input.value = before;
     joined = chosen.length > 1 ? join(chosen.map((p) => readWkt(p.outline).ring)) : null;
     const fresh = joined && joined.ring ? [{ number: 1, outline: wktOf(joined.ring), here: true }] : [];
-    drawing.replaceChildren(chosen.length ? h("div", { class: "side-by-side" }, h("figure", {}, h("figcaption", {}, t("change.now")), plan(chosen)),
+    drawing.replaceChildren(chosen.length ? h("div", { class: "side-by-side" },
+      h("figure", {}, h("figcaption", {}, t("change.now")), plan(chosen)),
       fresh.length ? h("figure", {}, h("figcaption", {}, t("change.after")), plan(fresh)) : "") : "");
     return joined && joined.error ? t(joined.error) : "";
   }
@@ -106,12 +126,14 @@ function merger(prefill) {
     if (parcel && !chosen.some((p) => p.number === parcel.number) && chosen.length < 16) chosen.push(parcel);
     update();
   }
-  const picker = pickField({ key: "add", kind: "parcels", label: t("field.addParcels"), onpick: (item) => { if (item) add(item); } });
+  const picker = pickField({ key: "add", kind: "parcels", label: t("field.addParcels"),
+    onpick: (item) => { if (item) add(item); } });
   const check = async () => {
     if (chosen.length < 2) return t("field.twoParcels");
     return update() || missingParcels(chosen, Number(stays.input.value));
   };
-  const shown = field({ key: "parcels", label: t("content.parcels"), input: h("div", {}, list, drawing), focus: picker.node.querySelector("input"), read: () => chosen, check });
+  const shown = field({ key: "parcels", label: t("content.parcels"), input: h("div", {}, list, drawing),
+    focus: picker.node.querySelector("input"), read: () => chosen, check });
   const numbers = (values) => [...new Set(values)].sort((a, b) => a - b);
   return {
     fields: [{ ...picker, check: async () => [] }, shown, stays, label, ...top.fields],
@@ -119,7 +141,8 @@ function merger(prefill) {
       const first = prefill.parcel && await objectOf("parcels", prefill.parcel, null);
       if (first) add(asItem(first));
     },
-    body: () => ({ ...top.read(), unit: Number(stays.read()), others: numbers(chosen.map((p) => p.unit)).filter((n) => n !== Number(stays.read())),
+    body: () => ({ ...top.read(), unit: Number(stays.read()),
+      others: numbers(chosen.map((p) => p.unit)).filter((n) => n !== Number(stays.read())),
       parcels: numbers(chosen.map((p) => p.number)), label: label.read(), outline: wktOf(joined.ring) }),
   };
 }

@@ -1,4 +1,5 @@
-// The map of all parcels that the caller sees: a canvas with pan, wheel, pinch and keys, labels, a scale bar and north. A click leads to the
+// The map of all parcels that the caller sees: a canvas with pan, wheel, pinch and keys, labels, a scale bar
+// and north. A click leads to the
 // unit. With the mirror it loads vector tiles; else the parcels that the register lists.
 import { objectOf, state } from "./api.js";
 import { button, hrefOf, lead, pastNotice } from "./components.js";
@@ -24,7 +25,8 @@ export async function mapView(number) {
 }
 
 function createMap(source, found) {
-  const canvas = h("canvas", { class: "map", tabindex: "0", role: "img", "aria-label": t("map.name"), "aria-describedby": "map-keys" });
+  const canvas = h("canvas", { class: "map", tabindex: "0", role: "img", "aria-label": t("map.name"),
+    "aria-describedby": "map-keys" });
   const context = canvas.getContext("2d");
   const list = h("ul", { class: "plain columns-list" });
   const status = h("p", { class: "lead", role: "status" });
@@ -35,7 +37,8 @@ function createMap(source, found) {
 
   const size = () => [canvas.clientWidth, canvas.clientHeight];
   const toScreen = (x, y) => [(x - view.x) * view.k + size()[0] / 2, (view.y - y) * view.k + size()[1] / 2];
-  const toPlane = (px, py) => [(px - size()[0] / 2) / view.k + view.x, view.y - (py - size()[1] / 2) / view.k];
+  const toPlane = (px, py) => [(px - size()[0] / 2) / view.k + view.x,
+    view.y - (py - size()[1] / 2) / view.k];
 
   function fit([west, south, east, north]) {
     const [wide, high] = size();
@@ -101,7 +104,8 @@ function createMap(source, found) {
       context.clip();
     }
     const [west, south, east, north] = boxOfView();
-    const shown = parcels.filter((p) => p.box[0] <= east && p.box[2] >= west && p.box[1] <= north && p.box[3] >= south);
+    const shown = parcels.filter((p) => p.box[0] <= east && p.box[2] >= west && p.box[1] <= north &&
+      p.box[3] >= south);
     context.beginPath();
     for (const p of shown) path(p);
     context.fillStyle = COLOURS.fill;
@@ -193,24 +197,29 @@ function createMap(source, found) {
     const [x, y] = toPlane(px, py);
     for (const { parcels, box } of source.sheets([x, y, x, y], view.k)) {
       if (box && !(x >= box[0] && x <= box[2] && y >= box[1] && y <= box[3])) continue;
-      const hit = parcels.find((p) => p.box[0] <= x && x <= p.box[2] && p.box[1] <= y && y <= p.box[3] && p.rings.some((ring) => inside(ring, x, y)));
+      const hit = parcels.find((p) => p.box[0] <= x && x <= p.box[2] && p.box[1] <= y && y <= p.box[3] &&
+        p.rings.some((ring) => inside(ring, x, y)));
       if (hit) return hit;
     }
     return null;
   }
 
-  const hrefOfParcel = (p) => (state.role === "certifiedSurveyor" ? hrefOf("parcels", p.number) : hrefOf("units", p.unit));
+  const hrefOfParcel = (p) => (state.role === "certifiedSurveyor" ? hrefOf("parcels", p.number) :
+    hrefOf("units", p.unit));
 
   function showList() {
     const [west, south, east, north] = boxOfView();
     const seen = new Map();
     for (const { parcels } of source.sheets([west, south, east, north], view.k)) {
-      for (const p of parcels) if (p.box[0] <= east && p.box[2] >= west && p.box[1] <= north && p.box[3] >= south) seen.set(p.number, p);
+      for (const p of parcels) if (p.box[0] <= east && p.box[2] >= west && p.box[1] <= north &&
+        p.box[3] >= south) seen.set(p.number, p);
     }
     const all = [...seen.values()];
     status.textContent = t("map.count", { n: all.length }) + (source.partial ? " " + t("map.partial") : "");
-    list.replaceChildren(...all.slice(0, LISTED).map((p) => h("li", {}, h("a", { href: hrefOfParcel(p) }, t("one.parcels") + " ", safeText(p.label),
-      h("span", { class: "num" }, "\u00a0" + p.number)))), all.length > LISTED ? h("li", {}, t("map.more")) : "");
+    list.replaceChildren(...all.slice(0, LISTED).map((p) => h("li", {},
+      h("a", { href: hrefOfParcel(p) }, t("one.parcels") + " ", safeText(p.label),
+      h("span", { class: "num" }, "\u00a0" + p.number)))), all.length > LISTED ? h("li", {}, t("map.more")) :
+        "");
   }
 
   // ---- movement
@@ -246,7 +255,8 @@ function createMap(source, found) {
     if (pointers.size === 1) move(now[0] - before[0], now[1] - before[1]);
     else {
       const other = [...pointers].find(([id]) => id !== event.pointerId)[1];
-      const by = Math.hypot(now[0] - other[0], now[1] - other[1]) / Math.max(1, Math.hypot(before[0] - other[0], before[1] - other[1]));
+      const by = Math.hypot(now[0] - other[0], now[1] - other[1]) / Math.max(1,
+        Math.hypot(before[0] - other[0], before[1] - other[1]));
       zoomAt(by, (now[0] + other[0]) / 2, (now[1] + other[1]) / 2);
     }
     pointers.set(event.pointerId, now);
@@ -291,7 +301,8 @@ function createMap(source, found) {
   const pan = (dx, dy) => move(-dx * size()[0], -dy * size()[1]);
   const tools = viewButtons((by) => zoom(1 / by), pan, whole);
   tools.append(button(t("map.print"), () => window.print()));
-  return h("div", { class: "map-view" }, canvas, scaleText, tools, h("p", { id: "map-keys", class: "lead no-print" }, t("map.keys")), status,
+  return h("div", { class: "map-view" }, canvas, scaleText, tools,
+    h("p", { id: "map-keys", class: "lead no-print" }, t("map.keys")), status,
     h("section", { class: "panel no-print" }, h("h2", {}, t("map.inView")), list));
 }
 
@@ -299,7 +310,8 @@ function createMap(source, found) {
 function inside(ring, x, y) {
   let odd = false;
   for (let n = 0, m = ring.length - 2; n < ring.length; m = n, n += 2) {
-    if ((ring[n + 1] > y) !== (ring[m + 1] > y) && x < (ring[m] - ring[n]) * (y - ring[n + 1]) / (ring[m + 1] - ring[n + 1]) + ring[n]) odd = !odd;
+    if ((ring[n + 1] > y) !== (ring[m + 1] > y) && x < (ring[m] - ring[n]) * (y - ring[n + 1]) / (ring[m +
+      1] - ring[n + 1]) + ring[n]) odd = !odd;
   }
   return odd;
 }

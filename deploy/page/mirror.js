@@ -21,7 +21,8 @@ export function hasMirror() {
   return probe;
 }
 
-// Requests a path of the mirror. Returns the reply (200, 400 or 403), or null if there is no mirror or it cannot answer.
+// Requests a path of the mirror. Returns the reply (200, 400 or 403), or null if there is no mirror or it
+// cannot answer.
 // After an act it waits for the state with the act.
 export async function ask(path, parameters = {}, { at = state.at, binary = false } = {}) {
   if (!await hasMirror()) return null;

@@ -1,4 +1,5 @@
-// Times (the register calls them moments) are Unix times in milliseconds. They are shown in local time with its zone, and in UTC.
+// Times (the register calls them moments) are Unix times in milliseconds. They are shown in local time with
+// its zone, and in UTC.
 import { h } from "./dom.js";
 import { locale, t } from "./words.js";
 
@@ -6,18 +7,21 @@ const MAX_MOMENT = 4102444799999;
 const two = (n, places = 2) => String(n).padStart(places, "0");
 
 const joined = (year, month, day, hours, minutes, seconds, ms) =>
-  [year, two(month), two(day)].join("-") + " " + [hours, minutes, seconds].map((n) => two(n)).join(":") + "." + two(ms, 3);
+  [year, two(month), two(day)].join("-") + " " + [hours, minutes, seconds].map((n) => two(n)).join(":") +
+    "." + two(ms, 3);
 
 // In UTC, as in a title sheet.
 export function formatMoment(ms) {
   const d = new Date(ms);
-  return joined(d.getUTCFullYear(), d.getUTCMonth() + 1, d.getUTCDate(), d.getUTCHours(), d.getUTCMinutes(), d.getUTCSeconds(),
+  return joined(d.getUTCFullYear(), d.getUTCMonth() + 1, d.getUTCDate(), d.getUTCHours(), d.getUTCMinutes(),
+    d.getUTCSeconds(),
     d.getUTCMilliseconds());
 }
 
 // In local time, with the name of the zone.
 export function localMoment(ms) {
-  const form = { year: "numeric", month: "short", day: "numeric", hour: "2-digit", minute: "2-digit", second: "2-digit",
+  const form = { year: "numeric", month: "short", day: "numeric", hour: "2-digit", minute: "2-digit",
+    second: "2-digit",
     timeZoneName: "short" };
   return new Intl.DateTimeFormat(locale, form).format(new Date(ms));
 }
@@ -35,7 +39,8 @@ export const zoneName = () => Intl.DateTimeFormat().resolvedOptions().timeZone |
 // The value of a date picker (datetime-local) for a moment, and the moment of a value; null for an empty one.
 export function pickerValue(ms) {
   const d = new Date(ms);
-  return joined(d.getFullYear(), d.getMonth() + 1, d.getDate(), d.getHours(), d.getMinutes(), d.getSeconds(), d.getMilliseconds())
+  return joined(d.getFullYear(), d.getMonth() + 1, d.getDate(), d.getHours(), d.getMinutes(), d.getSeconds(),
+    d.getMilliseconds())
     .replace(" ", "T");
 }
 
@@ -46,4 +51,5 @@ export function momentOfPicker(text) {
 }
 
 // Parses the time in a URL.
-export const momentFromUrl = (text) => (text !== null && /^\d{1,13}$/.test(text) && Number(text) <= MAX_MOMENT ? Number(text) : null);
+export const momentFromUrl = (text) => (text !== null && /^\d{1,13}$/.test(text) &&
+  Number(text) <= MAX_MOMENT ? Number(text) : null);

@@ -1,4 +1,5 @@
-// A field for the outline of a new parcel: drawn, pasted as well-known text or as points, or read from a file of GeoJSON.
+// A field for the outline of a new parcel: drawn, pasted as well-known text or as points, or read from a file
+// of GeoJSON.
 import { objectOf } from "./api.js";
 import { board, boxOf, metresText, readPoints } from "./draw.js";
 import { button } from "./components.js";
@@ -11,13 +12,15 @@ import { doubledArea, readWkt, ringOf, samePoint, wktOf } from "./shape.js";
 import { readOutlines } from "./parts.js";
 import { t } from "./words.js";
 
-// Reads the text of the field: { ring } or { fault }. Points are in metres, the others as in docs/OUTLINES.md.
+// Reads the text of the field: { ring } or { fault }. Points are in metres, the others as in
+// docs/OUTLINES.md.
 function readAny(text) {
   const words = text.trim();
   if (/^[-\d]/.test(words)) {
     const points = readPoints(words);
     if (!points) return { fault: 114 };
-    const closed = points.length > 1 && samePoint(points[0], points[points.length - 1]) ? points : [...points, points[0]];
+    const closed = points.length > 1 && samePoint(points[0], points[points.length - 1]) ? points :
+      [...points, points[0]];
     return ringOf(closed);
   }
   const found = readOutlines(words);
@@ -27,10 +30,12 @@ function readAny(text) {
 
 // `others()` returns the other outline fields of the form, whose rings are shown in the drawing.
 export function outlineField({ others = () => [] }) {
-  const input = h("textarea", { name: "outline", rows: "2", spellcheck: "false", placeholder: "POLYGON ((0 0, 20000 0, 20000 15000, 0 15000, 0 0))" });
+  const input = h("textarea", { name: "outline", rows: "2", spellcheck: "false",
+    placeholder: "POLYGON ((0 0, 20000 0, 20000 15000, 0 15000, 0 0))" });
   const echo = h("p", { class: "picked", role: "status" });
   const place = h("div", {});
-  const file = h("input", { type: "file", accept: ".geojson,.json,.wkt,.txt", id: newId("file"), onchange: async () => {
+  const file = h("input", { type: "file", accept: ".geojson,.json,.wkt,.txt", id: newId("file"),
+    onchange: async () => {
     if (!file.files[0]) return;
     input.value = (await file.files[0].text()).trim();
     update();
@@ -56,7 +61,8 @@ export function outlineField({ others = () => [] }) {
       update();
     }));
   } }, h("summary", {}, t("draw.draw")), place);
-  const made = field({ key: "outline", label: t("col.outline"), input, help: t("field.outlineHelp"), read, check,
+  const made = field({ key: "outline", label: t("col.outline"), input, help: t("field.outlineHelp"), read,
+    check,
     extra: [echo, h("p", { class: "tools" }, h("label", { for: file.id }, t("draw.file")), file), draw] });
   return { ...made, ring };
 }
@@ -102,18 +108,22 @@ function drawer(others, ring, done) {
 
   function show() {
     const own = ring();
-    paper.draw({ line, shapes: [...near.map((one) => ({ ...one, mark: "old" })), ...rings().map((one) => ({ ring: one, mark: "old" })), ...(own ? [{ ring: own, mark: "here" }] : [])] });
+    paper.draw({ line, shapes: [...near.map((one) => ({ ...one, mark: "old" })),
+      ...rings().map((one) => ({ ring: one, mark: "old" })),
+      ...(own ? [{ ring: own, mark: "here" }] : [])] });
   }
 
   function start() {
     const all = [...near.map((one) => one.ring), ...rings()];
-    paper = board({ box: all.length ? boxOf(all, 0.4) : [0, 0, 100000, 60000], label: t("draw.board"), onpoint: (p, on) => {
+    paper = board({ box: all.length ? boxOf(all, 0.4) : [0, 0, 100000, 60000], label: t("draw.board"),
+      onpoint: (p, on) => {
       if (line.length > 2 && samePoint(p, line[0])) return close();
       line = [...line, p];
       status.textContent = t("draw.snapped." + on, { point: metresText(p) });
       return show();
     } });
-    node.replaceChildren(h("p", { class: "help" }, t("draw.ringHelp")), h("p", { class: "labelled" }, h("label", { for: box.field.id }, t("draw.near")), box.node), paper.node,
+    node.replaceChildren(h("p", { class: "help" }, t("draw.ringHelp")),
+      h("p", { class: "labelled" }, h("label", { for: box.field.id }, t("draw.near")), box.node), paper.node,
       h("p", { class: "tools" }, button(t("draw.close"), close), button(t("draw.undo"), () => {
         line = line.slice(0, -1);
         show();

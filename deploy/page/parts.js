@@ -1,4 +1,5 @@
-// The parts of a subdivision: drawn over the old parcel by cutting it along lines, or pasted. Each part has a label, and stays in the unit
+// The parts of a subdivision: drawn over the old parcel by cutting it along lines, or pasted. Each part has a
+// label, and stays in the unit
 // or becomes a new one. The match with the old parcel is checked before lodging, by the register's rule.
 import { board, boxOf, metresText, pointsInput, readPoints } from "./draw.js";
 import { button, table } from "./components.js";
@@ -20,7 +21,8 @@ export function readOutlines(text) {
     } catch {
       return { fault: 110 };
     }
-    const list = value.type === "FeatureCollection" && Array.isArray(value.features) ? value.features : [value];
+    const list = value.type === "FeatureCollection" && Array.isArray(value.features) ? value.features :
+      [value];
     const read = list.map((one) => readGeoJson(one));
     const wrong = read.find((one) => one.fault);
     return wrong || { rings: read.map((one) => one.ring) };
@@ -34,7 +36,8 @@ export function partsField() {
   const key = "parts";
   const error = h("p", { class: "field-error", id: newId(key) });
   const body = h("div", {});
-  const node = h("fieldset", { class: "group", "data-key": key, tabindex: "-1" }, h("legend", {}, t("content.parts")), body, error);
+  const node = h("fieldset", { class: "group", "data-key": key, tabindex: "-1" },
+    h("legend", {}, t("content.parts")), body, error);
   let parcel = null;
   let old = null;
   let parts = [];
@@ -67,9 +70,11 @@ export function partsField() {
     } });
     const paste = h("textarea", { rows: "3", id: newId("paste") });
     body.replaceChildren(h("p", { class: "help" }, t("draw.help")), drawing.node,
-      h("div", { class: "tools" }, h("span", { class: "labelled wide" }, points.label, points.input), button(t("draw.cut"), () => tryCut(true)),
+      h("div", { class: "tools" }, h("span", { class: "labelled wide" }, points.label, points.input),
+        button(t("draw.cut"), () => tryCut(true)),
         button(t("draw.undo"), back), button(t("draw.restart"), () => load(parcel))), status, grid,
-      h("details", {}, h("summary", {}, t("draw.paste")), h("p", { class: "help" }, t("draw.pasteHelp")), h("label", { for: paste.id }, t("draw.pasted")), paste,
+      h("details", {}, h("summary", {}, t("draw.paste")), h("p", { class: "help" }, t("draw.pasteHelp")),
+        h("label", { for: paste.id }, t("draw.pasted")), paste,
         h("p", { class: "tools" }, button(t("draw.take"), () => take(paste.value)))));
     return show();
   }
@@ -81,7 +86,8 @@ export function partsField() {
     show();
   }
 
-  // Cuts the part that the line crosses. A line that does not yet end on the boundary stays as it is, unless the user pressed the button.
+  // Cuts the part that the line crosses. A line that does not yet end on the boundary stays as it is, unless
+  // the user pressed the button.
   function tryCut(pressed = false) {
     if (pressed) line = readPoints(points.input.value) || line;
     let reason = "draw.short";
@@ -89,7 +95,8 @@ export function partsField() {
       const result = cut(part.ring, line);
       if (result.rings) {
         undo.push(parts);
-        parts = parts.flatMap((one) => (one !== part ? [one] : result.rings.map((ring, n) => ({ ...one, ring, stays: n === 0 && one.stays, unit: "" }))));
+        parts = parts.flatMap((one) => (one !== part ? [one] :
+          result.rings.map((ring, n) => ({ ...one, ring, stays: n === 0 && one.stays, unit: "" }))));
         relabel();
         line = [];
         points.input.value = "";
@@ -102,7 +109,8 @@ export function partsField() {
     return show();
   }
 
-  const relabel = () => parts.forEach((part, n) => { part.label = [...parcel.label].slice(0, 38).join("") + letters(n); });
+  const relabel = () => parts.forEach((part, n) => { part.label = [...parcel.label].slice(0, 38).join("") +
+    letters(n); });
 
   function take(text) {
     const found = readOutlines(text);
@@ -118,13 +126,19 @@ export function partsField() {
   }
 
   function show() {
-    const match = parts.length > 1 ? compareGround(parts.map((p) => p.ring), [old]) : { same: true, segments: [] };
+    const match = parts.length > 1 ? compareGround(parts.map((p) => p.ring), [old]) :
+      { same: true, segments: [] };
     marks = match.segments;
-    drawing.draw({ shapes: [{ ring: old, mark: "old" }, ...parts.map((p, n) => ({ ring: p.ring, label: p.label, mark: n % 2 ? "odd" : "here" }))], line, marks });
+    drawing.draw({ shapes: [{ ring: old, mark: "old" }, ...parts.map((p,
+      n) => ({ ring: p.ring, label: p.label, mark: n % 2 ? "odd" : "here" }))], line, marks });
     const row = (part, n) => {
-      const label = h("input", { type: "text", "data-part": "label", value: part.label, class: "short", "aria-label": t("draw.labelOf", { n: n + 1 }), oninput: () => { part.label = label.value; } });
-      const unit = h("input", { type: "text", "data-part": "unit", value: part.unit, placeholder: t("draw.unitName"), "aria-label": t("draw.unitOf", { n: n + 1 }), hidden: part.stays, oninput: () => { part.unit = unit.value; } });
-      const where = h("select", { "data-part": "where", "aria-label": t("draw.whereOf", { n: n + 1 }), onchange: () => {
+      const label = h("input", { type: "text", "data-part": "label", value: part.label, class: "short",
+        "aria-label": t("draw.labelOf", { n: n + 1 }), oninput: () => { part.label = label.value; } });
+      const unit = h("input", { type: "text", "data-part": "unit", value: part.unit,
+        placeholder: t("draw.unitName"), "aria-label": t("draw.unitOf", { n: n + 1 }), hidden: part.stays,
+        oninput: () => { part.unit = unit.value; } });
+      const where = h("select", { "data-part": "where", "aria-label": t("draw.whereOf", { n: n + 1 }),
+        onchange: () => {
         part.stays = where.value === "stays";
         unit.hidden = part.stays;
         if (!part.stays) unit.focus();
@@ -132,7 +146,8 @@ export function partsField() {
       where.value = part.stays ? "stays" : "new";
       return [String(n + 1), label, squareMetres(doubledArea(part.ring)) + " m²", [where, " ", unit]];
     };
-    grid.replaceChildren(table(parts.length > 1 ? t(match.same ? "draw.matches" : "fault.match") : t("draw.notCut"),
+    grid.replaceChildren(table(parts.length > 1 ? t(match.same ? "draw.matches" : "fault.match") :
+      t("draw.notCut"),
       [t("draw.part"), t("col.label"), t("col.area"), t("draw.where")], parts.map(row), "parts"));
     return undefined;
   }
@@ -152,7 +167,8 @@ export function partsField() {
   // The first part that stays is the first; the others keep their order.
   function read() {
     const first = parts.find((p) => p.stays);
-    const part = (p) => ({ label: p.label.trim(), outline: wktOf(p.ring), ...(p.stays ? {} : { unit: p.unit.trim() }) });
+    const part = (p) => ({ label: p.label.trim(), outline: wktOf(p.ring),
+      ...(p.stays ? {} : { unit: p.unit.trim() }) });
     return { first: part(first), rest: parts.filter((p) => p !== first).map(part) };
   }
   load(null);

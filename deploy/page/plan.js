@@ -1,4 +1,5 @@
-// Draws outlines as SVG, north up, to scale. Coordinates are whole millimetres; the longer side of the drawing has 1000 units.
+// Draws outlines as SVG, north up, to scale. Coordinates are whole millimetres; the longer side of the
+// drawing has 1000 units.
 import { h, svgLink, safeString } from "./dom.js";
 import { decimal, squareMetres } from "./format.js";
 import { t } from "./words.js";
@@ -12,7 +13,8 @@ export function cornersOf(outline) {
   return inner.split(",").map((point) => point.trim().split(" ").map(BigInt));
 }
 
-// The doubled area in square millimetres, exact: the register's number may exceed 2^53, the limit of exact numbers in JSON.
+// The doubled area in square millimetres, exact: the register's number may exceed 2^53, the limit of exact
+// numbers in JSON.
 export function doubledOf(outline) {
   const corners = cornersOf(outline);
   let doubled = 0n;
@@ -36,14 +38,16 @@ function scaleOf(drawn) {
   const wide = Number(maxOf(xs) - west) || 1;
   const high = Number(north - minOf(ys)) || 1;
   const scale = SIZE / Math.max(wide, high);
-  return { scale, wide: wide * scale, high: high * scale, at: ([x, y]) => [Number(x - west) * scale, Number(north - y) * scale] };
+  return { scale, wide: wide * scale, high: high * scale, at: ([x, y]) => [Number(x - west) * scale,
+    Number(north - y) * scale] };
 }
 
 // A parcel: its shape, with a text alternative, and its label if there is space.
 function drawParcel(p, at) {
   const points = p.corners.slice(0, -1).map(at);
   const label = p.label ? safeString(p.label) : "";
-  const words = t(label ? "plan.parcel" : "plan.unlabelled", { label, n: String(p.number), area: areaOf(p.outline) });
+  const words = t(label ? "plan.parcel" : "plan.unlabelled",
+    { label, n: String(p.number), area: areaOf(p.outline) });
   const way = "M" + points.map((point) => point.map((c) => c.toFixed(2)).join(" ")).join("L") + "Z";
   const path = h("path", { d: way, class: p.here ? "here" : p.mark || "" }, h("title", {}, words));
   const { x, y, room } = labelPosition(points);
@@ -59,24 +63,28 @@ export function roundLength(length) {
   return [1, 2, 5].map((k) => k * power).filter((k) => k <= length).pop() || power;
 }
 
-export const lengthText = (metres) => (metres >= 1 ? decimal(String(metres)) + " m" : Math.round(metres * 1000) + " mm");
+export const lengthText = (metres) => (metres >= 1 ? decimal(String(metres)) + " m" :
+  Math.round(metres * 1000) + " mm");
 
 function drawScaleBar({ scale, wide, high }) {
   const metres = roundLength(wide / scale / 1000 / 2.2);
   const length = metres * 1000 * scale;
-  return h("g", { "aria-hidden": "true" }, h("path", { class: "rule", d: `M0 ${high + 30}v14h${length}v-14` }),
+  return h("g", { "aria-hidden": "true" }, h("path", { class: "rule",
+    d: `M0 ${high + 30}v14h${length}v-14` }),
     h("text", { x: length / 2, y: high + 78, "font-size": 34 }, lengthText(metres)),
     h("path", { class: "rule", d: `M${wide - 14} ${high + 68}v-44m-11 16l11 -16l11 16` }),
     h("text", { x: wide - 40, y: high + 44, "font-size": 34 }, t("plan.north")));
 }
 
-// The drawing of some parcels ({ number, label, outline, here, href }), with buttons to pan and zoom as an alternative to dragging.
+// The drawing of some parcels ({ number, label, outline, here, href }), with buttons to pan and zoom as an
+// alternative to dragging.
 export function plan(parcels) {
   const drawn = parcels.filter((p) => p.outline).map((p) => ({ ...p, corners: cornersOf(p.outline) }));
   if (drawn.length === 0) return h("p", {}, t("plan.nothing"));
   const sizes = scaleOf(drawn);
   const whole = [-MARGIN, -MARGIN, sizes.wide + 2 * MARGIN, sizes.high + 2 * MARGIN + 50];
-  const svg = h("svg", { class: "plan", viewBox: whole.join(" "), role: "group", "aria-label": t("plan.name", { n: drawn.length }),
+  const svg = h("svg", { class: "plan", viewBox: whole.join(" "), role: "group",
+    "aria-label": t("plan.name", { n: drawn.length }),
     preserveAspectRatio: "xMidYMid meet" },
     ...drawn.map((p) => drawParcel(p, sizes.at)), drawScaleBar(sizes));
   return h("div", { class: "drawing" }, svg, toolbar(svg, whole));
@@ -88,7 +96,8 @@ function toolbar(svg, whole) {
     view = next;
     svg.setAttribute("viewBox", view.join(" "));
   };
-  const zoom = (by) => set([view[0] + view[2] * (1 - by) / 2, view[1] + view[3] * (1 - by) / 2, view[2] * by, view[3] * by]);
+  const zoom = (by) => set([view[0] + view[2] * (1 - by) / 2, view[1] + view[3] * (1 - by) / 2, view[2] * by,
+    view[3] * by]);
   const move = (dx, dy) => set([view[0] + view[2] * dx, view[1] + view[3] * dy, view[2], view[3]]);
   drag(svg, () => view, set);
   return viewButtons(zoom, move, () => set(whole));
@@ -96,7 +105,8 @@ function toolbar(svg, whole) {
 
 // The buttons of a drawing or a map.
 export function viewButtons(zoom, move, all) {
-  const one = (text, key, act) => h("button", { type: "button", class: "icon", "aria-label": t(key), title: t(key), onclick: act }, text);
+  const one = (text, key, act) => h("button", { type: "button", class: "icon", "aria-label": t(key),
+    title: t(key), onclick: act }, text);
   return h("div", { class: "tools no-print", role: "group", "aria-label": t("plan.buttons") },
     one("+", "plan.in", () => zoom(0.6)), one("−", "plan.out", () => zoom(1 / 0.6)),
     one("←", "plan.west", () => move(-0.25, 0)), one("→", "plan.east", () => move(0.25, 0)),
@@ -107,7 +117,8 @@ export function viewButtons(zoom, move, all) {
 // Dragging moves the plan. A vertical swipe on a touch screen scrolls the page (touch-action in land.css).
 function drag(svg, view, set) {
   let held = null;
-  svg.addEventListener("pointerdown", (event) => { held = { x: event.clientX, y: event.clientY, view: view() }; });
+  svg.addEventListener("pointerdown", (event) => { held = { x: event.clientX, y: event.clientY,
+    view: view() }; });
   svg.addEventListener("pointermove", (event) => {
     if (!held || event.buttons !== 1) return;
     const k = held.view[2] / svg.clientWidth;
@@ -116,7 +127,8 @@ function drag(svg, view, set) {
   });
 }
 
-// The position of the label: the point of a grid that is farthest inside the outline, and the space around it.
+// The position of the label: the point of a grid that is farthest inside the outline, and the space around
+// it.
 export function labelPosition(points) {
   const xs = points.map((s) => s[0]);
   const ys = points.map((s) => s[1]);

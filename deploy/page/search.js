@@ -10,7 +10,8 @@ export function setUpSearch(form, label) {
     box.field.value = "";
     location.hash = hrefOf(item.kind, item.number);
   };
-  const box = combo({ kinds: SEARCHED, take, type: "search", more: { id: "search", "aria-label": t("search.label") } });
+  const box = combo({ kinds: SEARCHED, take, type: "search",
+    more: { id: "search", "aria-label": t("search.label") } });
   box.field.placeholder = t("search.placeholder");
   label.textContent = t("search.label");
   form.replaceChildren(label, box.node);

@@ -1,4 +1,5 @@
-// Signing out, and the end of a session without activity. The browser keeps a password until it gets another one for the same site: signing
+// Signing out, and the end of a session without activity. The browser keeps a password until it gets another
+// one for the same site: signing
 // out gives it that of a user who may do nothing.
 import { state } from "./api.js";
 import { ask } from "./dialogs.js";
@@ -21,7 +22,8 @@ export const hasUnsaved = () => unsaved();
 
 export async function confirmLeave() {
   if (!unsaved()) return true;
-  const answer = await ask(t("leave.title"), [h("p", {}, t("leave.text"))], [["stay", t("leave.stay"), true], ["leave", t("leave.leave")]]);
+  const answer = await ask(t("leave.title"), [h("p", {}, t("leave.text"))],
+    [["stay", t("leave.stay"), true], ["leave", t("leave.leave")]]);
   if (answer !== "leave") return false;
   guard(() => false);
   return true;
@@ -47,9 +49,11 @@ export async function signOut() {
 
 async function warn() {
   warning = true;
-  const left = h("p", {}, t("session.text", { n: settings.warnMinutes }), unsaved() ? " " + t("session.unsaved") : "");
+  const left = h("p", {}, t("session.text", { n: settings.warnMinutes }), unsaved() ? " " +
+    t("session.unsaved") : "");
   const timer = setTimeout(signOut, settings.warnMinutes * MINUTE);
-  const answer = await ask(t("session.title"), [left], [["stay", t("session.stay"), true], ["out", t("session.out")]]);
+  const answer = await ask(t("session.title"), [left], [["stay", t("session.stay"), true],
+    ["out", t("session.out")]]);
   clearTimeout(timer);
   warning = false;
   lastAct = Date.now();
@@ -58,7 +62,8 @@ async function warn() {
 
 export function watchSession() {
   const note = () => { lastAct = Date.now(); };
-  for (const name of ["keydown", "pointerdown", "wheel"]) window.addEventListener(name, note, { passive: true });
+  for (const name of ["keydown", "pointerdown", "wheel"]) window.addEventListener(name, note,
+    { passive: true });
   window.addEventListener("beforeunload", (event) => {
     if (unsaved() && !state.signedOut) event.preventDefault();
   });

@@ -1,4 +1,5 @@
-// Outlines in whole millimetres: read and checked as the register does (docs/OUTLINES.md). Coordinates are whole numbers below 2^53;
+// Outlines in whole millimetres: read and checked as the register does (docs/OUTLINES.md). Coordinates are
+// whole numbers below 2^53;
 // products of differences are computed as BigInt, so every test is exact.
 
 const MAX_COORDINATE = 10000000000;
@@ -22,10 +23,13 @@ const isInside = (p, a, b) => !samePoint(p, a) && !samePoint(p, b) && onEdge(p, 
 
 // Whether two edges have a common point.
 function meet(a, b, c, d) {
-  if (Math.max(a[0], b[0]) < Math.min(c[0], d[0]) || Math.max(c[0], d[0]) < Math.min(a[0], b[0])) return false;
-  if (Math.max(a[1], b[1]) < Math.min(c[1], d[1]) || Math.max(c[1], d[1]) < Math.min(a[1], b[1])) return false;
+  if (Math.max(a[0], b[0]) < Math.min(c[0], d[0]) || Math.max(c[0], d[0]) < Math.min(a[0],
+    b[0])) return false;
+  if (Math.max(a[1], b[1]) < Math.min(c[1], d[1]) || Math.max(c[1], d[1]) < Math.min(a[1],
+    b[1])) return false;
   const [p, q, r, s] = [turn(a, b, c), turn(a, b, d), turn(c, d, a), turn(c, d, b)];
-  if (((p > 0n) !== (q > 0n)) && p !== 0n && q !== 0n && ((r > 0n) !== (s > 0n)) && r !== 0n && s !== 0n) return true;
+  if (((p > 0n) !== (q > 0n)) && p !== 0n && q !== 0n && ((r > 0n) !== (s > 0n)) && r !== 0n &&
+    s !== 0n) return true;
   return onEdge(c, a, b) || onEdge(d, a, b) || onEdge(a, c, d) || onEdge(b, c, d);
 }
 
@@ -55,7 +59,8 @@ function isSimple(ring) {
 // Whether the edge b c, on the line of a b, runs back along it.
 const onBack = (a, b, c) => (onEdge(c, a, b) || onEdge(a, b, c)) && !samePoint(b, c);
 
-// Checks listed points, the last equal to the first: { ring } counterclockwise without the last point, or { fault }.
+// Checks listed points, the last equal to the first: { ring } counterclockwise without the last point, or {
+// fault }.
 export function ringOf(points) {
   if (points.length < 4) return { fault: 116 };
   if (points.length > MAX_POINTS) return { fault: 117 };
@@ -112,10 +117,12 @@ function readRings(rings, tag) {
   return ringOf(rings[0].map((point) => point.map((word) => Number(word) || 0)));
 }
 
-// Reads a polygon of GeoJSON, in metres: { points }, rounded to whole millimetres, and how far it was rounded; or { fault }.
+// Reads a polygon of GeoJSON, in metres: { points }, rounded to whole millimetres, and how far it was
+// rounded; or { fault }.
 export function readGeoJson(value) {
   let found = value;
-  if (found && found.type === "FeatureCollection") found = found.features && found.features.length === 1 ? found.features[0] : null;
+  if (found && found.type === "FeatureCollection") found = found.features && found.features.length === 1 ?
+    found.features[0] : null;
   if (found && found.type === "Feature") found = found.geometry;
   if (found && found.type === "MultiPolygon" && found.coordinates.length === 1) {
     found = { type: "Polygon", coordinates: found.coordinates[0] };

@@ -16,7 +16,8 @@ export function readShare(text) {
 
 export const shareText = ({ num, den }) => num + "/" + den;
 
-// Whether some shares sum to one: "whole", "other", or "fine" if they have no common denominator up to 1,000,000,000.
+// Whether some shares sum to one: "whole", "other", or "fine" if they have no common denominator up to
+// 1,000,000,000.
 export function sumOfShares(shares) {
   let den = 1n;
   for (const one of shares) {

@@ -12,10 +12,12 @@ import { parts, t } from "./words.js";
 export function parseSheet(text) {
   const lines = text.split("\n");
   const [, number, name] = /^Unit (\d+) ([^]*)$/.exec(lines[1]);
-  const sheet = { number: Number(number), name, at: Date.parse(lines[2].slice(3)), checked: lines[3] === "Shares checked",
+  const sheet = { number: Number(number), name, at: Date.parse(lines[2].slice(3)),
+    checked: lines[3] === "Shares checked",
     area: lines[4].slice(5), parcels: [], entries: [] };
   let n = 6;
-  for (let left = Number(lines[5].slice(8)); left > 0; left -= 1, n += 1) sheet.parcels.push(parseParcel(lines[n]));
+  for (let left = Number(lines[5].slice(8)); left > 0; left -= 1,
+    n += 1) sheet.parcels.push(parseParcel(lines[n]));
   for (let left = Number(lines[n].slice(8)); left > 0; left -= 1) {
     n += 1;
     sheet.entries.push(parseEntry(lines[n]));
@@ -28,26 +30,32 @@ function parseParcel(line) {
   return { number: Number(number), area, label };
 }
 
-// An entry's line. `name` and the content are separated by the last ": " that leaves a content of the class, since names may contain it.
+// An entry's line. `name` and the content are separated by the last ": " that leaves a content of the class,
+// since names may contain it.
 function parseEntry(line) {
   const [, number, word, party, rest] = /^ *(\d+) {2}(\S+) +(\d+) ([^]*)$/.exec(line);
   const entry = { number: Number(number), class: word, party: Number(party), rest };
   const mortgage = word === "mortgage" && /^([^]*): rank (\d+) ([A-Z]{3}) (\d+)$/.exec(rest);
-  if (mortgage) return { ...entry, name: mortgage[1], rank: Number(mortgage[2]), currency: mortgage[3], amount: Number(mortgage[4]) };
+  if (mortgage) return { ...entry, name: mortgage[1], rank: Number(mortgage[2]), currency: mortgage[3],
+    amount: Number(mortgage[4]) };
   const share = /^([^]*): (\d+\/\d+)$/.exec(rest);
-  if (share && word !== "restriction" && word !== "responsibility") return { ...entry, name: share[1], share: share[2] };
+  if (share && word !== "restriction" && word !== "responsibility") return { ...entry, name: share[1],
+    share: share[2] };
   return entry;
 }
 
-// The entries of a sheet with their contents from the register: { number, class, party, share .. , name }. The text of a burden cannot be
+// The entries of a sheet with their contents from the register: { number, class, party, share .. , name }.
+// The text of a burden cannot be
 // cut from its line for certain, because the name in front of it may contain ": ".
 export function entriesOf(sheet, at = state.at) {
   return Promise.all(sheet.entries.map(async (e) => {
     if (e.name !== undefined) return e;
     const party = await objectOf("parties", e.party, at);
-    if (party && e.rest.startsWith(party.name + ": ")) return { ...e, name: party.name, words: e.rest.slice(party.name.length + 2) };
+    if (party && e.rest.startsWith(party.name + ": ")) return { ...e, name: party.name,
+      words: e.rest.slice(party.name.length + 2) };
     const entry = await objectOf("rrrs", e.number, at);
-    return entry ? { ...e, words: entry.words, name: e.rest.slice(0, -entry.words.length - 2) } : { ...e, name: "", words: e.rest };
+    return entry ? { ...e, words: entry.words, name: e.rest.slice(0, -entry.words.length - 2) } :
+      { ...e, name: "", words: e.rest };
   }));
 }
 
@@ -72,10 +80,12 @@ export function detailOf(e) {
 }
 
 function entryRow(e) {
-  const kind = e.class === "ownership" ? "" : e.class === "mortgage" ? t("sheet.rank", { n: e.rank }) : t("class." + e.class);
+  const kind = e.class === "ownership" ? "" : e.class === "mortgage" ? t("sheet.rank", { n: e.rank }) :
+    t("class." + e.class);
   return h("li", {}, h("span", { class: "holder" }, named("parties", e.party, e.name)),
     h("span", { class: "detail" }, detailOf(e)), h("span", { class: "kind" }, kind),
-    h("a", { class: "entry-number no-print", href: hrefOf("rrrs", e.number) }, t("sheet.entry", { n: String(e.number) })));
+    h("a", { class: "entry-number no-print", href: hrefOf("rrrs", e.number) },
+      t("sheet.entry", { n: String(e.number) })));
 }
 
 function section([key, classes], entries) {
@@ -84,11 +94,14 @@ function section([key, classes], entries) {
   return h("section", {}, h("h3", {}, t(key)), h("ul", { class: "entries" }, ...found.map(entryRow)));
 }
 
-// The sheet for people: letterhead, owners, rights, burdens, mortgages, parcels and plan. It prints on one page.
+// The sheet for people: letterhead, owners, rights, burdens, mortgages, parcels and plan. It prints on one
+// page.
 export function sheetView({ sheet, text, parcels, entries }) {
-  const exact = h("pre", { class: "sheet", tabindex: "0", role: "region", "aria-label": t("sheet.exactName", { n: String(sheet.number) }) },
+  const exact = h("pre", { class: "sheet", tabindex: "0", role: "region",
+    "aria-label": t("sheet.exactName", { n: String(sheet.number) }) },
     safeText(text));
-  const parcelRows = sheet.parcels.map((p) => h("li", {}, h("a", { href: hrefOf("parcels", p.number) }, safeText(p.label), small(p.number)),
+  const parcelRows = sheet.parcels.map((p) => h("li", {}, h("a", { href: hrefOf("parcels", p.number) },
+    safeText(p.label), small(p.number)),
     h("span", { class: "detail" }, decimal(p.area) + " m²")));
   return h("section", { class: "panel paper" },
     h("header", { class: "letterhead" }, h("p", { class: "office" }, settings.office || t("app.title")),
@@ -96,8 +109,10 @@ export function sheetView({ sheet, text, parcels, entries }) {
     h("h2", {}, safeText(sheet.name), h("span", { class: "num" }, " " + t("one.units") + " " + sheet.number)),
     h("p", { class: "as-of" }, ...parts("sheet.asOf", { when: when(sheet.at) })),
     ...SECTIONS.map((one) => section(one, entries)),
-    h("section", {}, h("h3", {}, t("sheet.parcels", { area: decimal(sheet.area) })), h("ul", { class: "entries" }, ...parcelRows)),
-    h("div", { class: "paper-plan" }, plan(parcels.map((p) => ({ ...p, here: true, href: hrefOf("parcels", p.number) })))),
+    h("section", {}, h("h3", {}, t("sheet.parcels", { area: decimal(sheet.area) })),
+      h("ul", { class: "entries" }, ...parcelRows)),
+    h("div", { class: "paper-plan" }, plan(parcels.map((p) => ({ ...p, here: true,
+      href: hrefOf("parcels", p.number) })))),
     h("p", { class: "stamp" }, t("sheet.issued", { name: safeString(state.name || ""), n: String(state.me),
       role: t("role." + state.role) }) + " " + t(sheet.checked ? "sheet.checked" : "sheet.unchecked")),
     h("p", { class: "tools no-print" }, button(t("sheet.print"), () => window.print(), { class: "main" })),

@@ -1,4 +1,5 @@
-// Where the map's parcels come from. A source has `extent` in metres, `load(box, scale, drawn)`, and `sheets(box, scale)`: lists of parcels
+// Where the map's parcels come from. A source has `extent` in metres, `load(box, scale, drawn)`, and
+// `sheets(box, scale)`: lists of parcels
 // ({ number, unit, label, rings, box }), each with the box of its tile, or null.
 import { numbersOf, objectOf } from "./api.js";
 import { ask, pageOf } from "./mirror.js";
@@ -48,16 +49,19 @@ function typicalOf(parcels) {
 export async function listSource() {
   const { numbers } = await numbersOf("parcels");
   const all = numbers || [];
-  const found = (await Promise.all(all.slice(0, MOST_READ).map((n) => objectOf("parcels", n)))).filter(Boolean).map(parcelOf);
+  const found = (await Promise.all(all.slice(0, MOST_READ).map((n) => objectOf("parcels",
+    n)))).filter(Boolean).map(parcelOf);
   const note = all.length > MOST_READ ? t("map.first", { n: MOST_READ, total: all.length }) : "";
-  return { extent: extentOf(found), typical: typicalOf(found), note, partial: all.length > MOST_READ, load: async () => null, sheets: () => [{ parcels: found, box: null }] };
+  return { extent: extentOf(found), typical: typicalOf(found), note, partial: all.length > MOST_READ,
+    load: async () => null, sheets: () => [{ parcels: found, box: null }] };
 }
 
 // ---- the mirror's tiles
 
 // The extent of the first and the last thousand parcels, which is where the map starts.
 async function startParcels() {
-  const pages = await Promise.all(["number", "-number"].map((sort) => pageOf("parcels", { sort, limit: 1000 })));
+  const pages = await Promise.all(["number", "-number"].map((sort) => pageOf("parcels",
+    { sort, limit: 1000 })));
   return pages.flatMap((page) => (page ? page.objects : [])).map(parcelOf);
 }
 
@@ -98,7 +102,8 @@ export async function tileSource() {
     const clamp = (v) => Math.max(0, Math.min(2 ** z - 1, Math.floor(v)));
     const found = [];
     for (let x = clamp((box[0] - west) / size); x <= clamp((box[2] - west) / size); x += 1) {
-      for (let y = clamp((north - box[3]) / size); y <= clamp((north - box[1]) / size); y += 1) found.push([z, x, y]);
+      for (let y = clamp((north - box[3]) / size); y <= clamp((north - box[1]) / size); y += 1) found.push([z,
+        x, y]);
     }
     return found;
   }

@@ -2,7 +2,8 @@
 import { numbersOf, objectOf, sheetOf, state } from "./api.js";
 import { ACTS_OF } from "./acts.js";
 import {
-  button, csvOf, download, errorBox, hrefOf, labelled, lead, named, panel, pastNotice, select, table, unitLink,
+  button, csvOf, download, errorBox, hrefOf, labelled, lead, named, panel, pastNotice, select, table,
+    unitLink,
 } from "./components.js";
 import { h, safeText } from "./dom.js";
 import { decimal } from "./format.js";
@@ -29,7 +30,8 @@ export async function startView() {
 function actsPanel() {
   if (state.at !== null) return "";
   const acts = ACTS_OF[state.role] || [];
-  return h("p", { class: "tools acts no-print" }, ...acts.map((name) => h("a", { class: "button", href: hrefOf("do", name) }, t("act." + name))));
+  return h("p", { class: "tools acts no-print" }, ...acts.map((name) => h("a",
+    { class: "button", href: hrefOf("do", name) }, t("act." + name))));
 }
 
 // ---- a citizen's land
@@ -43,7 +45,8 @@ async function landPanel() {
   const add = async () => {
     const rows = await Promise.all(numbers.slice(shown, shown + PAGE).map(landRow));
     shown += PAGE;
-    body.append(table(t("land.count", { n: numbers.length }), [t("col.name"), t("land.right"), t("col.area")], rows));
+    body.append(table(t("land.count", { n: numbers.length }), [t("col.name"), t("land.right"), t("col.area")],
+      rows));
     more.hidden = shown >= numbers.length;
   };
   const more = button(t("page.more"), add);
@@ -58,9 +61,12 @@ async function landRow(number) {
   const sheet = parseSheet(reply.text);
   const entries = (await entriesOf(sheet)).filter((e) => e.share);
   const groups = await Promise.all(entries.map((e) => objectOf("parties", e.party)));
-  const mine = entries.filter((e, n) => e.party === state.me || (groups[n] && groups[n].members.some((m) => m.party === state.me)));
-  const rights = mine.map((e) => h("div", {}, t("class." + e.class) + " " + e.share, e.party === state.me ? "" : [", ", safeText(e.name)]));
-  return [named("units", number, sheet.name), rights.length ? rights : t("land.mandate"), decimal(sheet.area) + " m²"];
+  const mine = entries.filter((e, n) => e.party === state.me ||
+    (groups[n] && groups[n].members.some((m) => m.party === state.me)));
+  const rights = mine.map((e) => h("div", {}, t("class." + e.class) + " " + e.share, e.party === state.me ?
+    "" : [", ", safeText(e.name)]));
+  return [named("units", number, sheet.name), rights.length ? rights : t("land.mandate"),
+    decimal(sheet.area) + " m²"];
 }
 
 // ---- the office: all that is undecided, oldest first
@@ -69,7 +75,8 @@ function undecidedPanel() {
   const all = [];
   const status = h("p", { class: "lead", role: "status" }, t("loading"));
   const body = h("div", {});
-  const act = select([["", t("work.all")], ...["transfer", "subdivision", "merger", "mortgage", "discharge"].map((a) => [a, t("act." + a)])], "",
+  const act = select([["", t("work.all")], ...["transfer", "subdivision", "merger", "mortgage",
+    "discharge"].map((a) => [a, t("act." + a)])], "",
     { onchange: () => draw() });
   const words = h("input", { type: "search", oninput: () => draw() });
   let shown = PAGE;
@@ -77,12 +84,15 @@ function undecidedPanel() {
     shown += PAGE;
     draw();
   });
-  const wanted = () => all.filter((o) => (!act.value || o.act === act.value) && (o.title + " " + o.reference).toLowerCase().includes(words.value.toLowerCase()));
+  const wanted = () => all.filter((o) => (!act.value || o.act === act.value) &&
+    (o.title + " " + o.reference).toLowerCase().includes(words.value.toLowerCase()));
 
   async function draw() {
     const list = wanted();
-    const rows = await Promise.all(list.slice(0, shown).map(async (o) => [await mutationTitle(o), safeText(o.reference), await lodgerLink(o), when(o.lodged)]));
-    body.replaceChildren(table(t("work.undecided", { n: list.length }), [t("col.request"), t("col.reference"), t("col.lodger"), t("col.lodged")], rows));
+    const rows = await Promise.all(list.slice(0, shown).map(async (o) => [await mutationTitle(o),
+      safeText(o.reference), await lodgerLink(o), when(o.lodged)]));
+    body.replaceChildren(table(t("work.undecided", { n: list.length }),
+      [t("col.request"), t("col.reference"), t("col.lodger"), t("col.lodged")], rows));
     more.hidden = shown >= list.length;
     body.hidden = all.length === 0;
   }
@@ -97,8 +107,10 @@ function undecidedPanel() {
   }
   load();
   const save = button(t("csv.save"), () => download("undecided.csv", csvOf(t("csv.undecided").split(","),
-    wanted().map((o) => [o.number, o.act, o.title, o.reference, o.lodger, formatMoment(o.lodged)])), "text/csv"));
-  return panel(t("work.undecidedTitle"), status, h("div", { class: "tools no-print" }, labelled(t("work.act"), act), labelled(t("work.filter"), words), save), body, more);
+    wanted().map((o) => [o.number, o.act, o.title, o.reference, o.lodger, formatMoment(o.lodged)])),
+      "text/csv"));
+  return panel(t("work.undecidedTitle"), status, h("div", { class: "tools no-print" },
+    labelled(t("work.act"), act), labelled(t("work.filter"), words), save), body, more);
 }
 
 async function lodgerLink(o) {
@@ -110,7 +122,8 @@ async function lodgerLink(o) {
 
 // The caller's lodgings from a place on: { objects, next }; `next` is null at the end.
 async function lodgings(from, wanted) {
-  const page = await pageOf("mutations", { lodger: state.me, sort: "-number", limit: PAGE, skip: from, ...(wanted ? { state: wanted } : {}) });
+  const page = await pageOf("mutations", { lodger: state.me, sort: "-number", limit: PAGE, skip: from,
+    ...(wanted ? { state: wanted } : {}) });
   if (page) return { objects: page.objects, next: page.more ? from + PAGE : null };
   const { numbers, reply } = await numbersOf("mutations");
   if (numbers === null) return { objects: [], next: null, reply };
@@ -127,10 +140,12 @@ async function lodgings(from, wanted) {
 
 async function lodgingsPanel() {
   const body = h("tbody", {});
-  const filter = select([["", t("work.all")], ...["lodged", "approved", "refused"].map((s) => [s, t("state." + s)])], "", { onchange: () => restart() });
+  const filter = select([["", t("work.all")], ...["lodged", "approved",
+    "refused"].map((s) => [s, t("state." + s)])], "", { onchange: () => restart() });
   let next = 0;
   const status = h("p", { class: "lead", role: "status" });
-  const grid = table(t("work.yours"), [t("col.request"), t("col.reference"), t("col.lodged"), t("col.state")], []);
+  const grid = table(t("work.yours"), [t("col.request"), t("col.reference"), t("col.lodged"), t("col.state")],
+    []);
   grid.querySelector("tbody").replaceWith(body);
   const heads = ["col.request", "col.reference", "col.lodged", "col.state"].map((key) => t(key));
   const more = button(t("page.more"), () => load());
@@ -138,7 +153,8 @@ async function lodgingsPanel() {
   async function load() {
     const { objects, next: after } = await lodgings(next, filter.value);
     for (const o of objects) {
-      const cells = [await mutationTitle(o), safeText(o.reference), when(o.lodged), h("span", { class: "state " + o.state }, t("state." + o.state))];
+      const cells = [await mutationTitle(o), safeText(o.reference), when(o.lodged),
+        h("span", { class: "state " + o.state }, t("state." + o.state))];
       body.append(h("tr", {}, ...cells.map((cell, n) => h("td", { "data-head": heads[n] }, cell))));
     }
     next = after;
@@ -155,9 +171,12 @@ async function lodgingsPanel() {
   const save = button(t("csv.save"), async () => {
     const found = await allOf("mutations", { lodger: state.me, sort: "-number" });
     const objects = found ? found.objects : (await everyLodging());
-    download("lodgings.csv", csvOf(t("csv.mutations").split(","), objects.map((o) => [o.number, o.act, o.reference, formatMoment(o.lodged), o.state, o.lodger])), "text/csv");
+    download("lodgings.csv", csvOf(t("csv.mutations").split(","),
+      objects.map((o) => [o.number, o.act, o.reference, formatMoment(o.lodged), o.state, o.lodger])),
+      "text/csv");
   });
-  return panel(t("work.yoursTitle"), h("div", { class: "tools no-print" }, labelled(t("col.state"), filter), save), status, grid, more);
+  return panel(t("work.yoursTitle"), h("div", { class: "tools no-print" }, labelled(t("col.state"), filter),
+    save), status, grid, more);
 }
 
 async function everyLodging() {

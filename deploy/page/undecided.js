@@ -5,10 +5,12 @@ import { ask } from "./mirror.js";
 const AT_ONCE = 50;
 const MOST = 1000;
 
-// Numbers of mutations that were decided. A decision is final, so these are never requested again in this session.
+// Numbers of mutations that were decided. A decision is final, so these are never requested again in this
+// session.
 const decided = new Set();
 
-// Calls `take(mutation)` for each, and `progress(read, total)`. Returns the list. With the mirror this is one request; else every
+// Calls `take(mutation)` for each, and `progress(read, total)`. Returns the list. With the mirror this is one
+// request; else every
 // mutation that was not seen decided before is requested.
 export async function undecided(take = () => null, progress = () => null) {
   const reply = await ask("undecided", { limit: MOST });

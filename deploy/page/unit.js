@@ -13,8 +13,10 @@ import { t } from "./words.js";
 export async function unitView(number) {
   const unit = await loadUnit(number);
   if (unit.reply) return hiddenUnit(number, unit.reply);
-  return [unit.sheet.name, h("p", { class: "subtitle no-print" }, one("units") + " " + number), pastNotice(), actions(number), h("div", { class: "columns" },
-    h("div", {}, sheetView(unit)), h("div", { class: "no-print" }, await waitingPanel(number), historyPanel(number, unit.sheet)))];
+  return [unit.sheet.name, h("p", { class: "subtitle no-print" }, one("units") + " " + number), pastNotice(),
+    actions(number), h("div", { class: "columns" },
+    h("div", {}, sheetView(unit)), h("div", { class: "no-print" }, await waitingPanel(number),
+      historyPanel(number, unit.sheet)))];
 }
 
 // A unit that the caller may not see now. Somebody who had a right in it still sees the time of that right.
@@ -28,8 +30,10 @@ function hiddenUnit(number, reply) {
 
 function actions(number) {
   if (state.at !== null) return "";
-  const act = (name) => h("a", { class: "button", href: hrefOf("do", name, "unit-" + number) }, t("act." + name));
-  const found = { notary: ["transfer", "mortgage", "discharge"], conveyancer: ["transfer"], bank: ["mortgage", "discharge"],
+  const act = (name) => h("a", { class: "button", href: hrefOf("do", name, "unit-" + number) },
+    t("act." + name));
+  const found = { notary: ["transfer", "mortgage", "discharge"], conveyancer: ["transfer"],
+    bank: ["mortgage", "discharge"],
     stateAdministrator: ["burden"] }[state.role] || [];
   return found.length ? h("p", { class: "tools no-print" }, ...found.map(act)) : "";
 }
@@ -49,6 +53,7 @@ async function waitingPanel(number) {
     return part;
   }
   status.textContent = t("loading");
-  undecided((o) => (refersTo(o, number) ? add(o) : null)).then((found) => end(found.filter((o) => refersTo(o, number)).length));
+  undecided((o) => (refersTo(o, number) ? add(o) : null)).then((found) => end(found.filter((o) => refersTo(o,
+    number)).length));
   return part;
 }

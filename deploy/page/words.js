@@ -23,7 +23,8 @@ function chosen() {
 export let language = chosen();
 export let locale = localeOf();
 
-// The regional variant of the language that the browser prefers: it decides the separators of numbers and the form of dates.
+// The regional variant of the language that the browser prefers: it decides the separators of numbers and the
+// form of dates.
 function localeOf() {
   return navigator.languages.find((one) => one.slice(0, 2) === language) || language;
 }
@@ -49,7 +50,8 @@ function patternOf(key, values) {
 }
 
 const PLACE = /\{(\w+)\}/g;
-const grouped = (value) => (typeof value === "number" ? new Intl.NumberFormat(locale).format(value) : String(value));
+const grouped = (value) => (typeof value === "number" ? new Intl.NumberFormat(locale).format(value) :
+  String(value));
 
 // A string: {name} is replaced by a value. Numbers are written with the reader's separators.
 export function t(key, values = {}) {
@@ -63,7 +65,8 @@ export function parts(key, values) {
   const pattern = patternOf(key, values);
   for (const match of pattern.matchAll(PLACE)) {
     const value = values[match[1]];
-    found.push(pattern.slice(position, match.index), value instanceof Node || Array.isArray(value) ? value : grouped(value));
+    found.push(pattern.slice(position, match.index), value instanceof Node || Array.isArray(value) ? value :
+      grouped(value));
     position = match.index + match[0].length;
   }
   return [...found, pattern.slice(position)].filter((one) => one !== "");

@@ -2,11 +2,16 @@
 from harness import check
 from page_browser import NARROW, PHONE, WIDE
 
-VIEWS = [("nora", "#/start?role=notary"), ("nora", "#/do/transfer/unit-9?role=notary"), ("office", "#/units/9?role=stateAdministrator"),
-         ("office", "#/mutations/{pending}?role=stateAdministrator"), ("anna", "#/parcels?role=citizen"), ("bank.clerk", "#/start?role=bank"),
-         ("ben", "#/units/9?role=citizen&at=1000"), ("office", "#/parties/7?role=stateAdministrator"), ("office", "#/map?role=stateAdministrator"),
-         ("office", "#/do/register?role=stateAdministrator"), ("office", "#/do/group?role=stateAdministrator"),
-         ("sam", "#/do/subdivision/parcel-24?role=certifiedSurveyor"), ("sam", "#/do/merger?role=certifiedSurveyor"),
+VIEWS = [("nora", "#/start?role=notary"), ("nora", "#/do/transfer/unit-9?role=notary"),
+    ("office", "#/units/9?role=stateAdministrator"),
+         ("office", "#/mutations/{pending}?role=stateAdministrator"), ("anna", "#/parcels?role=citizen"),
+             ("bank.clerk", "#/start?role=bank"),
+         ("ben", "#/units/9?role=citizen&at=1000"), ("office", "#/parties/7?role=stateAdministrator"),
+             ("office", "#/map?role=stateAdministrator"),
+         ("office", "#/do/register?role=stateAdministrator"),
+             ("office", "#/do/group?role=stateAdministrator"),
+         ("sam", "#/do/subdivision/parcel-24?role=certifiedSurveyor"),
+             ("sam", "#/do/merger?role=certifiedSurveyor"),
          ("office", "#/start?role=stateAdministrator")]
 CHECKS = ["contrast", "names", "order", "targets", "reflow", "spacing"]
 
@@ -17,7 +22,8 @@ def faults(it, names, pending):
     for user, place in VIEWS:
         it.sign_in(user)
         for name in names:
-            it.resize(NARROW if name in ("reflow", "spacing") and it.name == "Chromium" else PHONE if name in ("reflow", "spacing") else WIDE)
+            it.resize(NARROW if name in ("reflow", "spacing") and it.name == "Chromium" else PHONE
+                if name in ("reflow", "spacing") else WIDE)
             it.go(place.format(pending=pending))
             found += [f"{place} {name}: {fault}" for fault in it.run_check(name)]
     it.resize(WIDE)
@@ -40,14 +46,16 @@ def tab_order_faults(it, place):
         found += it.run_check("focused")
         if len(reached) == count:
             break
-    return sorted(set(found)) + ([] if count > 20 and reached == list(range(count)) else [f"{place}: {count} controls, reached {reached}"])
+    return sorted(set(found)) + ([] if count > 20 and reached == list(range(count))
+        else [f"{place}: {count} controls, reached {reached}"])
 
 
 def keyboard_faults(it, pending):
     """The page must be operable by keyboard: tab order, skip link, focus after navigation, search, forms, dialogs."""
     it.sign_in("office")
     found = tab_order_faults(it, f"#/mutations/{pending}?role=stateAdministrator")
-    found += tab_order_faults(it, "#/units/9?role=stateAdministrator") + tab_order_faults(it, "#/do/register?role=stateAdministrator")
+    found += tab_order_faults(it, "#/units/9?role=stateAdministrator") + tab_order_faults(it,
+        "#/do/register?role=stateAdministrator")
     it.go("#/start?role=stateAdministrator")
     it.press("Tab", "Enter")
     if it.js("return document.activeElement.id") != "main":
@@ -66,7 +74,8 @@ def keyboard_faults(it, pending):
     it.go(f"#/mutations/{pending}?role=stateAdministrator")
     it.js("[...document.querySelectorAll('main button')].find((b) => b.innerText === 'Refuse').focus()")
     it.press("Enter")
-    if not it.until(lambda: it.count("dialog[open]"), 5) or not it.js("return document.activeElement.closest('dialog') !== null"):
+    if not it.until(lambda: it.count("dialog[open]"),
+        5) or not it.js("return document.activeElement.closest('dialog') !== null"):
         found.append("the dialog does not have the focus")
     it.press("Escape")
     if not it.until(lambda: not it.count("dialog"), 5) or "waiting" not in it.text():

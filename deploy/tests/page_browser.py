@@ -28,7 +28,8 @@ PICTURES = os.environ.get("PICTURES")
 WIDE, NARROW, PHONE, DESK = 1280, 320, 360, 1440
 
 # Keys by their names, as code points of WebDriver.
-KEYS = {"Tab": "\ue004", "Enter": "\ue007", "Escape": "\ue00c", "Down": "\ue015", "Up": "\ue013", "Left": "\ue012", "Right": "\ue014",
+KEYS = {"Tab": "\ue004", "Enter": "\ue007", "Escape": "\ue00c", "Down": "\ue015", "Up": "\ue013",
+    "Left": "\ue012", "Right": "\ue014",
         "Shift": "\ue008", "Control": "\ue009", "Space": " "}
 
 # Finds the control of a field by its key (data-key, name or id), the last one if a form has several rows.
@@ -70,7 +71,8 @@ class Page:
         return self.js("return document.querySelectorAll(arguments[0]).length", selector)
 
     def text(self, selector="main"):
-        return self.js("const e = document.querySelector(arguments[0]); return e ? e.innerText : ''", selector)
+        return self.js("const e = document.querySelector(arguments[0]); return e ? e.innerText : ''",
+            selector)
 
     def has(self, *words):
         """Returns whether the view contains these texts, with plain spaces."""
@@ -162,13 +164,15 @@ class Chromium(Page):
     def __init__(self, stack):
         self.stack, self.root = stack, f"https://127.0.0.1:{stack.gateway_port}/"
         options = webdriver.ChromeOptions()
-        for word in ("--headless=new", "--no-sandbox", "--disable-gpu", "--disable-dev-shm-usage", "--lang=en-GB",
+        for word in ("--headless=new", "--no-sandbox", "--disable-gpu", "--disable-dev-shm-usage",
+            "--lang=en-GB",
                      f"--window-size={WIDE},1000"):
             options.add_argument(word)
         options.set_capability("acceptInsecureCerts", True)
         options.set_capability("goog:loggingPrefs", {"browser": "ALL"})
         self.downloads = tempfile.mkdtemp(prefix="land-page-")
-        options.add_experimental_option("prefs", {"download.default_directory": self.downloads, "intl.accept_languages": "en-GB"})
+        options.add_experimental_option("prefs", {"download.default_directory": self.downloads,
+            "intl.accept_languages": "en-GB"})
         self.driver = self.started(options)
         self.driver.set_page_load_timeout(120)
         self.driver.execute_cdp_cmd("Network.enable", {})
@@ -186,7 +190,8 @@ class Chromium(Page):
 
     def sign_in(self, user):
         token = base64.b64encode(f"{user}:secret-{user}".encode()).decode()
-        self.driver.execute_cdp_cmd("Network.setExtraHTTPHeaders", {"headers": {"Authorization": "Basic " + token}})
+        self.driver.execute_cdp_cmd("Network.setExtraHTTPHeaders",
+            {"headers": {"Authorization": "Basic " + token}})
 
     def sign_in_by_password(self, user):
         """Signs in as a user does: the browser keeps the password for the site."""
@@ -222,12 +227,14 @@ class Chromium(Page):
 
     def console_errors(self):
         """Returns the errors and warnings on the browser's console."""
-        return [it["message"] for it in self.driver.get_log("browser") if it["level"] in ("SEVERE", "WARNING") and
+        return [it["message"] for it in self.driver.get_log("browser")
+            if it["level"] in ("SEVERE", "WARNING") and
                 not any(word in it["message"] for word in ("status of 4", "willReadFrequently"))]
 
     def resize(self, width, height=1000, mobile=False):
         self.driver.execute_cdp_cmd("Emulation.setDeviceMetricsOverride",
-                                    {"width": width, "height": height, "deviceScaleFactor": 1, "mobile": mobile})
+                                    {"width": width, "height": height, "deviceScaleFactor": 1,
+                                        "mobile": mobile})
 
     def print_media(self, on):
         """Shows the page as on paper, or again as on a screen."""
@@ -236,7 +243,8 @@ class Chromium(Page):
     def swipe(self, x, y, distance):
         """Swipes with a finger, on a screen of a phone. Returns whether this browser can."""
         def touch(kind, *points):
-            self.driver.execute_cdp_cmd("Input.dispatchTouchEvent", {"type": kind, "touchPoints": list(points)})
+            self.driver.execute_cdp_cmd("Input.dispatchTouchEvent",
+                {"type": kind, "touchPoints": list(points)})
         self.driver.execute_cdp_cmd("Emulation.setTouchEmulationEnabled", {"enabled": True})
         touch("touchStart", {"x": x, "y": y})
         for n in range(1, 16):
@@ -247,7 +255,8 @@ class Chromium(Page):
         return True
 
     def pdf(self):
-        return base64.b64decode(self.driver.execute_cdp_cmd("Page.printToPDF", {"preferCSSPageSize": True})["data"])
+        return base64.b64decode(self.driver.execute_cdp_cmd("Page.printToPDF",
+            {"preferCSSPageSize": True})["data"])
 
     def screenshot(self):
         return self.driver.get_screenshot_as_png()
@@ -267,21 +276,27 @@ class Firefox(Page):
         self.profile = tempfile.mkdtemp(prefix="land-firefox-")
         self.downloads = os.path.join(self.profile, "downloads")
         port = free_port()
-        settings = {"marionette.port": port, "network.http.phishy-userpass-length": 255, "network.auth.confirmAuth.enabled": False,
+        settings = {"marionette.port": port, "network.http.phishy-userpass-length": 255,
+            "network.auth.confirmAuth.enabled": False,
                     "intl.accept_languages": "en-GB", "datareporting.policy.dataSubmissionEnabled": False,
-                    "browser.shell.checkDefaultBrowser": False, "signon.rememberSignons": False, "privacy.resistFingerprinting": False,
+                    "browser.shell.checkDefaultBrowser": False, "signon.rememberSignons": False,
+                        "privacy.resistFingerprinting": False,
                     "browser.download.folderList": 2, "browser.download.dir": self.downloads}
         with open(os.path.join(self.profile, "user.js"), "w", encoding="utf-8") as sink:
-            sink.writelines(f"user_pref({json.dumps(key)}, {json.dumps(value)});\n" for key, value in settings.items())
-        words = ["firefox-esr", "--headless", "--marionette", "--remote-allow-system-access", "--no-remote", "--profile", self.profile, "--width", str(WIDE), "--height",
+            sink.writelines(f"user_pref({json.dumps(key)}, {json.dumps(value)});\n" for key,
+                value in settings.items())
+        words = ["firefox-esr", "--headless", "--marionette", "--remote-allow-system-access", "--no-remote",
+            "--profile", self.profile, "--width", str(WIDE), "--height",
                  "1100"]
         environment = {**os.environ, "HOME": self.profile, "TZ": "Europe/Berlin", "MOZ_HEADLESS": "1"}
-        self.process = subprocess.Popen(words, stdout=subprocess.DEVNULL, stderr=subprocess.DEVNULL, env=environment, cwd=self.profile)
+        self.process = subprocess.Popen(words, stdout=subprocess.DEVNULL, stderr=subprocess.DEVNULL,
+            env=environment, cwd=self.profile)
         self.link = self.connect(port)
         self.number = 0
         self.buffer = b""
         self.receive()
-        self.command("WebDriver:NewSession", {"acceptInsecureCerts": True, "timeouts": {"script": 60000, "pageLoad": 120000, "implicit": 0}})
+        self.command("WebDriver:NewSession", {"acceptInsecureCerts": True,
+            "timeouts": {"script": 60000, "pageLoad": 120000, "implicit": 0}})
         self.user = None
 
     def connect(self, port, seconds=90):
@@ -326,7 +341,8 @@ class Firefox(Page):
         """Signs in by a URL with a password. Firefox keeps it for the site; another one replaces it."""
         self.user = user
         with contextlib.suppress(RuntimeError):
-            self.command("WebDriver:Navigate", {"url": self.root.replace("//", f"//{user}:secret-{user}@") + "settings.js"})
+            self.command("WebDriver:Navigate", {"url": self.root.replace("//",
+                f"//{user}:secret-{user}@") + "settings.js"})
 
     def sign_in_by_password(self, user):
         self.sign_in(user)
@@ -341,14 +357,16 @@ class Firefox(Page):
         self.command("WebDriver:Navigate", {"url": url})
 
     def js(self, text, *arguments):
-        return self.command("WebDriver:ExecuteScript", {"script": text, "args": list(arguments), "newSandbox": True, "sandbox": None})
+        return self.command("WebDriver:ExecuteScript", {"script": text, "args": list(arguments),
+            "newSandbox": True, "sandbox": None})
 
     def actions(self, *sources):
         self.command("WebDriver:PerformActions", {"actions": list(sources)})
 
     def click_at(self, x, y):
         self.actions({"type": "pointer", "id": "mouse", "parameters": {"pointerType": "mouse"}, "actions": [
-            {"type": "pointerMove", "x": round(x), "y": round(y), "duration": 0}, {"type": "pointerDown", "button": 0},
+            {"type": "pointerMove", "x": round(x), "y": round(y), "duration": 0},
+                {"type": "pointerDown", "button": 0},
             {"type": "pointerUp", "button": 0}]})
 
     def press(self, *keys):
@@ -365,20 +383,23 @@ class Firefox(Page):
     def resize(self, width, height=1000, mobile=False):
         # a window is at least 500 pixels wide: a narrower page is shown enlarged
         zoom = 1 if width >= 500 else 500 / width
-        self.command("WebDriver:SetWindowRect", {"x": 0, "y": 0, "width": round(width * zoom), "height": round(height * zoom) + 90})
+        self.command("WebDriver:SetWindowRect", {"x": 0, "y": 0, "width": round(width * zoom),
+            "height": round(height * zoom) + 90})
         self.command("Marionette:SetContext", {"value": "chrome"})
         self.js("gBrowser.selectedBrowser.fullZoom = arguments[0]", zoom)
         self.command("Marionette:SetContext", {"value": "content"})
 
     def print_media(self, on):
         """Shows the page with the style of paper, or again as on a screen: Firefox has no command for it."""
-        self.js("document.querySelector('link[href=\"print.css\"]').media = arguments[0]", "all" if on else "print")
+        self.js("document.querySelector('link[href=\"print.css\"]').media = arguments[0]", "all" if on
+            else "print")
 
     def swipe(self, *_):
         return False
 
     def pdf(self):
-        return base64.b64decode(self.command("WebDriver:Print", {"background": False, "page": {"width": 21, "height": 29.7}}))
+        return base64.b64decode(self.command("WebDriver:Print",
+            {"background": False, "page": {"width": 21, "height": 29.7}}))
 
     def screenshot(self):
         return base64.b64decode(self.command("WebDriver:TakeScreenshot", {"full": False, "hash": False}))

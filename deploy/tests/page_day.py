@@ -38,7 +38,8 @@ def subdivide(it, register):
     it.js("document.querySelector('input.points').focus()")
     it.type("1135 500; 1130 520; 1135 540")
     it.button("Cut")
-    check(f"{it.name}: the coordinates cut it", it.settle(lambda: it.has("The parts cover exactly the old parcel.")), it.text())
+    check(f"{it.name}: the coordinates cut it",
+        it.settle(lambda: it.has("The parts cover exactly the old parcel.")), it.text())
     it.js("const e = [...document.querySelectorAll('[data-part=where]')].pop(); e.value = 'new'; e.dispatchEvent(new Event('change'));")
     it.type("Elm Court")
     it.fill("document", "Plan of Elm")
@@ -52,7 +53,8 @@ def approve_first(it, register, act):
     it.user_now = None
     it.go("#/start?role=stateAdministrator")
     it.settle(lambda: it.count("main tbody a[href*='mutations/']"), 30)
-    number = int(re.search(r"mutations/(\d+)", it.js("return document.querySelector(\"main tbody a[href*='mutations/']\").href"))[1])
+    number = int(re.search(r"mutations/(\d+)",
+        it.js("return document.querySelector(\"main tbody a[href*='mutations/']\").href"))[1])
     if not it.text("main tbody a").startswith(act):
         return False
     return decide(it, register, number) == "approved"
@@ -67,7 +69,8 @@ def sell(it, register):
     it.type("elm court")
     it.settle(lambda: it.count("#search-form [role=option]"))
     it.press("Down", "Enter")
-    check(f"{it.name}: the new unit is found", it.settle(lambda: it.text("h1") == "Elm Court"), it.text()[:200])
+    check(f"{it.name}: the new unit is found", it.settle(lambda: it.text("h1") == "Elm Court"),
+        it.text()[:200])
     it.button("Transfer")
     it.settle(lambda: it.count("select[name=right] option") == 2)
     it.pick("receiver", "Ivo Kern")
@@ -87,7 +90,8 @@ def mortgage(it, register):
     check(f"{it.name}: and approved", approve_first(it, register, "Mortgage"), it.text())
     it.sign_in("bank.clerk")
     it.go("#/start?role=bank")
-    check(f"{it.name}: the bank has the loan", it.settle(lambda: it.has("EUR 180,000.00", "Elm Court")), it.text())
+    check(f"{it.name}: the bank has the loan", it.settle(lambda: it.has("EUR 180,000.00", "Elm Court")),
+        it.text())
     return unit
 
 
@@ -101,13 +105,16 @@ def answer(it, unit):
     it.press("Down", "Enter")
     it.settle(lambda: it.text("h1") == "Elm Court")
     sheet = it.text(".paper").replace("\u00a0", " ")
-    check(f"{it.name}: the owner now", "Ivo Kern" in sheet and "Mara Holt" not in sheet and "EUR 180,000.00" in sheet, sheet)
+    check(f"{it.name}: the owner now", "Ivo Kern" in sheet and "Mara Holt" not in sheet
+        and "EUR 180,000.00" in sheet, sheet)
     it.picture("day-sheet", DESK)
     it.button("Show history")
-    check(f"{it.name}: the history of the day", it.settle(lambda: it.has("Mara Holt", "Sale of Elm Court"), 60), it.text()[-600:])
+    check(f"{it.name}: the history of the day", it.settle(lambda: it.has("Mara Holt", "Sale of Elm Court"),
+        60), it.text()[-600:])
     it.picture("day-history", DESK)
     it.click("ol.history > li:last-child a[href*='at=']")
-    check(f"{it.name}: the owner of the morning", it.settle(lambda: "Mara Holt" in it.text(".paper") and "Ivo" not in it.text(".paper")), it.text())
+    check(f"{it.name}: the owner of the morning", it.settle(lambda: "Mara Holt" in it.text(".paper")
+        and "Ivo" not in it.text(".paper")), it.text())
     pdf = it.pdf()
     check(f"{it.name}: the sheet can be printed", pdf.startswith(b"%PDF"))
 

@@ -22,7 +22,8 @@ def long_history(it, unit, stamps):
     done = "return /Found by a search|changes, newest first/.test(document.getElementById('history').innerText)"
     it.settle(lambda: it.js(done), 240)
     shown = it.js("return [...document.querySelectorAll('ol.history > li a[href*=\"at=\"]')].map((a) => Number(/at=(\\d+)/.exec(a.href)[1]))")
-    return [] if shown == sorted(stamps, reverse=True) else [f"{len(shown)} of {len(stamps)} shown, newest {shown[:1]} of {stamps[-1:]}"]
+    return [] if shown == sorted(stamps,
+        reverse=True) else [f"{len(shown)} of {len(stamps)} shown, newest {shown[:1]} of {stamps[-1:]}"]
 
 
 def printed_units(it):
@@ -51,7 +52,8 @@ def old_request(it, number):
     found = [] if it.has("OLD-1") and it.count("main tbody tr") >= 1 else ["start page: " + it.text()[:300]]
     it.go("#/units/9?role=stateAdministrator")
     it.settle(lambda: it.has("refers to this unit") or it.has("refer to this unit"), 60)
-    return found + ([] if it.count(f"a[href*='mutations/{number}']") else ["the unit's page: " + it.text()[-300:]])
+    return found + ([] if it.count(f"a[href*='mutations/{number}']")
+        else ["the unit's page: " + it.text()[-300:]])
 
 
 def decided_view(it, number):
@@ -72,7 +74,8 @@ def decided_view(it, number):
 def first_view(it):
     """After sign-in each user sees the start page of a role that it holds."""
     found = []
-    for user, heading in (("office", "The office"), ("bank.clerk", "Your loans"), ("nora", "Your lodgings"), ("ben", "Your land")):
+    for user, heading in (("office", "The office"), ("bank.clerk", "Your loans"), ("nora", "Your lodgings"),
+        ("ben", "Your land")):
         it.sign_in(user)
         it.go("")
         text = it.text()
@@ -91,7 +94,8 @@ def narrow_sheet(it):
     wide = it.js("""return [...document.querySelectorAll('.paper *:not(pre)')].filter((e) => e.checkVisibility() && !e.closest('svg, pre') &&
         (e.getBoundingClientRect().right > innerWidth || e.scrollWidth > e.clientWidth + 1 && getComputedStyle(e).display !== 'inline' &&
         e.clientWidth > 0)).map((e) => e.outerHTML.slice(0, 80))""")
-    found = wide + ([] if it.js("return document.querySelector('.paper').innerText.includes('Ben')") else ["no owner"])
+    found = wide + ([] if it.js("return document.querySelector('.paper').innerText.includes('Ben')")
+        else ["no owner"])
     it.js("document.querySelector('svg.plan').scrollIntoView({block: 'center'})")
     before = it.js("return scrollY")
     x, y = it.js("const b = document.querySelector('svg.plan').getBoundingClientRect(); return [b.x + b.width / 2, b.y + b.height / 2]")
@@ -107,10 +111,12 @@ def prepare(stack, newer=105, burdens=60):
     """Makes the objects of these checks: a unit with many changes, and a request with many newer ones that are decided."""
     act = scenario.act_sender(stack.queue_connection())
     made = act(OFFICE, "register", {"name": "Long meadow", "checked": True, "document": "Plan L", "parcels": [
-        {"label": "L", "outline": scenario.rectangle(0, -50000, 9000, 9000)}], "rights": [{"party": 2, "type": "ownership", "share": "1/1"}]})
+        {"label": "L", "outline": scenario.rectangle(0, -50000, 9000, 9000)}],
+            "rights": [{"party": 2, "type": "ownership", "share": "1/1"}]})
     stamps = [made["stamp"]]
     for n in range(burdens):
-        stamps.append(act(OFFICE, "burden", {"unit": made["number"], "party": 1, "class": "restriction", "words": f"No well {n}",
+        stamps.append(act(OFFICE, "burden", {"unit": made["number"], "party": 1, "class": "restriction",
+            "words": f"No well {n}",
                                              "document": f"Order {n}"})["stamp"])
     old = wait_behind(act, made["number"], "OLD-1", newer)
     return {"unit": made["number"], "stamps": stamps, "old": old, "newer": newer}
@@ -118,23 +124,27 @@ def prepare(stack, newer=105, burdens=60):
 
 def wait_behind(act, unit, reference, newer):
     """Lodges a request, and newer ones that the office refuses. Returns the number of the first."""
-    old = act(NORA, "transfer", {"reference": reference, "document": "Deed 9", "unit": 9, "right": 21, "receiver": 2, "share": "1/4"})
+    old = act(NORA, "transfer", {"reference": reference, "document": "Deed 9", "unit": 9, "right": 21,
+        "receiver": 2, "share": "1/4"})
     for n in range(newer):
-        number = act(NORA, "transfer", {"reference": f"{reference}-{n}", "document": "Deed", "unit": unit, "right": 1, "receiver": 3,
+        number = act(NORA, "transfer", {"reference": f"{reference}-{n}", "document": "Deed", "unit": unit,
+            "right": 1, "receiver": 3,
                                         "share": "1/2"})["number"]
         act(OFFICE, "refuse", {"mutation": number})
     return old["number"]
 
 
 def lodge_another(stack, data):
-    return wait_behind(scenario.act_sender(stack.queue_connection()), data["unit"], "OLD-1-again", data["newer"])
+    return wait_behind(scenario.act_sender(stack.queue_connection()), data["unit"], "OLD-1-again",
+        data["newer"])
 
 
 def run(it, data):
     """Checks all eight."""
     for name, faults in (
             ("a bank is not shown an empty history", bank_history(it)),
-            ("a history of 61 changes is complete, newest first", long_history(it, data["unit"], data["stamps"])),
+            ("a history of 61 changes is complete, newest first",
+                long_history(it, data["unit"], data["stamps"])),
             ("the printed sheet has units of money and area", printed_units(it)),
             ("a bank's total counts a loan once", loans_once(it)),
             ("an old request is on the start page and on its unit's page", old_request(it, data["old"])),

@@ -8,19 +8,32 @@ from harness import check, note
 
 OFFICE, SAM = (1, "stateAdministrator"), (6, "certifiedSurveyor")
 # Texts with each fault of docs/OUTLINES.md, some with several, and correct ones.
-TEXTS = ["", "POLYGON", "POLYGON EMPTY", "polygon empty", "POLYGONEMPTY", "POLYGON EMPTY x", "POLYGON (EMPTY)", "POINT (0 0)",
-         "POLYGON ((0 0, 4 0, 4 4, 0 0)", "POLYGON ((0 0, 4 0, 4 4, 0 0))", "POLYGON((0 0,4 0,4 4,0 0))", "POLYGON Z ((0 0 1, 4 0 1, 4 4 1, 0 0 1))",
-         "POLYGONZ ((0 0, 4 0, 4 4, 0 0))", "POLYGONZ M ((0 0, 4 0, 4 4, 0 0))", "POLYGON ((0 0 1, 4 0, 4 4, 0 0))", "POLYGON ((0, 4 0, 4 4, 0 0))",
-         "POLYGON ((0 0 1 2 3, 4 0, 4 4, 0 0))", "POLYGON ((0 0, 9 0, 9 9, 0 0), (1 1, 2 1, 2 2, 1 1))", "POLYGON ((0 0, 4.5 0, 4 4, 0 0))",
-         "POLYGON ((0 0, 4.000 0, 4. 4, -0 0))", "POLYGON ((0 0, .0 0, 4 4, 0 0))", "POLYGON ((0 0, 1e1 0, 4 4, 0 0))",
-         "POLYGON ((0 0, +-4 0, 4 4, 0 0))", "POLYGON ((0 0, 10000000001 0, 4 4, 0 0))", "POLYGON ((0 0, 10000000000 0, 4 4, 0 0))",
-         "POLYGON ((0 0, 4 0, 0 0))", "POLYGON ((0 0, 4 0, 4 4, 0 4))", "POLYGON ((0 0, 4 4, 4 0, 0 4, 0 0))", "POLYGON ((0 0, 4 0, 8 0, 0 0))",
-         "POLYGON ((0 0, 8 0, 4 0, 4 4, 0 0))", "POLYGON ((0 0, 4 0, 4 0, 4 4, 0 0))", "POLYGON ((0 0, 8 0, 8 8, 4 0, 0 8, 0 0))",
-         "POLYGON ((0 0, 2 0, 4 0, 4 4, 0 4, 0 0))", "POLYGON ((0 0, 0 4, 4 4, 4 0, 0 0))", "POLYGON ((-5000000000 -5000000000, 5000000000 "
-         "-5000000000, 5000000000 5000000000, -5000000000 5000000000, -5000000000 -5000000000))", "POLYGON ((0 0,\t4 0,\n4 4, 0 0))",
-         "POLYGON ((0\u00a00, 4 0, 4 4, 0 0))", "POLYGON ((0 0, 4 0, 4 4, 0 0)) x", "((0 0, 4 0, 4 4, 0 0))", "POLYGON ((0 0, 4 x, 4 4, 0 0))",
-         "POLYGON ((" + ", ".join(f"{n} {n * n}" for n in range(200)) + ", 0 0))", "POLYGON ((" + ", ".join(f"{n} {n * n}" for n in range(201)) + ", 0 0))",
-         "POLYGON ((0 0, 0000000000000000000000004 0, 4 4, 0 0))", "POLYGON ((0 0, 4.000000000000000000000 0, 4 4, 0 0))"]
+TEXTS = ["", "POLYGON", "POLYGON EMPTY", "polygon empty", "POLYGONEMPTY", "POLYGON EMPTY x",
+    "POLYGON (EMPTY)", "POINT (0 0)",
+         "POLYGON ((0 0, 4 0, 4 4, 0 0)", "POLYGON ((0 0, 4 0, 4 4, 0 0))", "POLYGON((0 0,4 0,4 4,0 0))",
+             "POLYGON Z ((0 0 1, 4 0 1, 4 4 1, 0 0 1))",
+         "POLYGONZ ((0 0, 4 0, 4 4, 0 0))", "POLYGONZ M ((0 0, 4 0, 4 4, 0 0))",
+             "POLYGON ((0 0 1, 4 0, 4 4, 0 0))", "POLYGON ((0, 4 0, 4 4, 0 0))",
+         "POLYGON ((0 0 1 2 3, 4 0, 4 4, 0 0))", "POLYGON ((0 0, 9 0, 9 9, 0 0), (1 1, 2 1, 2 2, 1 1))",
+             "POLYGON ((0 0, 4.5 0, 4 4, 0 0))",
+         "POLYGON ((0 0, 4.000 0, 4. 4, -0 0))", "POLYGON ((0 0, .0 0, 4 4, 0 0))",
+             "POLYGON ((0 0, 1e1 0, 4 4, 0 0))",
+         "POLYGON ((0 0, +-4 0, 4 4, 0 0))", "POLYGON ((0 0, 10000000001 0, 4 4, 0 0))",
+             "POLYGON ((0 0, 10000000000 0, 4 4, 0 0))",
+         "POLYGON ((0 0, 4 0, 0 0))", "POLYGON ((0 0, 4 0, 4 4, 0 4))", "POLYGON ((0 0, 4 4, 4 0, 0 4, 0 0))",
+             "POLYGON ((0 0, 4 0, 8 0, 0 0))",
+         "POLYGON ((0 0, 8 0, 4 0, 4 4, 0 0))", "POLYGON ((0 0, 4 0, 4 0, 4 4, 0 0))",
+             "POLYGON ((0 0, 8 0, 8 8, 4 0, 0 8, 0 0))",
+         "POLYGON ((0 0, 2 0, 4 0, 4 4, 0 4, 0 0))", "POLYGON ((0 0, 0 4, 4 4, 4 0, 0 0))",
+             "POLYGON ((-5000000000 -5000000000, 5000000000 "
+         "-5000000000, 5000000000 5000000000, -5000000000 5000000000, -5000000000 -5000000000))",
+             "POLYGON ((0 0,\t4 0,\n4 4, 0 0))",
+         "POLYGON ((0\u00a00, 4 0, 4 4, 0 0))", "POLYGON ((0 0, 4 0, 4 4, 0 0)) x", "((0 0, 4 0, 4 4, 0 0))",
+             "POLYGON ((0 0, 4 x, 4 4, 0 0))",
+         "POLYGON ((" + ", ".join(f"{n} {n * n}" for n in range(200)) + ", 0 0))",
+             "POLYGON ((" + ", ".join(f"{n} {n * n}" for n in range(201)) + ", 0 0))",
+         "POLYGON ((0 0, 0000000000000000000000004 0, 4 4, 0 0))",
+             "POLYGON ((0 0, 4.000000000000000000000 0, 4 4, 0 0))"]
 
 
 def asker(stack):
@@ -28,7 +41,8 @@ def asker(stack):
     link = stack.queue_connection()
 
     def act(caller, name, body):
-        link.request("POST", "/acts/" + name, json.dumps(body), {"Register-Party": str(caller[0]), "Register-Role": caller[1]})
+        link.request("POST", "/acts/" + name, json.dumps(body),
+            {"Register-Party": str(caller[0]), "Register-Role": caller[1]})
         reply = link.getresponse()
         return reply.status, json.loads(reply.read())
     return act
@@ -37,15 +51,18 @@ def asker(stack):
 def module(it, name, call, *arguments):
     """Calls a function of a module of the page and returns its result."""
     return it.js(f"const given = arguments; return import('./{name}').then((m) => JSON.parse(JSON.stringify(m.{call}, (k, v) => "
-                 "typeof v === 'bigint' ? String(v) : v)))".replace("import('./", "import(location.origin + '/"), *arguments)
+                 "typeof v === 'bigint' ? String(v) : v)))".replace("import('./",
+                     "import(location.origin + '/"), *arguments)
 
 
 def texts(it, stack):
     act = asker(stack)
     wrong = []
     for text in TEXTS:
-        status, reply = act(OFFICE, "register", {"name": "Shape", "checked": True, "document": "P", "parcels": [{"label": "x", "outline": text}],
-                                                 "rights": [{"party": 2, "type": "ownership", "share": "1/1"}]})
+        status, reply = act(OFFICE, "register", {"name": "Shape", "checked": True, "document": "P",
+            "parcels": [{"label": "x", "outline": text}],
+                                                 "rights": [{"party": 2, "type": "ownership",
+                                                     "share": "1/1"}]})
         said = module(it, "shape.js", "readWkt(given[0])", text)
         fault = reply.get("fault") if status != 200 else None
         if said.get("fault") != fault:
@@ -63,7 +80,8 @@ def tiling(rnd, x0):
     cuts = sorted(rnd.sample(range(x0 + 500, x0 + wide - 500, 500), count - 1))
     lines = [[(x0, 0), (x0, high)]]
     for cut in cuts:
-        middle = [(cut + rnd.randrange(-200, 200), high * k // 4) for k in range(1, 4)] if rnd.random() < 0.7 else []
+        middle = [(cut + rnd.randrange(-200, 200), high * k // 4)
+            for k in range(1, 4)] if rnd.random() < 0.7 else []
         lines.append([(cut, 0), *middle, (cut, high)])
     lines.append([(x0 + wide, 0), (x0 + wide, high)])
     parts = [[*lines[n], *reversed(lines[n + 1])] for n in range(count)]
@@ -88,20 +106,25 @@ def subdivisions(it, stack, times):
     wrong, matched = [], 0
     for n in range(times):
         whole, parts = tiling(rnd, 10_000_000 + n * 100_000)
-        _, made = act(OFFICE, "register", {"name": f"T{n}", "checked": True, "document": "P", "parcels": [{"label": "t", "outline": wkt(whole)}],
+        _, made = act(OFFICE, "register", {"name": f"T{n}", "checked": True, "document": "P",
+            "parcels": [{"label": "t", "outline": wkt(whole)}],
                                            "rights": [{"party": 2, "type": "ownership", "share": "1/1"}]})
         unit, parcel = made["number"], made["made"][2]
         said = module(it, "parts.js", "readOutlines(given[0])", "\n".join(map(wkt, parts)))
         if "fault" not in said:
-            said = module(it, "ground.js", "compareGround(given[0], [given[1]])", said["rings"], [list(p) for p in whole])
-        status, reply = act(SAM, "subdivision", {"reference": f"R{n}", "document": "P", "unit": unit, "parcel": parcel,
+            said = module(it, "ground.js", "compareGround(given[0], [given[1]])", said["rings"],
+                [list(p) for p in whole])
+        status, reply = act(SAM, "subdivision", {"reference": f"R{n}", "document": "P", "unit": unit,
+            "parcel": parcel,
                                                  "first": {"label": "a", "outline": wkt(parts[0])},
-                                                 "rest": [{"label": "b", "outline": wkt(part)} for part in parts[1:]]})
+                                                 "rest": [{"label": "b", "outline": wkt(part)}
+                                                     for part in parts[1:]]})
         if status == 200:
             status, reply = act(OFFICE, "approve", {"mutation": reply["number"]})
         same = said.get("same", False)
         matched += same
-        if same != (status == 200) or (status != 200 and reply not in ({"refused": 220}, {"fault": said.get("fault")})):
+        if same != (status == 200) or (status != 200 and reply not in ({"refused": 220},
+            {"fault": said.get("fault")})):
             wrong.append((n, said, status, reply))
     check(f"{it.name}: the page's check of {times} subdivisions is the register's", not wrong, wrong[:3])
     check(f"{it.name}: some match and some do not", times * 0.1 < matched < times * 0.9, matched)
@@ -133,7 +156,8 @@ def cuts_and_joins(it, times):
             }
             return [cuts, JSON.stringify(wrong.slice(0, 3))];
         });""", times)
-    check(f"{it.name}: {wrong[0]} cuts keep the ground, and joins restore it", wrong[1] == "[]" and wrong[0] > times / 2, wrong)
+    check(f"{it.name}: {wrong[0]} cuts keep the ground, and joins restore it", wrong[1] == "[]"
+        and wrong[0] > times / 2, wrong)
 
 
 def run(it, times=60):

@@ -27,7 +27,8 @@ def check_search(it):
     check(f"{it.name}: a unit is found by a part of its name", found == ["Unit Orchard 25"], found)
     check(f"{it.name}: a party", "Party Bank, \"North\" 4" in search(it, "north"), search(it, "north"))
     check(f"{it.name}: a parcel by its label", "Parcel 12b 26" in search(it, "12b"), search(it, "12b"))
-    check(f"{it.name}: a deed by the beginning of its title", any("Deed 2" in one for one in search(it, "Deed 2")), search(it, "Deed 2"))
+    check(f"{it.name}: a deed by the beginning of its title",
+        any("Deed 2" in one for one in search(it, "Deed 2")), search(it, "Deed 2"))
     check(f"{it.name}: a number", "Unit Garden 9" in search(it, "9"), search(it, "9"))
     it.press("Down", "Enter")
     check(f"{it.name}: a result is opened", it.settle(lambda: it.has("Owners")), it.text()[:200])
@@ -43,30 +44,38 @@ def check_history(it):
     it.sign_in("office")
     it.go("#/units/9?role=stateAdministrator")
     it.button("Show history")
-    check(f"{it.name}: the history is a list", it.settle(lambda: it.has("changes, newest first"), 30), it.text()[-500:])
+    check(f"{it.name}: the history is a list", it.settle(lambda: it.has("changes, newest first"), 30),
+        it.text()[-500:])
     text = it.text("#history").replace("\u00a0", " ")
-    for words in ("Subdivision", "approved", "Ownership: Ben, 1/1", "changed", "Deed 2", "Mortgage: Bank, \"North\", EUR 25,000.00", "Parcel 12a", "new"):
+    for words in ("Subdivision", "approved", "Ownership: Ben, 1/1", "changed", "Deed 2",
+        "Mortgage: Bank, \"North\", EUR 25,000.00", "Parcel 12a", "new"):
         check(f"{it.name}: the history has {words!r}", words in text, text)
     newest = it.js("return [...document.querySelectorAll('ol.history > li a[href*=\"at=\"]')].map((a) => Number(/at=(\\d+)/.exec(a.href)[1]))")
     check(f"{it.name}: newest first", newest == sorted(newest, reverse=True) and len(newest) > 5, newest)
-    check(f"{it.name}: in one request", sum("/units/9/history" in one for one in requests(it)) == 1, requests(it))
+    check(f"{it.name}: in one request", sum("/units/9/history" in one for one in requests(it)) == 1,
+        requests(it))
     it.button("Compare two moments")
     it.button("Compare")
-    check(f"{it.name}: two moments side by side", it.settle(lambda: it.has("difference"), 20), it.text()[-300:])
+    check(f"{it.name}: two moments side by side", it.settle(lambda: it.has("difference"), 20),
+        it.text()[-300:])
     check(f"{it.name}: differences are marked", it.count("#history .differs") >= 2, it.text()[-300:])
     it.picture("history", DESK)
     it.sign_in("anna")
     it.go("#/units/9?role=citizen")
-    check(f"{it.name}: a former owner is offered the history", it.has("(rule 11)", "Did you have a right in this unit?"), it.text())
+    check(f"{it.name}: a former owner is offered the history",
+        it.has("(rule 11)", "Did you have a right in this unit?"), it.text())
     it.button("Show history")
-    check(f"{it.name}: and finds the period", it.settle(lambda: it.has("Your ownership", "1/4 from"), 30), it.text()[-400:])
+    check(f"{it.name}: and finds the period", it.settle(lambda: it.has("Your ownership", "1/4 from"), 30),
+        it.text()[-400:])
     it.sign_in("ben")
     it.go("#/units/9?role=citizen")
     it.button("Show history")
     it.settle(lambda: it.count("ol.history li"))
     it.click("ol.history > li a[href*='at=']", 1)
-    check(f"{it.name}: a moment of the history is shown", it.settle(lambda: it.has("State as of")), it.text()[:200])
-    check(f"{it.name}: the history stays open", it.settle(lambda: it.count("ol.history li")), it.text()[-200:])
+    check(f"{it.name}: a moment of the history is shown", it.settle(lambda: it.has("State as of")),
+        it.text()[:200])
+    check(f"{it.name}: the history stays open", it.settle(lambda: it.count("ol.history li")),
+        it.text()[-200:])
 
 
 def check_lists(it):
@@ -74,7 +83,8 @@ def check_lists(it):
     it.go("#/parties?role=stateAdministrator&sort=name")
     names = it.js("return [...document.querySelectorAll('tbody td:first-child bdi')].map((e) => e.innerText)")
     check(f"{it.name}: a list by name", names == sorted(names) and "Anna" in names, names)
-    check(f"{it.name}: a page is one request", sum("/mirror/objects/parties" in one for one in requests(it)) == 1, requests(it))
+    check(f"{it.name}: a page is one request", sum("/mirror/objects/parties" in one
+        for one in requests(it)) == 1, requests(it))
     it.go("#/parties/3?role=stateAdministrator")
     check(f"{it.name}: a party has its entries", it.has("Entries of this party", "Ownership"), it.text())
 
@@ -91,13 +101,16 @@ def check_undecided(it):
     it.send_form()
     it.settle(lambda: "Lodged" in it.text(".answer"))
     it.button("Your lodgings", "#tabs")
-    check(f"{it.name}: what was lodged a moment ago is listed", it.settle(lambda: it.has("Transfer of 1/2 of Garden to Anna", "waiting")), it.text())
+    check(f"{it.name}: what was lodged a moment ago is listed",
+        it.settle(lambda: it.has("Transfer of 1/2 of Garden to Anna", "waiting")), it.text())
     it.sign_in("office")
     it.go("#/start?role=stateAdministrator")
-    check(f"{it.name}: the office sees it", it.settle(lambda: it.has("Transfer of 1/2 of Garden to Anna", "1 request is waiting")), it.text())
+    check(f"{it.name}: the office sees it", it.settle(lambda: it.has("Transfer of 1/2 of Garden to Anna",
+        "1 request is waiting")), it.text())
     it.picture("office", DESK)
     it.go("#/units/9?role=stateAdministrator")
-    check(f"{it.name}: so does the unit's page", it.settle(lambda: it.has("1 request refers to this unit")), it.text())
+    check(f"{it.name}: so does the unit's page", it.settle(lambda: it.has("1 request refers to this unit")),
+        it.text())
 
 
 def canvas_colours(it):
@@ -109,13 +122,15 @@ def canvas_colours(it):
 def check_map(it):
     it.sign_in("office")
     it.go("#/map?role=stateAdministrator")
-    check(f"{it.name}: the map has all parcels", it.settle(lambda: it.has("47 parcels in view"), 30), it.text())
+    check(f"{it.name}: the map has all parcels", it.settle(lambda: it.has("47 parcels in view"), 30),
+        it.text())
     check(f"{it.name}: they are drawn", it.until(lambda: canvas_colours(it) > 20, 10), canvas_colours(it))
     it.picture("map", DESK)
     it.resize(1280)
     it.js("document.querySelector('canvas.map').focus()")
     it.press("+", "+", "+")
-    check(f"{it.name}: keys enlarge it", it.settle(lambda: not it.has("47 parcels in view") and it.has("in view"), 10), it.text())
+    check(f"{it.name}: keys enlarge it", it.settle(lambda: not it.has("47 parcels in view")
+        and it.has("in view"), 10), it.text())
     it.press("0")
     it.settle(lambda: it.has("47 parcels in view"), 10)
     x, y = it.js("const b = document.querySelector('canvas.map').getBoundingClientRect(); return [b.x + b.width / 2, b.y + b.height / 2]")
@@ -131,7 +146,8 @@ def check_map(it):
     check(f"{it.name}: the map opens at a parcel", it.settle(lambda: it.has("Parcel 12a"), 20), it.text())
     it.sign_in("ben")
     it.go("#/map?role=citizen")
-    check(f"{it.name}: a citizen's map has all parcels it sees", it.settle(lambda: it.has("24 parcels in view") or it.has("parcels in view"), 20), it.text())
+    check(f"{it.name}: a citizen's map has all parcels it sees",
+        it.settle(lambda: it.has("24 parcels in view") or it.has("parcels in view"), 20), it.text())
     it.resize(PHONE, 740)
     it.go("#/map?role=citizen")
     it.settle(lambda: it.has("in view"), 20)
@@ -145,7 +161,8 @@ def check_loss(it):
     it.go("#/units?role=stateAdministrator")
     it.stack.mirror.stop()
     it.button("Parties", "#tabs")
-    check(f"{it.name}: lists work without the mirror", it.settle(lambda: it.has("Anna", "Parties 1 to"), 30), it.text())
+    check(f"{it.name}: lists work without the mirror", it.settle(lambda: it.has("Anna", "Parties 1 to"), 30),
+        it.text())
     check(f"{it.name}: so does the search", "Unit Orchard 25" in search(it, "orchard"), search(it, "orchard"))
     it.stack.mirror.start()
 
@@ -173,7 +190,8 @@ def fill_many(stack, count):
             x, y = place % wide * 20000 + 1000000, place // wide * 20000
             parcels.append({"label": f"{place}", "outline": scenario.rectangle(x, y, 20000, 20000)})
             place += 1
-        act(OFFICE, "register", {"name": f"Estate {unit}", "checked": True, "document": f"Plan {unit}", "parcels": parcels,
+        act(OFFICE, "register", {"name": f"Estate {unit}", "checked": True, "document": f"Plan {unit}",
+            "parcels": parcels,
                                  "rights": [{"party": 2, "type": "ownership", "share": "1/1"}]})
     note(f"{count} parcels registered in {time.monotonic() - began:.0f} s")
 

@@ -49,10 +49,13 @@ def mirrored_stack():
         server.install("page")
         feed = mirror_cluster.start_feed(folder, server, "page", stack.file(), "--audit-every", 600)
         ends.callback(end_process, feed)
-        words = [mirror_cluster.MIRROR, "serve", "--socket", socket, "--prefix", "/mirror", server.dsn("land_gateway", "page")]
-        reader = subprocess.Popen(words, preexec_fn=mirror_cluster.user("nobody"), cwd="/", stderr=subprocess.PIPE, text=True)
+        words = [mirror_cluster.MIRROR, "serve", "--socket", socket, "--prefix", "/mirror",
+            server.dsn("land_gateway", "page")]
+        reader = subprocess.Popen(words, preexec_fn=mirror_cluster.user("nobody"), cwd="/",
+            stderr=subprocess.PIPE, text=True)
         ends.callback(end_process, reader)
-        stack.wait_for(lambda: os.path.exists(socket) or reader.poll() is not None, "the read gateway does not start")
+        stack.wait_for(lambda: os.path.exists(socket) or reader.poll() is not None,
+            "the read gateway does not start")
         stack.mirror = server
         yield stack
 
@@ -69,7 +72,8 @@ def end_process(process):
 def wait_for_mirror(stack, count, seconds=60):
     """Waits until the mirror has so many parties, units, parcels, entries, sources and mutations together."""
     end = time.monotonic() + seconds
-    words = " + ".join(f"(SELECT count(*) FROM reg.{kind})" for kind in ("party", "unit", "parcel", "rrr", "source", "mutation"))
+    words = " + ".join(f"(SELECT count(*) FROM reg.{kind})"
+        for kind in ("party", "unit", "parcel", "rrr", "source", "mutation"))
     while time.monotonic() < end:
         with stack.mirror.connect("postgres", "page") as db, db.cursor() as cursor:
             cursor.execute("SELECT " + words)

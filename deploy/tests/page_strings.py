@@ -34,22 +34,28 @@ def modules():
 def run():
     first, *others = (strings(one) for one in LANGUAGES)
     for language, other in zip(LANGUAGES[1:], others):
-        check(f"the keys of {language} are those of {LANGUAGES[0]}", set(first) == set(other), set(first) ^ set(other))
+        check(f"the keys of {language} are those of {LANGUAGES[0]}", set(first) == set(other),
+            set(first) ^ set(other))
         different = [key for key in first if key in other and places(first[key]) != places(other[key])]
         check(f"the places of {language} are the same", not different, different)
-        same = [key for key in first if first[key] == other.get(key) and not key.startswith("csv.") and re.search("[a-z]{3}", str(first[key]))]
+        same = [key for key in first if first[key] == other.get(key) and not key.startswith("csv.")
+            and re.search("[a-z]{3}", str(first[key]))]
         check(f"the texts of {language} are translated", len(same) < 12, same)
     text = "".join(source(name) for name in modules()) + source("index.html")
-    prefixes = tuple(set(re.findall(r'"([a-z]+\.(?:[a-zA-Z]+\.)*)" ?\+', text)) | {"rule.", "refusal.", "fault.", "start.", "field.pick."})
+    prefixes = tuple(set(re.findall(r'"([a-z]+\.(?:[a-zA-Z]+\.)*)" ?\+', text)) | {"rule.", "refusal.",
+        "fault.", "start.", "field.pick."})
     used = set(re.findall(r'"#?([a-z]+\.[a-zA-Z0-9.]+)"', text)) | set(re.findall(r'\bt\("(\w+)"', text))
     unused = [key for key in first if key not in used and not key.startswith(prefixes)]
     check("no string is unused", not unused, unused)
-    missing = [key for key in used if re.match(r"(app|act|field|form|draw|error|sheet|history|map|plan|col|one|many|work|list|page)\.", key) and
+    missing = [key for key in used
+        if re.match(r"(app|act|field|form|draw|error|sheet|history|map|plan|col|one|many|work|list|page)\.",
+            key) and
                key not in first and not key.endswith((".", ".js", ".css"))]
     check("no string is missing", not missing, missing)
     found = []
     for name in modules():
         for number, line in enumerate(source(name).splitlines(), 1):
             plain = re.sub(r"//.*$", "", line)
-            found += [f"{name}:{number}: {word}" for word in re.findall(r'"([A-Z][a-z]+ [a-z]+[^"]*)"', plain)]
+            found += [f"{name}:{number}: {word}" for word in re.findall(r'"([A-Z][a-z]+ [a-z]+[^"]*)"',
+                plain)]
     check("no text is in another file than those of the languages", not found, found)

@@ -22,13 +22,18 @@ def register_difficult_objects(stack):
 
     def register(name, outlines, *owners):
         return act(scenario.OFFICE, "register", {
-            "name": name, "checked": True, "document": "Plan <b>9</b>", "parcels": [{"label": it[0], "outline": it[1]} for it in outlines],
-            "rights": [{"party": it, "type": "ownership", "share": f"1/{len(owners)}"} for it in owners]})["number"]
+            "name": name, "checked": True, "document": "Plan <b>9</b>",
+                "parcels": [{"label": it[0], "outline": it[1]} for it in outlines],
+            "rights": [{"party": it, "type": "ownership", "share": f"1/{len(owners)}"}
+                for it in owners]})["number"]
     west = "POLYGON ((0 0, 40000 -8000, 62000 9000, 58000 31000, 33000 22000, 12000 36000, -6000 17000, 0 0))"
     east = "POLYGON ((62000 9000, 90000 4000, 97000 28000, 58000 31000, 62000 9000))"
-    odd = register("River \u202emeadow\ufe0f " + EVIL[:60], [(TURNED, west), ("R2", east)], enrol(EVIL), enrol(FORGED), 2)
-    act(scenario.OFFICE, "burden", {"unit": odd, "party": 2, "class": "restriction", "words": "No well: " + FORGED, "document": "Order"})
-    great = register("Forest", [("F", "POLYGON ((0 0, 700000001 0, 700000001 700000001, 0 700000001, 0 0))")], 2)
+    odd = register("River \u202emeadow\ufe0f " + EVIL[:60], [(TURNED, west), ("R2", east)], enrol(EVIL),
+        enrol(FORGED), 2)
+    act(scenario.OFFICE, "burden", {"unit": odd, "party": 2, "class": "restriction",
+        "words": "No well: " + FORGED, "document": "Order"})
+    great = register("Forest", [("F", "POLYGON ((0 0, 700000001 0, 700000001 700000001, 0 700000001, 0 0))")],
+        2)
     return odd, great
 
 
@@ -38,9 +43,11 @@ def check_citizen(it, odd):
     check(f"{it.name}: the citizen's units are listed", it.has("Garden", "Plot 1"), it.text())
     who = it.text("#who")
     check(f"{it.name}: the caller is displayed", "Ben" in who and "Party 3" in who, who)
-    check(f"{it.name}: roles that the party does not hold are marked", "Notary (not yours)" in it.text("#role"))
+    check(f"{it.name}: roles that the party does not hold are marked",
+        "Notary (not yours)" in it.text("#role"))
     it.go("#/units/9?role=citizen")
-    check(f"{it.name}: a title sheet is displayed", it.has("Garden", "Owners", "Ben 3", "Bank, \"North\"", "50 m²"), it.text())
+    check(f"{it.name}: a title sheet is displayed", it.has("Garden", "Owners", "Ben 3", "Bank, \"North\"",
+        "50 m²"), it.text())
     check(f"{it.name}: its exact text is one click away", it.button("Exact text of the register") and
           it.settle(lambda: it.has("TITLE SHEET", "Unit 9 Garden")), it.text())
     check(f"{it.name}: the plan has its parcel", it.count("svg.plan path.here") == 1)
@@ -50,9 +57,11 @@ def check_citizen(it, odd):
     it.picture("unit-narrow", PHONE)
     it.go(f"#/units/{odd}?role=citizen")
     text = it.text()
-    check(f"{it.name}: a denied unit is explained by its rule", "Not visible" in text and "(rule 11)" in text and "Owners" not in text, text)
+    check(f"{it.name}: a denied unit is explained by its rule", "Not visible" in text and "(rule 11)" in text
+        and "Owners" not in text, text)
     it.go("#/units/9?role=bank")
-    check(f"{it.name}: a role that the party does not hold is explained by its rule", it.has("Denied", "(rule 2)"), it.text())
+    check(f"{it.name}: a role that the party does not hold is explained by its rule",
+        it.has("Denied", "(rule 2)"), it.text())
     check(f"{it.name}: no errors on the console", not it.console_errors(), it.console_errors())
 
 
@@ -61,15 +70,19 @@ def check_moments(it):
     it.sign_in("ben")
     it.go("#/units/9?role=citizen")
     it.js("const e = document.getElementById('at'); e.value = '2020-01-01T12:00'; e.dispatchEvent(new Event('change'))")
-    check(f"{it.name}: before the register existed the unit is not visible", it.settle(lambda: it.has("(rule 11)")), it.text()[:300])
-    check(f"{it.name}: the past is marked, in local time and in UTC", it.has("State as of", "CET", "2020-01-01 11:00:00.000 UTC"), it.text())
+    check(f"{it.name}: before the register existed the unit is not visible",
+        it.settle(lambda: it.has("(rule 11)")), it.text()[:300])
+    check(f"{it.name}: the past is marked, in local time and in UTC",
+        it.has("State as of", "CET", "2020-01-01 11:00:00.000 UTC"), it.text())
     it.click("#to-now")
     check(f"{it.name}: and back to now", it.settle(lambda: it.has("Owners")), it.text()[:200])
     it.go("#/units?role=citizen&at=4102444799999")
     check(f"{it.name}: a future time is a fault", it.has("(fault 135)"), it.text())
     it.js("const e = document.getElementById('at'); e.value = '1969-01-01T12:00'; e.dispatchEvent(new Event('change'))")
-    check(f"{it.name}: an invalid time has a message", "Enter a date such as" in it.text("#at-wrong"), it.text("#at-wrong"))
-    check(f"{it.name}: its field is marked invalid", it.js("return document.getElementById('at').getAttribute('aria-invalid')") == "true")
+    check(f"{it.name}: an invalid time has a message", "Enter a date such as" in it.text("#at-wrong"),
+        it.text("#at-wrong"))
+    check(f"{it.name}: its field is marked invalid",
+        it.js("return document.getElementById('at').getAttribute('aria-invalid')") == "true")
 
 
 def check_owner(it, great):
@@ -133,7 +146,8 @@ def check_languages(it):
     it.sign_in("ben")
     it.go("#/units/9?role=citizen")
     it.js("const e = document.getElementById('language'); e.value = 'de'; e.dispatchEvent(new Event('change'))")
-    check(f"{it.name}: in German", it.settle(lambda: it.has("GRUNDBUCHAUSZUG", "Eigentümer", "Hypotheken", "Verlauf zeigen")), it.text())
+    check(f"{it.name}: in German", it.settle(lambda: it.has("GRUNDBUCHAUSZUG", "Eigentümer", "Hypotheken",
+        "Verlauf zeigen")), it.text())
     check(f"{it.name}: its language is named", it.js("return document.documentElement.lang") == "de")
     it.picture("german")
     english = it.js("return ['Owners', 'Mortgages', 'Show history', 'Sign out', 'Units'].filter((w) => document.body.innerText.includes(w))")
@@ -161,7 +175,8 @@ def check_print(it):
     it.sign_in("ben")
     it.go("#/units/9?role=citizen")
     it.print_media(True)
-    seen = [it.js(f"return document.querySelector('{one}').checkVisibility()") for one in (".bar", ".tabs", "footer", "#history",
+    seen = [it.js(f"return document.querySelector('{one}').checkVisibility()")
+        for one in (".bar", ".tabs", "footer", "#history",
         ".paper", "svg.plan", ".stamp", ".letterhead")]
     check(f"{it.name}: in print: title sheet, plan, caller", seen == [False] * 4 + [True] * 4, seen)
     it.picture("paper", 794)
