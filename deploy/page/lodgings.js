@@ -5,7 +5,7 @@ import { h, safeText } from "./dom.js";
 import { button, small } from "./components.js";
 import { choiceField, entryField, moneyField, newReference, partyField, pickField, shareField,
   textField } from "./fields.js";
-import { field } from "./form.js";
+import { group } from "./form.js";
 import { join } from "./ground.js";
 import { allOf } from "./mirror.js";
 import { partsField } from "./parts.js";
@@ -132,11 +132,11 @@ function merger(prefill) {
     if (chosen.length < 2) return t("field.twoParcels");
     return update() || missingParcels(chosen, Number(stays.input.value));
   };
-  const shown = field({ key: "parcels", label: t("content.parcels"), input: h("div", {}, list, drawing),
-    focus: picker.node.querySelector("input"), read: () => chosen, check });
+  const shown = group({ key: "parcels", label: t("content.parcels"), fields: () => [], check,
+    content: [picker.node, list, drawing] });
   const numbers = (values) => [...new Set(values)].sort((a, b) => a - b);
   return {
-    fields: [{ ...picker, check: async () => [] }, shown, stays, label, ...top.fields],
+    fields: [shown, stays, label, ...top.fields],
     ready: async () => {
       const first = prefill.parcel && await objectOf("parcels", prefill.parcel, null);
       if (first) add(asItem(first));

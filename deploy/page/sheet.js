@@ -110,7 +110,7 @@ export function sheetView({ sheet, text, parcels, entries }) {
     h("p", { class: "as-of" }, ...parts("sheet.asOf", { when: when(sheet.at) })),
     ...SECTIONS.map((one) => section(one, entries)),
     h("section", {}, h("h3", {}, t("sheet.parcels", { area: decimal(sheet.area) })),
-      h("ul", { class: "entries" }, ...parcelRows)),
+      h("ul", { class: "entries plots" }, ...parcelRows)),
     h("div", { class: "paper-plan" }, plan(parcels.map((p) => ({ ...p, here: true,
       href: hrefOf("parcels", p.number) })))),
     h("p", { class: "stamp" }, t("sheet.issued", { name: safeString(state.name || ""), n: String(state.me),

@@ -33,7 +33,8 @@ def faults(it, names, pending):
 def tab_order_faults(it, place):
     """Tabs through a view: every control must be reached, in document order, with a visible focus indicator."""
     it.go(place)
-    count = it.js("""const all = [...document.querySelectorAll("a[href],button,input,select,textarea,summary,canvas[tabindex],pre[tabindex]")];
+    count = it.js("""const kinds = "a[href],button,input,select,textarea,summary,canvas[tabindex],pre[tabindex]";
+        const all = [...document.querySelectorAll(kinds)];
         const controls = all.filter((e) => !e.disabled && e.checkVisibility() && e.getClientRects().length > 0);
         controls.forEach((e, n) => e.setAttribute("data-order", n));
         return controls.length;""")

@@ -294,7 +294,8 @@ def geometry(it, register, unit):
     it.send_form()
     check(f"{it.name}: parcels that do not touch are reported",
         "The parcels do not form one area without holes." in it.errors(), it.errors())
-    it.js("[...document.querySelectorAll('[data-key=parcels] li')].find((e) => e.textContent.startsWith('P7')).querySelector('button').click()")
+    it.js("[...document.querySelectorAll('[data-key=parcels] li')].find((e) => e.textContent.startsWith('P7'))"
+          ".querySelector('button').click()")
     it.fill("add", str(parts[1]["number"]))
     it.press("Tab")
     it.settle(lambda: it.count("[data-key=parcels] li") == 2)

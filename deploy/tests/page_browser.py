@@ -35,7 +35,8 @@ KEYS = {"Tab": "\ue004", "Enter": "\ue007", "Escape": "\ue00c", "Down": "\ue015"
 # Finds the control of a field by its key (data-key, name or id), the last one if a form has several rows.
 FIELD = """const all = [...document.querySelectorAll(`main [data-key="${arguments[0]}"]`)];
     const place = arguments[1] === null ? all[all.length - 1] : all[arguments[1]];
-    return place && (place.querySelector(`[name="${arguments[0]}"]`) || place.querySelector('input:not([hidden]), select, textarea') || place);"""
+    const named = place && place.querySelector(`[name="${arguments[0]}"]`);
+    return named || (place && place.querySelector('input:not([hidden]), select, textarea')) || place;"""
 
 
 class Page:
@@ -88,7 +89,8 @@ class Page:
 
     def button(self, text, where="main"):
         """Clicks the last visible button or link with a text. Returns whether there is one."""
-        found = self.js("""const all = [...document.querySelectorAll(arguments[1] + ' button, ' + arguments[1] + ' a, ' + arguments[1] + ' summary')];
+        found = self.js("""const kinds = ['button', 'a', 'summary'].map((one) => arguments[1] + ' ' + one).join();
+            const all = [...document.querySelectorAll(kinds)];
             const e = all.filter((one) => (one.innerText || '').trim() === arguments[0] && one.checkVisibility() && !one.disabled).pop();
             if (!e) return false;
             e.scrollIntoView({block: 'center'});
@@ -102,6 +104,11 @@ class Page:
     def has_button(self, text):
         return self.js("return [...document.querySelectorAll('main button')].some((one) => one.innerText.trim() === arguments[0] && "
                        "one.checkVisibility() && !one.disabled)", text)
+
+    def moments(self):
+        """Returns the moments of the history that is shown."""
+        return self.js("return [...document.querySelectorAll('ol.history > li a[href*=\"at=\"]')]"
+                       ".map((a) => Number(/at=(\\d+)/.exec(a.href)[1]))")
 
     # ---- forms
 
@@ -176,6 +183,7 @@ class Chromium(Page):
         self.driver = self.started(options)
         self.driver.set_page_load_timeout(120)
         self.driver.execute_cdp_cmd("Network.enable", {})
+        self.driver.execute_cdp_cmd("Page.setDownloadBehavior", {"behavior": "allow", "downloadPath": self.downloads})
         self.driver.execute_cdp_cmd("Emulation.setTimezoneOverride", {"timezoneId": "Europe/Berlin"})
 
     @staticmethod
@@ -275,13 +283,15 @@ class Firefox(Page):
         self.stack, self.root = stack, f"https://127.0.0.1:{stack.gateway_port}/"
         self.profile = tempfile.mkdtemp(prefix="land-firefox-")
         self.downloads = os.path.join(self.profile, "downloads")
+        os.mkdir(self.downloads)
         port = free_port()
         settings = {"marionette.port": port, "network.http.phishy-userpass-length": 255,
-            "network.auth.confirmAuth.enabled": False,
+                    "network.auth.confirmAuth.enabled": False,
                     "intl.accept_languages": "en-GB", "datareporting.policy.dataSubmissionEnabled": False,
                     "browser.shell.checkDefaultBrowser": False, "signon.rememberSignons": False,
-                        "privacy.resistFingerprinting": False,
-                    "browser.download.folderList": 2, "browser.download.dir": self.downloads}
+                    "privacy.resistFingerprinting": False,
+                    "browser.download.folderList": 2, "browser.download.useDownloadDir": True,
+                    "browser.download.dir": self.downloads}
         with open(os.path.join(self.profile, "user.js"), "w", encoding="utf-8") as sink:
             sink.writelines(f"user_pref({json.dumps(key)}, {json.dumps(value)});\n" for key,
                 value in settings.items())

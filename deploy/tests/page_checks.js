@@ -65,7 +65,8 @@ function contrast() {
 // Every control has an accessible name, and every id reference resolves.
 function names() {
   const found = [];
-  for (const e of document.querySelectorAll("a[href],button,input,select,textarea,canvas,svg[role],[role=region],[role=listbox],nav,fieldset")) {
+  const kinds = "a[href],button,input,select,textarea,canvas,svg[role],[role=region],[role=listbox],nav,fieldset";
+  for (const e of document.querySelectorAll(kinds)) {
     const labels = e.labels && e.tagName !== "BUTTON" ? [...e.labels].map((l) => l.textContent).join("") : null;
     if (e.hidden && e.tagName === "INPUT") continue;
     const own = labels !== null ? labels : e.tagName === "NAV" ? "" : e.textContent;
@@ -73,7 +74,8 @@ function names() {
     if (!words.some((word) => word && word.trim())) found.push("no name: " + describe(e));
   }
   for (const e of document.querySelectorAll("[aria-describedby],[aria-controls],[aria-labelledby],[for],[list]")) {
-    const ids = ["aria-describedby", "aria-controls", "aria-labelledby", "for", "list"].map((name) => e.getAttribute(name)).filter(Boolean).join(" ").split(" ");
+    const references = ["aria-describedby", "aria-controls", "aria-labelledby", "for", "list"];
+    const ids = references.map((name) => e.getAttribute(name)).filter(Boolean).join(" ").split(" ");
     found.push(...ids.filter((id) => !document.getElementById(id)).map((id) => "no such id " + id));
   }
   const all = [...document.querySelectorAll("[id]")].map((e) => e.id);

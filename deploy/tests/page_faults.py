@@ -21,7 +21,7 @@ def long_history(it, unit, stamps):
     it.button("Show history")
     done = "return /Found by a search|changes, newest first/.test(document.getElementById('history').innerText)"
     it.settle(lambda: it.js(done), 240)
-    shown = it.js("return [...document.querySelectorAll('ol.history > li a[href*=\"at=\"]')].map((a) => Number(/at=(\\d+)/.exec(a.href)[1]))")
+    shown = it.moments()
     return [] if shown == sorted(stamps,
         reverse=True) else [f"{len(shown)} of {len(stamps)} shown, newest {shown[:1]} of {stamps[-1:]}"]
 
@@ -91,7 +91,8 @@ def narrow_sheet(it):
     it.resize(PHONE, 740, mobile=True)
     it.sign_in("ben")
     it.go("#/units/9?role=citizen")
-    wide = it.js("""return [...document.querySelectorAll('.paper *:not(pre)')].filter((e) => e.checkVisibility() && !e.closest('svg, pre') &&
+    wide = it.js("""return [...document.querySelectorAll('.paper *:not(pre)')].filter((e) => e.checkVisibility() &&
+        !e.closest('svg, pre') &&
         (e.getBoundingClientRect().right > innerWidth || e.scrollWidth > e.clientWidth + 1 && getComputedStyle(e).display !== 'inline' &&
         e.clientWidth > 0)).map((e) => e.outerHTML.slice(0, 80))""")
     found = wide + ([] if it.js("return document.querySelector('.paper').innerText.includes('Ben')")

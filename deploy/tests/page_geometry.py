@@ -1,6 +1,6 @@
-"""The page's own checks of outlines and of the match of boundaries, compared with the register: texts with each fault, random subdivisions and
-mergers that match or not. The page must report each fault that the register reports, and must let no lodging pass that the office could not
-approve, nor stop one that it could."""
+"""The page's own checks of outlines and of the match of boundaries, compared with the register: texts with each fault, and random
+subdivisions that match or not. The page must report each fault that the register reports, and must let no lodging pass that the office
+could not approve, nor stop one that it could."""
 import json
 import random
 

@@ -50,7 +50,7 @@ def check_history(it):
     for words in ("Subdivision", "approved", "Ownership: Ben, 1/1", "changed", "Deed 2",
         "Mortgage: Bank, \"North\", EUR 25,000.00", "Parcel 12a", "new"):
         check(f"{it.name}: the history has {words!r}", words in text, text)
-    newest = it.js("return [...document.querySelectorAll('ol.history > li a[href*=\"at=\"]')].map((a) => Number(/at=(\\d+)/.exec(a.href)[1]))")
+    newest = it.moments()
     check(f"{it.name}: newest first", newest == sorted(newest, reverse=True) and len(newest) > 5, newest)
     check(f"{it.name}: in one request", sum("/units/9/history" in one for one in requests(it)) == 1,
         requests(it))
@@ -207,7 +207,8 @@ def run_many(it, count):
     whole = time.monotonic() - began
     check(f"{it.name}: the map shows {count} parcels", shown, it.text()[:300])
     frame = it.js("""const c = document.querySelector('canvas.map'); const b = c.getBoundingClientRect();
-        const at = (t, x) => c.dispatchEvent(new PointerEvent(t, {pointerId: 1, clientX: b.x + x, clientY: b.y + 200, isPrimary: true, bubbles: true}));
+        const at = (t, x) => c.dispatchEvent(new PointerEvent(t, {pointerId: 1, isPrimary: true, bubbles: true,
+            clientX: b.x + x, clientY: b.y + 200}));
         c.setPointerCapture = () => null; at('pointerdown', 200);
         const times = [];
         return new Promise((done) => { let n = 0; let last = performance.now();

@@ -1,6 +1,8 @@
 """The views of each role, names that contain HTML or imitate lines, printing, an outage, frames and forms of other sites."""
 import contextlib
+import csv
 import http.server
+import os
 import threading
 
 from harness import check
@@ -130,6 +132,21 @@ def text_faults(it, odd):
     return found + ([] if it.count("#search-form [role=option]") else ["no suggestion"])
 
 
+def check_csv(it):
+    """A list is saved as CSV; a name that a spreadsheet program would execute gets an apostrophe."""
+    act = scenario.act_sender(it.stack.queue_connection())
+    act(scenario.OFFICE, "enrol", {"kind": "naturalPerson", "name": "=1+1,\"x\""})
+    it.sign_in("office")
+    it.go("#/parties?role=stateAdministrator")
+    it.button("Save as CSV")
+    file = os.path.join(it.downloads, "parties.csv")
+    saved = it.until(lambda: os.path.exists(file) and os.path.getsize(file), 20)
+    with open(file if saved else os.devnull, newline="", encoding="utf-8") as source:
+        rows = list(csv.reader(source))
+    check(f"{it.name}: a list is saved as CSV", saved and rows[0] == ["number", "name", "kind", "roles"] and len(rows) > 5, rows)
+    check(f"{it.name}: formulas get an apostrophe", saved and rows[1][1] == "'=1+1,\"x\"", rows[:2])
+
+
 def check_bank(it):
     it.sign_in("bank.clerk")
     it.go("#/start?role=bank")
@@ -150,7 +167,8 @@ def check_languages(it):
         "Verlauf zeigen")), it.text())
     check(f"{it.name}: its language is named", it.js("return document.documentElement.lang") == "de")
     it.picture("german")
-    english = it.js("return ['Owners', 'Mortgages', 'Show history', 'Sign out', 'Units'].filter((w) => document.body.innerText.includes(w))")
+    english = it.js("return ['Owners', 'Mortgages', 'Show history', 'Sign out', 'Units'].filter((word) => "
+                    "document.body.innerText.includes(word))")
     check(f"{it.name}: nothing is left in English", not english, english)
     it.go("#/units/9?role=citizen")
     check(f"{it.name}: the language is kept", it.has("Eigentümer"), it.text()[:200])
@@ -259,6 +277,7 @@ def run(it, odd, great):
     check_owner(it, great)
     faults = text_faults(it, odd)
     check(f"{it.name}: names with HTML or imitated lines", not faults, faults)
+    check_csv(it)
     check_bank(it)
     check_languages(it)
     it.sign_in("ben")
