@@ -37,6 +37,7 @@ export function group({ key, label, fields, content, check = async () => "" }) {
   const error = h("p", { class: "field-error", id: newId(key) });
   const node = h("fieldset", { class: "group", "data-key": key, tabindex: "-1" }, h("legend", {}, label),
     ...content, error);
+  node.addEventListener("input", () => { error.textContent = ""; });
   return { key, node,
     check: async () => {
       const found = (await Promise.all(fields().map((one) => one.check()))).flat();
@@ -76,7 +77,10 @@ export function formView({ name, leadText, build, lodging }) {
       h("p", { class: "tools" }, submit, button(t("form.clear"),
         () => { answer.replaceChildren(); start(); })));
     let touched = false;
-    form.addEventListener("input", () => { touched = true; });
+    form.addEventListener("input", () => {
+      touched = true;
+      if (![...form.querySelectorAll(".field-error")].some((node) => node.textContent)) summary.replaceChildren();
+    });
     guard(() => touched && form.isConnected);
     form.addEventListener("submit", async (event) => {
       event.preventDefault();

@@ -38,6 +38,7 @@ export function partsField() {
   const body = h("div", {});
   const node = h("fieldset", { class: "group", "data-key": key, tabindex: "-1" },
     h("legend", {}, t("content.parts")), body, error);
+  node.addEventListener("input", () => { error.textContent = ""; });
   let parcel = null;
   let old = null;
   let parts = [];

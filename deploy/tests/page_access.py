@@ -16,10 +16,10 @@ VIEWS = [("nora", "#/start?role=notary"), ("nora", "#/do/transfer/unit-9?role=no
 CHECKS = ["contrast", "names", "order", "targets", "reflow", "spacing"]
 
 
-def faults(it, names, pending):
+def faults(it, names, pending, views=None):
     """Runs checks of page_checks.js on all views."""
     found = []
-    for user, place in VIEWS:
+    for user, place in views or VIEWS:
         it.sign_in(user)
         for name in names:
             it.resize(NARROW if name in ("reflow", "spacing") and it.name == "Chromium" else PHONE
@@ -51,12 +51,17 @@ def tab_order_faults(it, place):
         else [f"{place}: {count} controls, reached {reached}"])
 
 
-def keyboard_faults(it, pending):
-    """The page must be operable by keyboard: tab order, skip link, focus after navigation, search, forms, dialogs."""
+def focus_faults(it, pending):
+    """The tab order of three views."""
     it.sign_in("office")
-    found = tab_order_faults(it, f"#/mutations/{pending}?role=stateAdministrator")
-    found += tab_order_faults(it, "#/units/9?role=stateAdministrator") + tab_order_faults(it,
-        "#/do/register?role=stateAdministrator")
+    places = (f"#/mutations/{pending}", "#/units/9", "#/do/register")
+    return [fault for place in places for fault in tab_order_faults(it, place + "?role=stateAdministrator")]
+
+
+def key_faults(it, pending):
+    """The page must be operable by keyboard: skip link, focus after navigation, search, dialogs, role."""
+    it.sign_in("office")
+    found = []
     it.go("#/start?role=stateAdministrator")
     it.press("Tab", "Enter")
     if it.js("return document.activeElement.id") != "main":
@@ -91,5 +96,5 @@ def run(it, pending):
     for name in CHECKS:
         found = faults(it, [name], pending)
         check(f"{it.name}: accessibility: {name}, on {len(VIEWS)} views", not found, found)
-    found = keyboard_faults(it, pending)
+    found = focus_faults(it, pending) + key_faults(it, pending)
     check(f"{it.name}: keyboard operation", not found, found)

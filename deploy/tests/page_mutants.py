@@ -6,11 +6,16 @@ import page_faults
 
 
 def access(*names):
-    return lambda it, odd, pending: page_access.faults(it, names, pending)
+    return lambda it, odd, pending: page_access.faults(it, names, pending, page_access.VIEWS[1:4])
 
 
-def keyboard(it, odd, pending):
-    return page_access.keyboard_faults(it, pending)
+def focus(it, odd, pending):
+    it.sign_in("office")
+    return page_access.tab_order_faults(it, "#/units/9?role=stateAdministrator")
+
+
+def keys(it, odd, pending):
+    return page_access.key_faults(it, pending)
 
 
 def texts(it, odd, pending):
@@ -26,12 +31,12 @@ MUTANTS = [
         access("targets")),
     ("wide fields", "page/forms.css", ".field .combo { width: 100%;", ".field .combo { width: 40rem;",
         access("reflow")),
-    ("no focus indicator", "page/land.css", "outline: 3px solid #ffbf47", "outline: none", keyboard),
+    ("no focus indicator", "page/land.css", "outline: 3px solid #ffbf47;", "outline: none;", focus),
     ("a weak focus indicator in plans", "page/land.css", "{ stroke: var(--ink); stroke-width: 5; }",
-        "{ stroke: #f2a900; }", keyboard),
-    ("no focus after navigation", "page/land.js", "if (moved) main.focus();", "", keyboard),
+        "{ stroke: #f2a900; }", focus),
+    ("no focus after navigation", "page/land.js", "if (moved) main.focus();", "", keys),
     ("a search without keys", "page/combo.js", 'event.key === "ArrowDown" || event.key === "ArrowUp"',
-        "false", keyboard),
+        "false", keys),
     ("names inserted as HTML", "page/dom.js", "document.createTextNode(String(one))",
      'Object.assign(document.createElement("span"), { innerHTML: String(one) })', texts),
     ("no escapes in texts", "page/dom.js", "text.matchAll(INVISIBLE)", "[]", texts),

@@ -10,9 +10,9 @@ def signed_out(it):
     """Returns whether the browser has no password for the site any more."""
     try:
         it.load(it.root)
-    except Exception:       # Firefox may report the prompt as an error
-        return True
-    return it.count("#main") == 0
+        return it.count("#main") == 0
+    except RuntimeError as error:       # Firefox reports its prompt for a password as an error
+        return "promptUserAndPass" in str(error)
 
 
 def check_sign_out(it):

@@ -46,7 +46,8 @@ def check_citizen(it, odd):
     who = it.text("#who")
     check(f"{it.name}: the caller is displayed", "Ben" in who and "Party 3" in who, who)
     check(f"{it.name}: roles that the party does not hold are marked",
-        "Notary (not yours)" in it.text("#role"))
+        "Notary (not yours)" in
+          it.js("return document.getElementById('role').textContent"))
     it.go("#/units/9?role=citizen")
     check(f"{it.name}: a title sheet is displayed", it.has("Garden", "Owners", "Ben 3", "Bank, \"North\"",
         "50 m²"), it.text())
