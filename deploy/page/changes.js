@@ -69,19 +69,20 @@ export async function searchChanges(number, last, report) {
 
   const lodged = await hints(number, last);
   await steps([last, ...lodged, ...lodged.map((at) => at - 1), 0]);
-  const first = found.size ? Math.min(...found.keys()) : await earliest(sheets, last);
-  if (first !== null) {
+  if (found.size === 0) await steps([last, await shownBefore(sheets, last), 0]);
+  if (found.size) {
+    const first = Math.min(...found.keys());
     const even = Array.from({ length: STEPS + 1 }, (_, k) => first + Math.floor((last - first) * k / STEPS));
     await steps([...even, ...found.keys(), ...[...found.keys()].map((at) => at - 1)]);
   }
   return { found: list(), requests: sheets.seen.size, failed };
 }
 
-// If the unit is hidden at both ends, a moment at which it was shown: looked for in ever finer steps back
-// from the end.
-async function earliest(sheets, last) {
-  for (let span = 1000 * 60; span < last; span *= 2) {
-    if (await sheets.at(last - span)) return Math.max(0, last - span * 2);
+// If the unit is hidden at both ends, a moment at which it was shown: searched for in growing steps back from the end, so that a period
+// that lasted a quarter of the time since is found. 0 if there is none.
+async function shownBefore(sheets, last) {
+  for (let span = 1000; span < last; span *= 1.2) {
+    if (await sheets.at(Math.floor(last - span))) return Math.floor(last - span);
   }
-  return null;
+  return 0;
 }

@@ -57,7 +57,7 @@ export const de = {
   "mutation.transfer": "Übertragung von {share} an {unit} auf {receiver}",
   "mutation.mortgage": "Hypothek über {amount} an {unit} für {creditor}",
   "mutation.discharge": "Löschung einer Hypothek an {unit}",
-  "mutation.subdivision": "Teilung des Flurstücks {parcel} von {unit} in {n} Teile",
+  "mutation.subdivision": "Teilung von {parcel} von {unit} in {n} Teile",
   "mutation.merger": "Vereinigung von {n} Flurstücken in {unit}",
 
   "content.right": "Recht", "content.receiver": "Empfänger", "content.share": "Anteil",

@@ -57,7 +57,7 @@ export const en = {
   "mutation.transfer": "Transfer of {share} of {unit} to {receiver}",
   "mutation.mortgage": "Mortgage of {amount} on {unit} for {creditor}",
   "mutation.discharge": "Discharge of a mortgage on {unit}",
-  "mutation.subdivision": "Subdivision of parcel {parcel} of {unit} into {n} parts",
+  "mutation.subdivision": "Subdivision of {parcel} of {unit} into {n} parts",
   "mutation.merger": "Merger of {n} parcels in {unit}",
 
   "content.right": "Right", "content.receiver": "Receiver", "content.share": "Share",

@@ -117,17 +117,24 @@ async function changeLine(before, after, stamp) {
 
 // ---- without the mirror
 
+// The result of the last search, for navigation between its moments.
+let cached = {};
+
 async function searched(number, sheet, out, progress) {
   opened = number + " " + state.role;
-  const last = await currentTime(number, sheet);
   const show = (found) => {
-    out.replaceChildren(chooser(number, found.map((one) => one.at)),
-      h("ol", { class: "history" }, ...found.map(momentItem)));
+    const list = h("ol", { class: "history" }, ...found.map(momentItem));
+    out.replaceChildren(chooser(number, found.map((one) => one.at)), list);
   };
-  const result = await searchChanges(number, last, (n, found) => {
-    progress.textContent = t("history.searching", { n });
-    show(found);
-  });
+  const key = [number, state.role, state.stamp].join(" ");
+  if (cached.key !== key) {
+    const last = await currentTime(number, sheet);
+    cached = { key, result: await searchChanges(number, last, (n, found) => {
+      progress.textContent = t("history.searching", { n });
+      show(found);
+    }) };
+  }
+  const { result } = cached;
   show(result.found);
   const text = result.found.length ? t("history.found", { n: result.found.length }) : t("history.none");
   progress.textContent = text + " " + t("history.howSearched", { n: result.requests }) +

@@ -15,6 +15,11 @@ const unitName = (n) => (MAY_SEE_UNITS() ? nameOf("units", n) : Promise.resolve(
 const partyName = (n) => (MAY_SEE_UNITS() ? nameOf("parties", n) :
   Promise.resolve(t("one.parties") + " " + n));
 
+async function parcelName(number) {
+  const parcel = await objectOf("parcels", number);
+  return t("one.parcels") + " " + (parcel ? safeString(parcel.label) : number);
+}
+
 // "Transfer of 1/2 of Garden to Ben".
 export async function titleText({ act, content }) {
   const values = { unit: await unitName(content.unit) };
@@ -25,7 +30,7 @@ export async function titleText({ act, content }) {
       creditor: await partyName(content.creditor) });
   }
   if (act === "subdivision") Object.assign(values, { n: content.rest.length + 1,
-    parcel: await nameOf("parcels", content.parcel) });
+    parcel: await parcelName(content.parcel) });
   if (act === "merger") values.n = content.parcels.length;
   return t("mutation." + act, values);
 }

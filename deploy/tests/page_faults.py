@@ -1,4 +1,6 @@
 """Eight faults that the page once had, each with the check that found it."""
+import time
+
 from harness import check
 from page_browser import PHONE, WIDE
 import scenario
@@ -24,6 +26,24 @@ def long_history(it, unit, stamps):
     shown = it.moments()
     return [] if shown == sorted(stamps,
         reverse=True) else [f"{len(shown)} of {len(stamps)} shown, newest {shown[:1]} of {stamps[-1:]}"]
+
+
+def former_owner(it):
+    """A former owner finds the period of its ownership, also without a mirror."""
+    act = scenario.act_sender(it.stack.queue_connection())
+    made = act(OFFICE, "register", {"name": "Sold", "checked": True, "document": "Plan S", "parcels": [
+        {"label": "S", "outline": scenario.rectangle(0, -90000, 9000, 9000)}],
+        "rights": [{"party": 2, "type": "ownership", "share": "1/1"}]})
+    time.sleep(4)
+    lodged = act(NORA, "transfer", {"reference": f"SOLD-{made['number']}", "document": "Deed", "unit": made["number"],
+                                    "right": made["made"][-1], "receiver": 3, "share": "1/1"})
+    sold = act(OFFICE, "approve", {"mutation": lodged["number"]})
+    it.sign_in("anna")
+    it.go(f"#/units/{made['number']}?role=citizen")
+    it.button("Show history")
+    it.settle(lambda: it.has("Found by a search"), 60)
+    shown = it.moments()
+    return [] if {made["stamp"], sold["stamp"]} <= set(shown) else [f"{made['stamp']} and {sold['stamp']} are not in {shown}"]
 
 
 def printed_units(it):
@@ -141,8 +161,9 @@ def lodge_another(stack, data):
 
 
 def run(it, data):
-    """Checks all eight."""
+    """Checks that none of them is back."""
     for name, faults in (
+            ("a former owner finds its period", former_owner(it)),
             ("a bank is not shown an empty history", bank_history(it)),
             ("a history of 61 changes is complete, newest first",
                 long_history(it, data["unit"], data["stamps"])),
