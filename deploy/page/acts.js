@@ -2,11 +2,12 @@
 // are in lodgings.js.
 import { ROLES, objectOf, state } from "./api.js";
 import { errorBox } from "./components.js";
+import { h, newId } from "./dom.js";
 import { checkField, choiceField, entryField, partyField, pickField, rows, shareField, singleParty,
   textField } from "./fields.js";
 import { formView, group } from "./form.js";
 import { LODGINGS } from "./lodgings.js";
-import { outlineField } from "./outlines.js";
+import { outlineField, readFeatures } from "./outlines.js";
 import { readShare, sumOfShares } from "./shares.js";
 import { t } from "./words.js";
 
@@ -100,13 +101,30 @@ function roleAct(held) {
   };
 }
 
+// Reads the parcels of a file of GeoJSON into rows: the label of a feature is its property label or name, or
+// its id.
+function parcelsFile(parcels, make) {
+  const status = h("p", { class: "picked", role: "status" });
+  const file = h("input", { type: "file", accept: ".geojson,.json", id: newId("file"), onchange: async () => {
+    const { features, fault } = readFeatures(await file.files[0].text());
+    status.textContent = fault ? t("fault." + fault) : t("field.parcelsRead", { n: features.length });
+    if (fault) return;
+    const empty = parcels.list.filter((row) => row.fields.every((one) => one.read() === ""));
+    for (const { label, outline } of features) if (parcels.list.length < 64) parcels.append(make(label,
+      outline));
+    for (const row of empty) row.remove.click();
+  } });
+  return h("div", {}, h("p", { class: "tools" }, h("label", { for: file.id }, t("field.parcelsFile")), file),
+    status);
+}
+
 function registerAct() {
   const name = nameField("name", "col.name");
   const documentTitle = documentField();
   const checked = checkField({ key: "checked", label: t("field.checked"), help: t("field.checkedHelp") });
-  const parcel = () => {
-    const fields = [textField({ key: "label", label: t("col.label"), most: 40, size: "short" }),
-      outlineField({ others: () => parcels.list.map((row) => row.fields[1]) })];
+  const parcel = (label = "", outline = "") => {
+    const fields = [textField({ key: "label", label: t("col.label"), most: 40, size: "short", value: label }),
+      outlineField({ others: () => parcels.list.map((row) => row.fields[1]), value: outline })];
     return { fields, read: () => ({ label: fields[0].read(), outline: fields[1].read() }) };
   };
   const parcels = rows({ least: 1, most: 64, make: parcel, addText: t("form.addParcel") });
@@ -133,7 +151,7 @@ function registerAct() {
   return {
     fields: [name, documentTitle, checked,
       group({ key: "parcels", label: t("many.parcels"), fields: fieldsOf(parcels),
-        content: parcels.content }),
+        content: [...parcels.content, parcelsFile(parcels, parcel)] }),
       group({ key: "rights", label: t("field.rights"), fields: fieldsOf(rights), content: rights.content,
         check: checkRights })],
     body: () => ({ name: name.read(), checked: checked.read(), document: documentTitle.read(),
@@ -187,7 +205,7 @@ const BUILD = { enrol, group: groupAct, regroup, grant: roleAct(false), revoke: 
 
 // The view of an act. The path may name an object to start with: do/transfer/unit-9.
 export function actView(name, path) {
-  const title = name in BUILD ? t("act." + name) : t("app.title");
+  const title = Object.hasOwn(BUILD, name) ? t("act." + name) : t("app.title");
   if (!(ACTS_OF[state.role] || []).includes(name)) return [title,
     errorBox({ status: 403, body: { denied: ruleOf(name) } })];
   const prefill = {};

@@ -78,7 +78,8 @@ export async function searchChanges(number, last, report) {
   return { found: list(), requests: sheets.seen.size, failed };
 }
 
-// If the unit is hidden at both ends, a moment at which it was shown: searched for in growing steps back from the end, so that a period
+// If the unit is hidden at both ends, a moment at which it was shown: searched for in growing steps back from
+// the end, so that a period
 // that lasted a quarter of the time since is found. 0 if there is none.
 async function shownBefore(sheets, last) {
   for (let span = 1000; span < last; span *= 1.2) {

@@ -266,6 +266,8 @@ export const de = {
   "field.mandate": "Vollmacht", "field.given": "die ich gegeben habe", "field.held": "die ich habe",
     "field.other": "Anderer Beteiligter",
   "field.outlineHelp": "Well-known Text in Millimetern, GeoJSON in Metern, oder Punkte in Metern wie 0 0; 20 0; 20 15.",
+  "field.parcelsFile": "Flurstücke aus einer GeoJSON-Datei",
+  "field.parcelsRead": { one: "{n} Flurstück gelesen", other: "{n} Flurstücke gelesen" },
   "field.noOutline": "Zeichnen, einfügen oder laden Sie einen Umriss.",
   "field.addParcels": "Flurstück hinzufügen", "field.twoParcels": "Wählen Sie mindestens zwei Flurstücke.",
     "field.stays": "Grundstück, das bleibt",

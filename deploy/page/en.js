@@ -252,6 +252,7 @@ export const en = {
   "field.mandate": "Mandate", "field.given": "that I gave", "field.held": "that I hold",
     "field.other": "Other party",
   "field.outlineHelp": "Well-known text in millimetres, GeoJSON in metres, or points in metres such as 0 0; 20 0; 20 15.",
+  "field.parcelsFile": "Parcels from a file of GeoJSON", "field.parcelsRead": { one: "{n} parcel read", other: "{n} parcels read" },
   "field.noOutline": "Draw, paste or load an outline.",
   "field.addParcels": "Add a parcel", "field.twoParcels": "Choose at least two parcels.",
     "field.stays": "Unit that stays",

@@ -89,7 +89,7 @@ async function save(kind, objects) {
 
 export async function listView(kind, { from = 0, sort = "newest" } = {}) {
   const title = many(kind);
-  const order = sort in SORTS ? sort : "newest";
+  const order = Object.hasOwn(SORTS, sort) ? sort : "newest";
   const page = await pageFrom(kind, from, SORTS[order]);
   if (page.reply) return [title, pastNotice(), errorBox(page.reply)];
   if (page.objects.length === 0) return [title, pastNotice(),

@@ -8,7 +8,7 @@ import { h, newId } from "./dom.js";
 import { field } from "./form.js";
 import { squareMetres } from "./format.js";
 import { ask } from "./mirror.js";
-import { doubledArea, readWkt, ringOf, samePoint, wktOf } from "./shape.js";
+import { doubledArea, readGeoJson, readWkt, ringOf, samePoint, wktOf } from "./shape.js";
 import { readOutlines } from "./parts.js";
 import { t } from "./words.js";
 
@@ -29,7 +29,7 @@ function readAny(text) {
 }
 
 // `others()` returns the other outline fields of the form, whose rings are shown in the drawing.
-export function outlineField({ others = () => [] }) {
+export function outlineField({ others = () => [], value = "" }) {
   const input = h("textarea", { name: "outline", rows: "2", spellcheck: "false",
     placeholder: "POLYGON ((0 0, 20000 0, 20000 15000, 0 15000, 0 0))" });
   const echo = h("p", { class: "picked", role: "status" });
@@ -61,10 +61,31 @@ export function outlineField({ others = () => [] }) {
       update();
     }));
   } }, h("summary", {}, t("draw.draw")), place);
+  input.value = value;
+  update();
   const made = field({ key: "outline", label: t("col.outline"), input, help: t("field.outlineHelp"), read,
     check,
     extra: [echo, h("p", { class: "tools" }, h("label", { for: file.id }, t("draw.file")), file), draw] });
   return { ...made, ring };
+}
+
+// The parcels in a file of GeoJSON: { features: [{ label, outline }] } or { fault }.
+export function readFeatures(text) {
+  let value;
+  try {
+    value = JSON.parse(text);
+  } catch {
+    return { fault: 130 };
+  }
+  const list = value.type === "FeatureCollection" && Array.isArray(value.features) ? value.features : [value];
+  const features = [];
+  for (const one of list) {
+    const { ring, fault } = readGeoJson(one);
+    if (fault) return { fault };
+    const named = one.properties || {};
+    features.push({ label: String(named.label || named.name || one.id || ""), outline: wktOf(ring) });
+  }
+  return { features };
 }
 
 // The neighbours of a parcel: by the mirror those near it, else only the parcel.

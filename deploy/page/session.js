@@ -44,7 +44,8 @@ export async function signOut() {
   state.signedOut = true;
   document.getElementById("main").replaceChildren();
   await forgetPassword();
-  location.replace("signedout.html");
+  tabs.postMessage("out");
+  leave();
 }
 
 async function warn() {
@@ -60,8 +61,30 @@ async function warn() {
   if (answer === "out") signOut();
 }
 
+// The tabs of a browser share a password: they report activity and the end of the session to each other.
+const tabs = new BroadcastChannel("land");
+let reported = 0;
+
+function note() {
+  lastAct = Date.now();
+  if (lastAct - reported < 2000) return;
+  reported = lastAct;
+  tabs.postMessage("active");
+}
+
+function leave() {
+  guard(() => false);
+  state.signedOut = true;
+  document.getElementById("main").replaceChildren();
+  location.replace("signedout.html");
+}
+
 export function watchSession() {
-  const note = () => { lastAct = Date.now(); };
+  tabs.onmessage = ({ data }) => {
+    lastAct = Date.now();
+    if (data === "out") leave();
+    else if (warning) document.querySelector("dialog[open]").close("stay");
+  };
   for (const name of ["keydown", "pointerdown", "wheel"]) window.addEventListener(name, note,
     { passive: true });
   window.addEventListener("beforeunload", (event) => {

@@ -6,6 +6,9 @@ from page_browser import PHONE
 
 
 
+GEOJSON = '{"type": "Polygon", "coordinates": [[[0, -200], [20, -200.0], [20, -180], [0, -180], [0, -200]]]}'
+
+
 class Register:
     """Reads the register without the page, to compare."""
 
@@ -99,7 +102,10 @@ def units(it, register):
     it.send_form()
     check(f"{it.name}: an open outline is reported",
         "The outline does not end at its first point." in it.errors(), it.errors())
-    it.fill("outline", "0 -200; 20 -200; 20 -180; 0 -180")
+    it.fill("outline", GEOJSON)
+    check(f"{it.name}: GeoJSON in metres is read", it.settle(lambda: it.has("400 m²"), 5), it.text()[-400:])
+    check(f"{it.name}: parcels of a file are read", read_file(it), it.text()[-400:])
+    it.fill("outline", "0 -200; 20 -200; 20 -180; 0 -180", 0)
     it.button("Add a parcel")
     it.fill("label", "M2", 1)
     it.click("main .row:nth-of-type(2) summary")
@@ -132,6 +138,24 @@ def units(it, register):
     check(f"{it.name}: lift", sent(it, "Burden lifted"), it.text())
     check(f"{it.name}: the burden has ended", register.object("rrrs", entry["number"]) is None)
     return unit["number"]
+
+
+def read_file(it):
+    """Reads two parcels from a file of GeoJSON into rows, and removes them again."""
+    it.js("""const features = [0, 40].map((x) => ({type: 'Feature', properties: {label: 'F' + x}, geometry: {type: 'Polygon',
+            coordinates: [[[x, 0], [x + 20, 0], [x + 20, 10.5], [x, 10.5], [x, 0]]]}}));
+        const file = new File([JSON.stringify({type: 'FeatureCollection', features})], 'two.geojson');
+        const transfer = new DataTransfer();
+        transfer.items.add(file);
+        const inputs = document.querySelectorAll("[data-key=parcels] input[type=file]");
+        const input = inputs[inputs.length - 1];
+        input.files = transfer.files;
+        input.dispatchEvent(new Event('change'));""")
+    values = "return [...document.querySelectorAll('[data-key=parcels] input[name=label]')].map((e) => e.value).join()"
+    found = it.until(lambda: it.js(values) == "M1,F0,F40", 10) and it.has("2 parcels read")
+    for _ in range(2):
+        it.js("[...document.querySelectorAll('[data-key=parcels] .row > button')].pop().click()")
+    return found
 
 
 def draw_next_to_first(it):
