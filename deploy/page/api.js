@@ -100,8 +100,7 @@ export function objectOf(kind, number, at = state.at) {
 export const ROLES = ["stateAdministrator", "notary", "bank", "certifiedSurveyor", "conveyancer", "citizen"];
 
 // Finds out which party the caller is and which roles it holds. The reply to any request names the party; in
-// a role that it holds,
-// the register shows the party its roles.
+// a role that it holds, the register shows the party its roles.
 export async function signIn() {
   if (state.me === null) await send("parties/1", undefined, { role: "citizen" });
   if (state.me === null) return;

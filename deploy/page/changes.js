@@ -37,9 +37,8 @@ async function hints(number, last) {
 }
 
 // Searches from the newest change back to the first: { found: [{ at, before, after }] newest first, requests,
-// failed }. An interval whose
-// two ends are equal has no change, or changes that were undone; so each interval is also searched at steps
-// in it.
+// failed }. An interval whose two ends are equal has no change, or changes that were undone; so each interval
+// is also searched at steps in it.
 export async function searchChanges(number, last, report) {
   const found = new Map();
   const list = () => [...found.values()].sort((a, b) => b.at - a.at);
@@ -79,8 +78,7 @@ export async function searchChanges(number, last, report) {
 }
 
 // If the unit is hidden at both ends, a moment at which it was shown: searched for in growing steps back from
-// the end, so that a period
-// that lasted a quarter of the time since is found. 0 if there is none.
+// the end, so that a period that lasted a quarter of the time since is found. 0 if there is none.
 async function shownBefore(sheets, last) {
   for (let span = 1000; span < last; span *= 1.2) {
     if (await sheets.at(Math.floor(last - span))) return Math.floor(last - span);

@@ -3,6 +3,7 @@ export const de = {
   "language.own": "Deutsch",
   "app.title": "Grundbuch",
   "app.skip": "Zum Inhalt",
+  "app.menu": "Menü",
   "app.role": "Rolle",
   "app.asOf": "Stand",
   "app.now": "Jetzt",

@@ -31,9 +31,8 @@ function fill(node, attributes, children) {
 }
 
 // Characters that are invisible, change the direction of text, or separate lines. In a name they could
-// imitate another name or a line
-// of a title sheet. Line feeds are allowed: they come from the title sheet itself, since names cannot contain
-// them.
+// imitate another name or a line of a title sheet. Line feeds are allowed: they come from the title sheet
+// itself, since names cannot contain them.
 const INVISIBLE = /(?!\n)[\p{Cc}\p{Cf}\p{Zl}\p{Zp}\p{Default_Ignorable_Code_Point}\u2800]/gu;
 
 const codePoint = (character) => "[U+" + character.codePointAt(0).toString(16).toUpperCase().padStart(4,

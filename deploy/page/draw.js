@@ -1,6 +1,5 @@
 // A drawing board: shows outlines, and takes points. A point snaps to the nearest corner, else to a whole-
-// millimetre point of an edge, else
-// to whole millimetres.
+// millimetre point of an edge, else to whole millimetres.
 import { h, safeString } from "./dom.js";
 import { snap } from "./ground.js";
 import { labelPosition, viewButtons } from "./plan.js";
@@ -24,9 +23,8 @@ export function readPoints(text) {
 }
 
 // A board: { node, draw }. `draw({ shapes, line, marks })` shows rings ({ ring, label, mark }), the line
-// drawn so far, and segments that are
-// wrong. `onpoint(point, on)` is called for each new point. `box`: the extent in millimetres [west, south,
-// east, north].
+// drawn so far, and segments that are wrong. `onpoint(point, on)` is called for each new point. `box`: the
+// extent in millimetres [west, south, east, north].
 export function board({ box, onpoint, label }) {
   const [west, south, east, north] = box;
   const scale = SIZE / Math.max(east - west, north - south, 1);

@@ -4,6 +4,7 @@ export const en = {
   "language.own": "English",
   "app.title": "Land register",
   "app.skip": "Skip to the content",
+  "app.menu": "Menu",
   "app.role": "Role",
   "app.asOf": "As of",
   "app.now": "Now",

@@ -1,6 +1,5 @@
 // Finds objects by a part of a name, by number, or by the beginning of a document's title: with the mirror,
-// else in the objects that the
-// register lists. The text that is searched stays out of the address bar.
+// else in the objects that the register lists. The text that is searched stays out of the address bar.
 import { numbersOf, objectOf, state } from "./api.js";
 import { ask, hasMirror, pageOf } from "./mirror.js";
 

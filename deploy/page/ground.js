@@ -1,6 +1,5 @@
 // Whether two lists of outlines cover the same ground, by the rule of docs/OUTLINES.md; and the two
-// operations on parcels that keep it:
-// cutting one along a line, and joining several.
+// operations on parcels that keep it: cutting one along a line, and joining several.
 import { contains, isInside, ringOf, samePoint } from "./shape.js";
 
 const edgesOf = (rings) => rings.flatMap((ring) => ring.map((a, n) => [a, ring[(n + 1) % ring.length]]));

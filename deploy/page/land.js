@@ -74,12 +74,19 @@ async function render(moved) {
   const [title, ...view] = await viewOf(way, options).catch(failedView);
   if (rendering !== latest) return;
   document.title = safeString(title) + " - " + t("app.title");
+  openMenu(false);
   main.replaceChildren(h("h1", {}, safeText(title)), takeNotice(),
     ...view.filter((one) => one !== "" && one));
   main.removeAttribute("aria-busy");
   status.textContent = safeString(title);
   if (moved) main.focus();
   showCaller();
+}
+
+// On narrow screens the role, the time and the parts of the register are behind a button.
+function openMenu(open) {
+  by("menu").setAttribute("aria-expanded", String(open));
+  document.querySelector(".bar").classList.toggle("open", open);
 }
 
 // Shows the caller's party and the roles that it holds.
@@ -159,6 +166,7 @@ atField.addEventListener("change", applyTime);
 by("sign-out").addEventListener("click", async () => {
   if (await confirmLeave()) signOut();
 });
+by("menu").addEventListener("click", () => openMenu(by("menu").getAttribute("aria-expanded") === "false"));
 by("skip").addEventListener("click", (event) => {
   event.preventDefault();     // a navigation to its URL would be taken for a view
   main.focus();

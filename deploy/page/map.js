@@ -1,6 +1,6 @@
 // The map of all parcels that the caller sees: a canvas with pan, wheel, pinch and keys, labels, a scale bar
-// and north. A click leads to the
-// unit. With the mirror it loads vector tiles; else the parcels that the register lists.
+// and north. A click leads to the unit. With the mirror it loads vector tiles; else the parcels that the
+// register lists.
 import { objectOf, state } from "./api.js";
 import { button, hrefOf, lead, pastNotice } from "./components.js";
 import { h, safeString, safeText } from "./dom.js";
@@ -12,6 +12,8 @@ import { t } from "./words.js";
 
 const LABEL_PIXELS = 26;        // a parcel narrower than this has no label
 const LISTED = 40;
+const RETRY = 3000;
+const BAR = 50;                 // pixels that the scale bar takes at the bottom
 const COLOURS = { fill: "#d8eadf", here: "#a9d6bd", line: "#1d4e3a", ink: "#1b2420", paper: "#fbfdfc" };
 
 // The last extent, so that the map is where it was when the reader comes back.
@@ -40,10 +42,12 @@ function createMap(source, found) {
   const toPlane = (px, py) => [(px - size()[0] / 2) / view.k + view.x,
     view.y - (py - size()[1] / 2) / view.k];
 
+  // Shows an extent above the scale bar.
   function fit([west, south, east, north]) {
     const [wide, high] = size();
-    const k = Math.min(wide / Math.max(east - west, 1), high / Math.max(north - south, 1)) * 0.9;
-    view = { x: (west + east) / 2, y: (south + north) / 2, k };
+    const room = Math.max(high - 2 * BAR, high / 2);
+    const k = Math.min(wide / Math.max(east - west, 1), room / Math.max(north - south, 1)) * 0.95;
+    view = { x: (west + east) / 2, y: (south + north) / 2 - BAR / 2 / k, k };
     schedule();
   }
 
@@ -71,6 +75,7 @@ function createMap(source, found) {
     if (!canvas.isConnected) return;
     schedule0();
     showList();
+    if (source.missing) timer = setTimeout(settle, RETRY);      // a tile was not answered in time
   }
   const schedule0 = () => { if (!frame) frame = requestAnimationFrame(draw); };
 
@@ -215,7 +220,8 @@ function createMap(source, found) {
         p.box[3] >= south) seen.set(p.number, p);
     }
     const all = [...seen.values()];
-    status.textContent = t("map.count", { n: all.length }) + (source.partial ? " " + t("map.partial") : "");
+    status.textContent = t("map.count", { n: all.length }) +
+      (source.partial || source.missing ? " " + t("map.partial") : "");
     list.replaceChildren(...all.slice(0, LISTED).map((p) => h("li", {},
       h("a", { href: hrefOfParcel(p) }, t("one.parcels") + " ", safeText(p.label),
       h("span", { class: "num" }, "\u00a0" + p.number)))), all.length > LISTED ? h("li", {}, t("map.more")) :

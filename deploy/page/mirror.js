@@ -3,6 +3,8 @@ import { send, state } from "./api.js";
 import { settings } from "./settings.js";
 
 const RETRY_AFTER = 30000;
+// Replies of a mirror that works, but could not answer this request.
+const PASSING = ["behind", "busy", "timeout"];
 let probe = null;
 let lostAt = 0;
 
@@ -22,8 +24,7 @@ export function hasMirror() {
 }
 
 // Requests a path of the mirror. Returns the reply (200, 400 or 403), or null if there is no mirror or it
-// cannot answer.
-// After an act it waits for the state with the act.
+// cannot answer. After an act it waits for the state with the act.
 export async function ask(path, parameters = {}, { at = state.at, binary = false } = {}) {
   if (!await hasMirror()) return null;
   const words = new URLSearchParams(parameters);
@@ -32,7 +33,7 @@ export async function ask(path, parameters = {}, { at = state.at, binary = false
   const query = String(words);
   const reply = await send(settings.mirror + "/" + path + (query ? "?" + query : ""), undefined, { binary });
   if (reply.status === 200 || (reply.body && (reply.body.denied || reply.body.fault))) return reply;
-  if (!(reply.body && reply.body.mirror === "behind")) {
+  if (!(reply.body && PASSING.includes(reply.body.mirror))) {
     lostAt = Date.now();
     probe = Promise.resolve(false);
   }

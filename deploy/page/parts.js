@@ -1,6 +1,6 @@
 // The parts of a subdivision: drawn over the old parcel by cutting it along lines, or pasted. Each part has a
-// label, and stays in the unit
-// or becomes a new one. The match with the old parcel is checked before lodging, by the register's rule.
+// label, and stays in the unit or becomes a new one. The match with the old parcel is checked before lodging,
+// by the register's rule.
 import { board, boxOf, metresText, pointsInput, readPoints } from "./draw.js";
 import { button, table } from "./components.js";
 import { h, newId, safeString } from "./dom.js";

@@ -1,6 +1,5 @@
 // Signing out, and the end of a session without activity. The browser keeps a password until it gets another
-// one for the same site: signing
-// out gives it that of a user who may do nothing.
+// one for the same site: signing out gives it that of a user who may do nothing.
 import { state } from "./api.js";
 import { ask } from "./dialogs.js";
 import { h } from "./dom.js";

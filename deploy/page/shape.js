@@ -1,6 +1,5 @@
 // Outlines in whole millimetres: read and checked as the register does (docs/OUTLINES.md). Coordinates are
-// whole numbers below 2^53;
-// products of differences are computed as BigInt, so every test is exact.
+// whole numbers below 2^53; products of differences are computed as BigInt, so every test is exact.
 
 const MAX_COORDINATE = 10000000000;
 const MAX_POINTS = 201;

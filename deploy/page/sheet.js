@@ -45,8 +45,8 @@ function parseEntry(line) {
 }
 
 // The entries of a sheet with their contents from the register: { number, class, party, share .. , name }.
-// The text of a burden cannot be
-// cut from its line for certain, because the name in front of it may contain ": ".
+// The text of a burden cannot be cut from its line for certain, because the name in front of it may contain
+// ": ".
 export function entriesOf(sheet, at = state.at) {
   return Promise.all(sheet.entries.map(async (e) => {
     if (e.name !== undefined) return e;

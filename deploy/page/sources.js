@@ -1,6 +1,6 @@
 // Where the map's parcels come from. A source has `extent` in metres, `load(box, scale, drawn)`, and
-// `sheets(box, scale)`: lists of parcels
-// ({ number, unit, label, rings, box }), each with the box of its tile, or null.
+// `sheets(box, scale)`: lists of parcels ({ number, unit, label, rings, box }), each with the box of its
+// tile, or null.
 import { numbersOf, objectOf } from "./api.js";
 import { ask, pageOf } from "./mirror.js";
 import { settings } from "./settings.js";
@@ -89,6 +89,7 @@ export async function tileSource() {
     const reply = await ask(`map/tiles/${z}/${x}/${y}`, {}, { binary: true });
     if (reply === null || reply.status !== 200) {
       tiles.delete(key);
+      source.missing = true;
       return [];
     }
     const parcels = place(reply.bytes, z, x, y);
@@ -131,14 +132,16 @@ export async function tileSource() {
     return [];
   }
 
-  return {
-    extent: extentOf(first), typical: typicalOf(first), note: "", partial: false,
+  const source = {
+    extent: extentOf(first), typical: typicalOf(first), note: "", partial: false, missing: false,
     load: async (box, scale, drawn) => {
+      source.missing = false;
       const wanted = cover(box, zoomOf(scale));
       if (tiles.size > KEPT) tiles.clear();
       await Promise.all(wanted.map((one) => loadTile(one, box, drawn)));
     },
     sheets: (box, scale) => cover(box, zoomOf(scale)).flatMap(sheetsOf),
   };
+  return source;
 }
 

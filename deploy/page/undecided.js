@@ -10,8 +10,7 @@ const MOST = 1000;
 const decided = new Set();
 
 // Calls `take(mutation)` for each, and `progress(read, total)`. Returns the list. With the mirror this is one
-// request; else every
-// mutation that was not seen decided before is requested.
+// request; else every mutation that was not seen decided before is requested.
 export async function undecided(take = () => null, progress = () => null) {
   const reply = await ask("undecided", { limit: MOST });
   if (reply && reply.status === 200 && reply.body.undecided.length < MOST) {

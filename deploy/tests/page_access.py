@@ -86,6 +86,12 @@ def key_faults(it, pending):
     it.press("Escape")
     if not it.until(lambda: not it.count("dialog"), 5) or "waiting" not in it.text():
         found.append("Escape does not close the dialog, or decides")
+    it.resize(PHONE, 740)
+    it.js("document.getElementById('menu').focus()")
+    it.press("Enter")
+    if not it.until(lambda: it.js("return document.getElementById('role').checkVisibility()"), 5):
+        found.append("the menu of a narrow screen does not open by keyboard")
+    it.resize(WIDE)
     it.js("const e = document.getElementById('role'); e.value = 'citizen'; e.dispatchEvent(new Event('change'))")
     if not it.settle(lambda: "role=citizen" in it.js("return location.href")):
         found.append("changing the role does not navigate")

@@ -111,6 +111,7 @@ def text_faults(it, odd):
     it.go(f"#/units/{odd}?role=citizen")
     it.button("Exact text of the register")
     found = [] if EVIL in it.text() else ["the name is not displayed verbatim"]
+    it.picture("names")
     found += ["a name created an element"] if it.count("main img, main script, main b") else []
     title = it.js("return document.title")
     found += ["a name changed the title"] if "owned" == title else []
