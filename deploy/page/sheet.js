@@ -82,7 +82,7 @@ export function detailOf(e) {
 function entryRow(e) {
   const kind = e.class === "ownership" ? "" : e.class === "mortgage" ? t("sheet.rank", { n: e.rank }) :
     t("class." + e.class);
-  return h("li", {}, h("span", { class: "holder" }, named("parties", e.party, e.name)),
+  return h("li", { class: e.share || e.amount ? "" : "worded" }, h("span", { class: "holder" }, named("parties", e.party, e.name)),
     h("span", { class: "detail" }, detailOf(e)), h("span", { class: "kind" }, kind),
     h("a", { class: "entry-number no-print", href: hrefOf("rrrs", e.number) },
       t("sheet.entry", { n: String(e.number) })));

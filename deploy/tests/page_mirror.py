@@ -159,6 +159,7 @@ def check_loss(it):
     """If the mirror is lost, the page works with the register alone."""
     it.sign_in("office")
     it.go("#/units?role=stateAdministrator")
+    it.stack.lost = True
     it.stack.mirror.stop()
     it.button("Parties", "#tabs")
     check(f"{it.name}: lists work without the mirror", it.settle(lambda: it.has("Anna", "Parties 1 to"), 30),

@@ -48,24 +48,25 @@ def mirrored_stack():
         stack.start()
         server.install("page")
         feed = mirror_cluster.start_feed(folder, server, "page", stack.file(), "--audit-every", 600)
-        ends.callback(end_process, feed)
+        stack.lost = False          # whether a test stops PostgreSQL, so that the feed exits
+        ends.callback(end_process, stack, feed)
         words = [mirror_cluster.MIRROR, "serve", "--socket", socket, "--prefix", "/mirror",
             server.dsn("land_gateway", "page")]
         reader = subprocess.Popen(words, preexec_fn=mirror_cluster.user("nobody"), cwd="/",
             stderr=subprocess.PIPE, text=True)
-        ends.callback(end_process, reader)
+        ends.callback(end_process, stack, reader)
         stack.wait_for(lambda: os.path.exists(socket) or reader.poll() is not None,
             "the read gateway does not start")
         stack.mirror = server
         yield stack
 
 
-def end_process(process):
+def end_process(stack, process):
     """Ends a process, and reports its messages if it had ended before."""
     early = process.poll() is not None
     process.kill()
     printed = process.communicate()[1]
-    if early:
+    if early and not stack.lost:
         note("ended early:", printed[-300:])
 
 
