@@ -2,7 +2,7 @@
 import { state, objectOf } from "./api.js";
 import { h, newId, safeString, safeText } from "./dom.js";
 import { count, money } from "./format.js";
-import { explain } from "./messages.js";
+import { explain } from "./explain.js";
 import { when } from "./moments.js";
 import { parts, t } from "./words.js";
 

@@ -8,7 +8,9 @@ import { readWkt } from "./shape.js";
 import { parcelsOf } from "./tiles.js";
 import { t } from "./words.js";
 
-const FULL = 20000;         // a tile has at most so many parcels; then its four parts are loaded
+// The mirror reads at most 20,000 parcels for a tile, some of them only near it. Of a tile with half as many
+// the four parts are loaded.
+const FULL = 10000;
 const TILE_PIXELS = 384;
 const DEEPEST = 20;
 const MOST_READ = 2000;

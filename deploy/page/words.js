@@ -1,5 +1,5 @@
 // The strings of the page in the reader's language. Each language has one file with the same keys.
-import { en } from "./en.js";
+import { en } from "./messages.js";
 import { de } from "./de.js";
 
 const ALL = { en, de };

@@ -7,7 +7,7 @@ from harness import check
 from stack import DEPLOY
 
 PAGE = os.path.join(DEPLOY, "page")
-LANGUAGES = ("en", "de")
+LANGUAGES = {"en": "messages.js", "de": "de.js"}
 REGISTERS = {"Shares checked"}      # words of the register's own texts
 
 
@@ -17,11 +17,16 @@ def source(name):
 
 
 def strings(language):
-    """Reads a file of strings: an object of texts, and of pairs of texts."""
-    text = re.sub(r"^//.*$", "", source(language + ".js"), flags=re.M)
-    text = text[text.index("= {") + 2:text.rindex("}") + 1]
-    text = re.sub(r"\b(one|other): ", r'"\1": ', text)
-    return json.loads(re.sub(r",(\s*})", r"\1", text))
+    """Reads a file of strings: an object of texts and of pairs of texts, and tables of texts by number."""
+    text = re.sub(r"^//.*$", "", source(LANGUAGES[language]), flags=re.M)
+    found = {}
+    for table, kind in re.findall(r'^  \.\.\.numbered\("(\w+)", (\w+)\)', text, flags=re.M):
+        block = re.search(rf"export const {kind} = \{{(.*?)\n\}};", text, re.S)[1]
+        found.update({f"{table}.{number}": words for number, words in re.findall(r'(\d+): "([^"]*)"', block)})
+    block = re.search(rf"export const {language} = (\{{.*\}});", text, re.S)[1]
+    block = re.sub(r"^  \.\.\..*$", "", block, flags=re.M)
+    block = re.sub(r"\b(one|other): ", r'"\1": ', block)
+    return {**json.loads(re.sub(r",(\s*})", r"\1", block)), **found}
 
 
 def places(value):
@@ -29,13 +34,13 @@ def places(value):
 
 
 def modules():
-    return [name for name in sorted(os.listdir(PAGE)) if name.endswith(".js") and name[:-3] not in LANGUAGES]
+    return [name for name in sorted(os.listdir(PAGE)) if name.endswith(".js") and name not in LANGUAGES.values()]
 
 
 def run():
     first, *others = (strings(one) for one in LANGUAGES)
-    for language, other in zip(LANGUAGES[1:], others):
-        check(f"the keys of {language} are those of {LANGUAGES[0]}", set(first) == set(other),
+    for language, other in zip([*LANGUAGES][1:], others):
+        check(f"the keys of {language} are those of {[*LANGUAGES][0]}", set(first) == set(other),
             set(first) ^ set(other))
         different = [key for key in first if key in other and places(first[key]) != places(other[key])]
         check(f"the places of {language} are the same", not different, different)
