@@ -13,6 +13,8 @@ import { t } from "./words.js";
 const LABEL_PIXELS = 26;        // a parcel narrower than this has no label
 const LISTED = 40;
 const RETRY = 3000;
+const MANY = 4000;              // more parcels than this are not drawn again for each movement
+const BATCH = 100;              // parcels that are filled together: a path of many is slow
 const BAR = 50;                 // pixels that the scale bar takes at the bottom
 const COLOURS = { fill: "#d8eadf", here: "#a9d6bd", line: "#1d4e3a", ink: "#1b2420", paper: "#fbfdfc" };
 
@@ -36,6 +38,9 @@ function createMap(source, found) {
   let view = null;            // { x, y, k }: the centre in metres, and pixels a metre
   let frame = 0;
   let timer = 0;
+  let moving = false;
+  let picture = null;         // the view and the number of parcels of the picture that is kept
+  const keep = document.createElement("canvas");
 
   const size = () => [canvas.clientWidth, canvas.clientHeight];
   const toScreen = (x, y) => [(x - view.x) * view.k + size()[0] / 2, (view.y - y) * view.k + size()[1] / 2];
@@ -61,6 +66,7 @@ function createMap(source, found) {
   }
 
   function schedule() {
+    moving = true;
     if (!frame) frame = requestAnimationFrame(draw);
     clearTimeout(timer);
     timer = setTimeout(settle, 250);
@@ -70,6 +76,7 @@ function createMap(source, found) {
   async function settle() {
     if (!canvas.isConnected || !view) return;
     remembered = { view: { ...view }, role: state.role };
+    moving = false;
     status.textContent = t("loading");
     await source.load(boxOfView(), view.k, schedule0);
     if (!canvas.isConnected) return;
@@ -91,14 +98,32 @@ function createMap(source, found) {
     context.setTransform(ratio, 0, 0, ratio, 0, 0);
     context.fillStyle = COLOURS.paper;
     context.fillRect(0, 0, wide, high);
-    const labels = new Map();
-    for (const sheet of source.sheets(boxOfView(), view.k)) drawSheet(sheet, labels);
-    for (const label of labels.values()) drawLabel(label);
+    if (moving && picture && picture.count > MANY) drawPicture(wide, high);
+    else drawParcels();
     if (found) outline(readWkt(found.outline).ring.map((p) => [p[0] / 1000, p[1] / 1000]), 4, COLOURS.ink);
     drawScale(wide, high);
   }
 
-  // A tile, or all parcels of a list. A tile is clipped: its parcels continue in its neighbours.
+  function drawParcels() {
+    const labels = new Map();
+    const count = source.sheets(boxOfView(), view.k).reduce((sum, sheet) => sum + drawSheet(sheet, labels),
+      0);
+    for (const label of labels.values()) drawLabel(label);
+    keep.width = canvas.width;
+    keep.height = canvas.height;
+    keep.getContext("2d").drawImage(canvas, 0, 0);
+    picture = { view: { ...view }, count };
+  }
+
+  // While a map of many parcels moves, its last picture moves, and is drawn again at the end.
+  function drawPicture(wide, high) {
+    const k = view.k / picture.view.k;
+    const [x, y] = toScreen(picture.view.x, picture.view.y);
+    context.drawImage(keep, x - wide * k / 2, y - high * k / 2, wide * k, high * k);
+  }
+
+  // Draws a tile, or all parcels of a list, and returns their number. A tile is clipped: its parcels continue
+  // in its neighbours.
   function drawSheet({ parcels, box }, labels) {
     context.save();
     if (box) {
@@ -111,21 +136,24 @@ function createMap(source, found) {
     const [west, south, east, north] = boxOfView();
     const shown = parcels.filter((p) => p.box[0] <= east && p.box[2] >= west && p.box[1] <= north &&
       p.box[3] >= south);
-    context.beginPath();
-    for (const p of shown) path(p);
     context.fillStyle = COLOURS.fill;
-    context.fill("evenodd");
     context.strokeStyle = COLOURS.line;
     context.lineWidth = view.k * source.typical < 6 ? 0.5 : 1.25;
-    context.stroke();
+    for (let n = 0; n < shown.length; n += BATCH) {
+      context.beginPath();
+      for (const p of shown.slice(n, n + BATCH)) path(p);
+      context.fill("evenodd");
+      context.stroke();
+    }
     context.restore();
-    if (view.k * source.typical < LABEL_PIXELS / 2) return;
+    if (view.k * source.typical < LABEL_PIXELS / 2) return shown.length;
     for (const { number, label, box: own } of shown) {
       const known = labels.get(number);
       const least = (n) => Math.min(known.box[n], own[n]);
       const most = (n) => Math.max(known.box[n], own[n]);
       labels.set(number, { label, box: known ? [least(0), least(1), most(2), most(3)] : own });
     }
+    return shown.length;
   }
 
   function path({ rings }) {
