@@ -241,6 +241,7 @@ export const de = {
   "field.amountHelp": "In Einheiten der Währung, nicht in Cent.", "field.number": "Nummer",
   "field.pick.parties": "Name oder Nummer", "field.pick.units": "Name oder Nummer",
   "field.pick.parcels": "Bezeichnung oder Nummer",
+  "field.several": "Mehrere haben diesen Namen: Wählen Sie aus der Liste, oder geben Sie die Nummer ein.",
   "field.noSuch.parties": "Kein Beteiligter mit dieser Nummer oder diesem Namen.",
   "field.noSuch.units": "Kein Grundstück mit dieser Nummer oder diesem Namen.",
   "field.noSuch.parcels": "Kein Flurstück mit dieser Nummer oder Bezeichnung.",

@@ -73,6 +73,7 @@ export function moneyField() {
 export function pickField({ key, label, kind, help, value = null, allow = async () => "", onpick = () => null,
   filter }) {
   let item = null;
+  let several = false;
   const note = h("p", { class: "picked", role: "status" });
   const box = combo({ kinds: [kind], take: (found) => set(found), filter, more: { name: key },
     placeholder: t("field.pick." + kind) });
@@ -97,17 +98,20 @@ export function pickField({ key, label, kind, help, value = null, allow = async 
     }
     const same = (await find(words,
       [kind])).found.filter((one) => one.text.toLowerCase() === words.toLowerCase());
+    several = same.length > 1;
     if (same.length === 1) set(same[0]);
   }
 
   box.field.addEventListener("input", () => {
     item = null;
+    several = false;
     note.replaceChildren();
     onpick(null);
   });
   box.field.addEventListener("change", resolve);
   const check = async () => {
     await resolve();
+    if (!item && several) return t("field.several");
     if (!item) return box.field.value.trim() === "" ? t("field.empty") : t("field.noSuch." + kind);
     return allow(item);
   };

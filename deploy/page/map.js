@@ -138,7 +138,8 @@ function createMap(source, found) {
       p.box[3] >= south);
     context.fillStyle = COLOURS.fill;
     context.strokeStyle = COLOURS.line;
-    context.lineWidth = view.k * source.typical < 6 ? 0.5 : 1.25;
+    const pixels = view.k * source.typical;
+    context.lineWidth = pixels < 3 ? 0.15 : pixels < 6 ? 0.5 : 1.25;
     for (let n = 0; n < shown.length; n += BATCH) {
       context.beginPath();
       for (const p of shown.slice(n, n + BATCH)) path(p);

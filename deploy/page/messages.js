@@ -315,6 +315,7 @@ export const en = {
   "field.amountHelp": "In units of the currency, not in cents.", "field.number": "Number",
   "field.pick.parties": "Name or number", "field.pick.units": "Name or number",
   "field.pick.parcels": "Label or number",
+  "field.several": "Several have this name: choose one of the list, or enter the number.",
   "field.noSuch.parties": "No party with this number or name.",
   "field.noSuch.units": "No unit with this number or name.",
   "field.noSuch.parcels": "No parcel with this number or label.",

@@ -128,7 +128,7 @@ def narrow_sheet(it):
     return found
 
 
-def prepare(stack, newer=105, burdens=60):
+def prepare(stack, newer=101, burdens=52):
     """Makes the objects of these checks: a unit with many changes, and a request with many newer ones that are decided."""
     act = scenario.act_sender(stack.queue_connection())
     made = act(OFFICE, "register", {"name": "Long meadow", "checked": True, "document": "Plan L", "parcels": [
@@ -165,7 +165,7 @@ def run(it, data):
     for name, faults in (
             ("a former owner finds its period", former_owner(it)),
             ("a bank is not shown an empty history", bank_history(it)),
-            ("a history of 61 changes is complete, newest first",
+            ("a history of 53 changes is complete, newest first",
                 long_history(it, data["unit"], data["stamps"])),
             ("the printed sheet has units of money and area", printed_units(it)),
             ("a bank's total counts a loan once", loans_once(it)),
