@@ -1,9 +1,10 @@
 // Creates all elements of the page. Texts from the register become text nodes, never HTML.
 
 const SVG = "http://www.w3.org/2000/svg";
-const SVG_ELEMENTS = new Set(["svg", "path", "text", "title", "g"]);
+const SVG_ELEMENTS = new Set(["svg", "path", "text", "title", "g", "circle"]);
 
-// Creates an element. Attribute values are the page's own; children are nodes or texts. A key that starts with "on" adds an event listener.
+// Creates an element. Attribute values are the page's own; children are nodes or texts. A key that starts
+// with "on" adds a listener.
 export function h(name, attributes, ...children) {
   const node = SVG_ELEMENTS.has(name) ? document.createElementNS(SVG, name) : document.createElement(name);
   fill(node, attributes, children);
@@ -24,17 +25,21 @@ function fill(node, attributes, children) {
     else if (value !== undefined && value !== false && value !== "") node.setAttribute(key, value);
   }
   for (const one of children.flat(Infinity)) {
-    if (one !== "" && one !== null && one !== undefined) node.append(one instanceof Node ? one : document.createTextNode(String(one)));
+    if (one !== "" && one !== null && one !== undefined) node.append(one instanceof Node ? one :
+      document.createTextNode(String(one)));
   }
 }
 
-// Characters that are invisible, change the direction of text, or separate lines. In a name they could imitate another name or a line of a
-// title sheet. Line feeds are allowed: they come from the title sheet itself, since names cannot contain them.
+// Characters that are invisible, change the direction of text, or separate lines. In a name they could
+// imitate another name or a line of a title sheet. Line feeds are allowed: they come from the title sheet
+// itself, since names cannot contain them.
 const INVISIBLE = /(?!\n)[\p{Cc}\p{Cf}\p{Zl}\p{Zp}\p{Default_Ignorable_Code_Point}\u2800]/gu;
 
-const codePoint = (character) => "[U+" + character.codePointAt(0).toString(16).toUpperCase().padStart(4, "0") + "]";
+const codePoint = (character) => "[U+" + character.codePointAt(0).toString(16).toUpperCase().padStart(4,
+  "0") + "]";
 
-// A text of the register with invisible characters escaped, for places without elements: titles, ARIA labels, options.
+// A text of the register with invisible characters escaped, for places without elements: titles, ARIA labels,
+// options.
 export const safeString = (text) => text.replace(INVISIBLE, codePoint);
 
 // The same as an element, in which the escapes are highlighted.
@@ -48,3 +53,7 @@ export function safeText(text) {
   parts.push(text.slice(position));
   return h("bdi", {}, ...parts);
 }
+
+let counter = 0;
+// An id that no other element of the page has.
+export const newId = (prefix) => prefix + "-" + (counter += 1);

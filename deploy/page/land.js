@@ -1,106 +1,182 @@
-// The entry point of the page: routing, role and time. The page shows the register's replies and enforces no rules of its own.
-import { get, objectOf, state } from "./api.js";
+// The entry point of the page: routing, role, time, language. The page shows the register's replies and
+// enforces no rules of its own.
+import { ROLES, firstRole, forget, signIn, state } from "./api.js";
+import { actView } from "./acts.js";
+import { KINDS, errorBox, hrefOf, many, queryOf } from "./components.js";
 import { h, safeString, safeText } from "./dom.js";
-import { lodgeView, mayLodge } from "./lodge.js";
-import { momentFromUrl, parseMoment, formatMoment } from "./moments.js";
-import { queryOf, hrefOf, errorBox } from "./components.js";
+import { listView } from "./lists.js";
+import { mapView } from "./map.js";
+import { momentFromUrl, momentOfPicker, pickerValue, zoneName, formatMoment } from "./moments.js";
+import { objectView, takeNotice } from "./objects.js";
+import { setUpSearch } from "./search.js";
+import { confirmLeave, hasUnsaved, signOut, watchSession } from "./session.js";
+import { startView, titleOf } from "./start.js";
 import { unitView } from "./unit.js";
-import { STARTS, listView, objectView, startView } from "./views.js";
-import { KINDS, ROLES } from "./messages.js";
+import { LANGUAGES, language, languageName, setLanguage, t } from "./words.js";
 
-const main = document.getElementById("main");
-const status = document.getElementById("status");
-const roleField = document.getElementById("role");
-const atField = document.getElementById("at");
-const timeError = document.getElementById("at-wrong");
+const by = (id) => document.getElementById(id);
+const main = by("main");
+const status = by("status");
+const roleField = by("role");
+const atField = by("at");
 let latest = 0;
+let shownHash = null;
 
-// Reads the path and the list index from the URL, and sets the role and the time.
+// Reads the path and the place in a list from the URL, and sets the role and the time.
 function parseLocation() {
   const [path, query] = location.hash.replace(/^#\/?/, "").split("?");
   const parameters = new URLSearchParams(query || "");
-  if (parameters.get("role") in ROLES) state.role = parameters.get("role");
+  const role = parameters.get("role");
+  state.role = ROLES.includes(role) ? role : firstRole();
   state.at = momentFromUrl(parameters.get("at"));
-  return { way: path ? path.split("/") : ["start"], from: Number(parameters.get("from")) || 0 };
+  const from = Number(parameters.get("from"));
+  return { way: path ? path.split("/") : ["start"], from: Number.isSafeInteger(from) && from > 0 ? from : 0,
+    sort: parameters.get("sort") || undefined };
 }
 
 // The view if a reply cannot be displayed.
-const failedView = () => ["Land register", errorBox({ status: 599, body: null })];
+function failedView(error) {
+  console.info(error);
+  return [t("app.title"), errorBox({ status: 599, body: null })];
+}
 
 // The view for a path: its title and its parts.
-function viewOf([kind, number], from) {
-  if (kind in KINDS && number === undefined) return listView(kind, from);
-  if (kind in KINDS && /^\d{1,13}$/.test(number)) return kind === "units" ? unitView(Number(number)) : objectView(kind, Number(number));
-  return kind === "lodge" ? lodgeView() : startView();
+async function viewOf([kind, number, ...rest], options) {
+  if (kind === "do" && number) return actView(number, rest);
+  if (kind === "map") return mapView(number);
+  if (KINDS.includes(kind) && number === undefined) return listView(kind, options);
+  if (KINDS.includes(kind) && /^\d{1,13}$/.test(number)) return kind === "units" ? unitView(Number(number)) :
+    objectView(kind, Number(number));
+  return startView();
 }
 
 function showTabs(here) {
-  const tabs = [["start", STARTS[state.role][0]], ...Object.entries(KINDS).map(([kind, words]) => [kind, words.many])];
-  if (mayLodge()) tabs.push(["lodge", "Lodge a transfer"]);
-  const tab = ([kind, text]) => h("li", {}, h("a", { href: hrefOf(kind), "aria-current": kind === here ? "page" : "" }, text));
-  document.getElementById("tabs").replaceChildren(...tabs.map(tab));
+  const tabs = [["start", titleOf(state.role)], ["map", t("map.tab")],
+    ...KINDS.map((kind) => [kind, many(kind)])];
+  const tab = ([kind, text]) => h("li", {}, h("a", { href: hrefOf(kind), "aria-current": kind === here ?
+    "page" : "" }, text));
+  by("tabs").replaceChildren(...tabs.map(tab));
 }
 
 // Renders the view of the current URL. After navigation it moves the focus to the content.
 async function render(moved) {
-  const { way, from } = parseLocation();
+  const { way, ...options } = parseLocation();
   const rendering = latest += 1;
+  shownHash = location.hash;
+  forget();
   roleField.value = state.role;
-  atField.value = state.at === null ? "" : formatMoment(state.at);
+  atField.value = state.at === null ? "" : pickerValue(state.at);
   showTimeError("");
+  by("at-utc").textContent = state.at === null ? "" : formatMoment(state.at) + " UTC";
   showTabs(way[0]);
-  status.textContent = "Loading";
-  const [title, ...parts] = await viewOf(way, from).catch(failedView);
-  if (state.me === null) await get("parties/1", null);    // every reply names the caller's party
+  status.textContent = t("loading");
+  main.setAttribute("aria-busy", "true");
+  const [title, ...view] = await viewOf(way, options).catch(failedView);
   if (rendering !== latest) return;
-  document.title = safeString(title) + " - Land register";
-  main.replaceChildren(h("h1", {}, safeText(title)), ...parts.filter((one) => one !== ""));
+  document.title = safeString(title) + " - " + t("app.title");
+  openMenu(false);
+  main.replaceChildren(h("h1", {}, safeText(title)), takeNotice(),
+    ...view.filter((one) => one !== "" && one));
+  main.removeAttribute("aria-busy");
   status.textContent = safeString(title);
   if (moved) main.focus();
   showCaller();
 }
 
-// Shows the caller's party and marks the roles that it does not hold.
-async function showCaller() {
-  if (state.me === null) return;
-  const party = await objectOf("parties", state.me);
-  document.getElementById("who").replaceChildren("Party " + state.me, ...(party ? [", ", safeText(party.name)] : []));
-  if (party === null) return;
-  for (const option of roleField.options) {
-    option.textContent = option.textContent.replace(/ \(not yours\)$/, "") + (party.roles.includes(option.value) ? "" : " (not yours)");
-  }
+// On narrow screens the role, the time and the parts of the register are behind a button.
+function openMenu(open) {
+  by("menu").setAttribute("aria-expanded", String(open));
+  document.querySelector(".bar").classList.toggle("open", open);
+}
+
+// Shows the caller's party and the roles that it holds.
+function showCaller() {
+  const who = by("who");
+  if (state.me === null) return who.replaceChildren("\u00a0");
+  return who.replaceChildren(...(state.name ? [safeText(state.name),
+    h("span", { class: "num" }, " " + t("one.parties") + " " + state.me)] :
+    [t("one.parties") + " " + state.me]));
+}
+
+function fillRoles() {
+  const held = state.roles || ROLES;
+  const option = (role) => h("option", { value: role }, t("role.title." + role) +
+    (held.includes(role) ? "" : " " + t("role.notYours")));
+  roleField.replaceChildren(...ROLES.filter((role) => held.includes(role)).map(option),
+    ...ROLES.filter((role) => !held.includes(role)).map(option));
 }
 
 // Navigates to the same view in another role or at another time.
 function navigate(role, at) {
   const path = location.hash.split("?")[0] || "#/start";
+  const sameRole = role === state.role;
   state.role = role;
   state.at = at;
-  location.hash = (path.startsWith("#/lodge") ? "#/start" : path) + queryOf(at);
+  location.hash = (sameRole && !path.startsWith("#/do") ? path : "#/start") + queryOf(at);
 }
 
 function showTimeError(text) {
-  timeError.textContent = text;
+  by("at-wrong").textContent = text;
   if (text) atField.setAttribute("aria-invalid", "true");
   else atField.removeAttribute("aria-invalid");
 }
 
 function applyTime() {
-  const at = parseMoment(atField.value);
-  showTimeError(at === undefined ? "Not a valid time. Example: 2026-11-26 16:17:32" : "");
+  const at = atField.validity.badInput ? undefined : momentOfPicker(atField.value);
+  showTimeError(at === undefined ? t("time.wrong") : "");
   if (at !== undefined && at !== state.at) navigate(state.role, at);
 }
 
+// The texts of the page's frame in the chosen language.
+function showFrame() {
+  document.documentElement.lang = language;
+  for (const node of document.querySelectorAll("[data-t]")) node.textContent = t(node.dataset.t,
+    { zone: zoneName() });
+  by("nav").setAttribute("aria-label", t("app.parts"));
+  by("language").replaceChildren(...LANGUAGES.map((one) => h("option", { value: one, lang: one },
+    languageName(one))));
+  by("language").value = language;
+  setUpSearch(by("search-form"), by("search-label"));
+  fillRoles();
+}
+
+async function moveTo() {
+  if (location.hash === shownHash) return;
+  if (hasUnsaved()) {
+    const wanted = location.hash;
+    history.replaceState(null, "", shownHash);
+    if (!await confirmLeave()) return;
+    history.replaceState(null, "", wanted);
+  }
+  render(true);
+}
+
 roleField.addEventListener("change", () => navigate(roleField.value, state.at));
-document.getElementById("to-now").addEventListener("click", () => navigate(state.role, null));
-document.getElementById("context").addEventListener("submit", (event) => {
+by("language").addEventListener("change", () => {
+  setLanguage(by("language").value);
+  showFrame();
+  render(false);
+});
+by("to-now").addEventListener("click", () => navigate(state.role, null));
+by("context").addEventListener("submit", (event) => {
   event.preventDefault();
   applyTime();
 });
 atField.addEventListener("change", applyTime);
-document.getElementById("skip").addEventListener("click", (event) => {
+by("sign-out").addEventListener("click", async () => {
+  if (await confirmLeave()) signOut();
+});
+by("menu").addEventListener("click", () => openMenu(by("menu").getAttribute("aria-expanded") === "false"));
+by("skip").addEventListener("click", (event) => {
   event.preventDefault();     // a navigation to its URL would be taken for a view
   main.focus();
 });
-window.addEventListener("hashchange", () => render(true));
+window.addEventListener("hashchange", moveTo);
+window.addEventListener("land-render", () => render(false));
+
+showFrame();
+await signIn();
+fillRoles();
+watchSession();
 render(false);
+

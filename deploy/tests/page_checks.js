@@ -42,16 +42,19 @@ function contrast() {
     const got = ratio(colour(style.color), background(e));
     if (got < expected) found.push(got.toFixed(2) + " " + describe(e));
   }
-  for (const e of document.querySelectorAll("input,select,button")) {
+  for (const e of document.querySelectorAll("input,select,button,textarea,a.button")) {
     if (!visible(e)) continue;
+    if (e.classList.contains("as-link") || e.type === "checkbox") continue;
     const [border, back] = [colour(getComputedStyle(e).borderTopColor), background(e.parentElement)];
     const edge = Math.max(ratio(border, back), ratio(colour(getComputedStyle(e).backgroundColor), back));
     if (e.type !== "range" && edge < 3) found.push("border " + describe(e));
   }
-  for (const e of document.querySelectorAll("svg.plan path")) {
+  for (const e of document.querySelectorAll("svg.plan path, svg.plan circle")) {
+    if (e.getAttribute("r") === "0") continue;
     const style = getComputedStyle(e);
     const paper = colour(getComputedStyle(e.closest("svg")).backgroundColor);
-    if (ratio(colour(style.stroke), paper) < 3) found.push("line " + describe(e));
+    const tone = style.stroke === "none" ? style.fill : style.stroke;
+    if (ratio(colour(tone), paper) < 3) found.push("line " + describe(e));
     const text = e.parentElement.querySelector("text");
     if (!text || style.fill === "none") continue;
     if (ratio(colour(getComputedStyle(text).fill), colour(style.fill)) < 4.5) found.push("label " + describe(text));
@@ -62,14 +65,17 @@ function contrast() {
 // Every control has an accessible name, and every id reference resolves.
 function names() {
   const found = [];
-  for (const e of document.querySelectorAll("a[href],button,input,select,textarea,svg[role],[role=region],nav")) {
+  const kinds = "a[href],button,input,select,textarea,canvas,svg[role],[role=region],[role=listbox],nav,fieldset";
+  for (const e of document.querySelectorAll(kinds)) {
     const labels = e.labels && e.tagName !== "BUTTON" ? [...e.labels].map((l) => l.textContent).join("") : null;
+    if (e.hidden && e.tagName === "INPUT") continue;
     const own = labels !== null ? labels : e.tagName === "NAV" ? "" : e.textContent;
-    const words = [e.getAttribute("aria-label"), own];
+    const words = [e.getAttribute("aria-label"), own, e.tagName === "FIELDSET" && e.querySelector("legend").textContent];
     if (!words.some((word) => word && word.trim())) found.push("no name: " + describe(e));
   }
-  for (const e of document.querySelectorAll("[aria-describedby],[for],[list]")) {
-    const ids = [e.getAttribute("aria-describedby"), e.getAttribute("for"), e.getAttribute("list")].filter(Boolean).join(" ").split(" ");
+  for (const e of document.querySelectorAll("[aria-describedby],[aria-controls],[aria-labelledby],[for],[list]")) {
+    const references = ["aria-describedby", "aria-controls", "aria-labelledby", "for", "list"];
+    const ids = references.map((name) => e.getAttribute(name)).filter(Boolean).join(" ").split(" ");
     found.push(...ids.filter((id) => !document.getElementById(id)).map((id) => "no such id " + id));
   }
   const all = [...document.querySelectorAll("[id]")].map((e) => e.id);
@@ -95,10 +101,10 @@ function order() {
 
 // Targets are at least 24 by 24 pixels, or no other target is within 24 pixels of their centre.
 function targets() {
-  const all = [...document.querySelectorAll("a[href],button,input,select")].filter(visible);
+  const all = [...document.querySelectorAll("a[href],button,input,select,summary")].filter(visible);
   const boxes = all.map((e) => e.getBoundingClientRect());
   const centre = (b) => [b.x + b.width / 2, b.y + b.height / 2];
-  const holder = (e) => e.closest("p:not(.tools),dd,td");
+  const holder = (e) => e.closest("p:not(.tools),dd,td,li");
   const inText = (e) => e.tagName === "A" && holder(e) && holder(e).textContent.trim() !== e.textContent.trim();
   return all.filter((e, n) => {
     const b = boxes[n];
@@ -113,13 +119,14 @@ function reflow() {
   const wide = document.documentElement.clientWidth;
   if (document.documentElement.scrollWidth <= wide) return [];
   return [...document.querySelectorAll("body *")].filter((e) => visible(e) && e.getBoundingClientRect().right > wide + 1 &&
-    !e.closest(".scroll,pre,svg")).slice(0, 3).map(describe).concat("wider than the page");
+    !e.closest(".scroll,pre,svg,.visually-hidden,thead")).slice(0, 3).map(describe).concat("wider than the page");
 }
 
 // The focused element has a visible indicator with sufficient contrast: a two-tone ring, or the outline of a parcel.
 function focused() {
   const e = document.activeElement;
   if (e === document.body || e.id === "main") return [];
+  if (e.tagName === "DIALOG" || e.classList.contains("scroll")) return [];
   const drawn = e.closest("svg") && e.querySelector("path");
   const style = getComputedStyle(drawn || e);
   const paper = drawn ? colour(getComputedStyle(e.closest("svg")).backgroundColor) : background(e.parentElement);
