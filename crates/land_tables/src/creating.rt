@@ -13,8 +13,8 @@ use crate::timelines::laws::{
     histories_represent_one_timeline, order_does_not_matter, valid_histories_represent_timelines,
 };
 use land_keep::store_fault::StoreFault;
-use land_tables_rows::writing::laws::new_rows_hold_new_register;
 use land_tables_rows::listing::fault::ReadFault;
+use land_tables_rows::writing::laws::new_rows_hold_new_register;
 use land_tables_schema::rows::creation::make_register;
 use sqlite::{Alter, Connection};
 

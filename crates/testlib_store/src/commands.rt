@@ -339,12 +339,7 @@ fn play_v1<H: Host>(rt: &HostRuntime, host: &mut H) -> Result<(), Stop> {
 /// A register of schema version 1 is migrated once, and then has version 2.
 const MIGRATED: &[Step] = &[
     Step(Deed::Check, 1, "", OTHER_VERSION),
-    Step(
-        Deed::Migrate,
-        0,
-        "migrated: last 1017, next 30\n",
-        "",
-    ),
+    Step(Deed::Migrate, 0, "migrated: last 1017, next 30\n", ""),
     Step(Deed::Check, 0, "sound: last 1017, next 30\n", ""),
     Step(Deed::Migrate, 1, "", OTHER_VERSION),
     Step(Deed::Check, 0, "sound: last 1017, next 30\n", ""),
@@ -371,12 +366,7 @@ const CANNOT_BE_OPENED: &[Step] = &[
     Step(Deed::Check, 1, "", CANNOT_OPEN),
     Step(Deed::Migrate, 1, "", CANNOT_OPEN),
     Step(Deed::Serve(1), 1, "", CANNOT_OPEN),
-    Step(
-        Deed::Extract(1, Role::Citizen, None),
-        1,
-        "",
-        CANNOT_OPEN,
-    ),
+    Step(Deed::Extract(1, Role::Citizen, None), 1, "", CANNOT_OPEN),
 ];
 
 /// And none is created.
