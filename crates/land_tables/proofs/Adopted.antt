@@ -120,9 +120,9 @@ held_if_said db found said keyed mandates_keyed = record {
   the_units = record { said = said.history.units; numbered = keyed.holdings.units };
   the_parcels = record { said = said.history.parcels; numbered = keyed.holdings.parcels };
   the_rrrs = record { said = said.history.rrrs; numbered = keyed.holdings.rrrs };
-  the_sources = record { said = said.history.sources; numbered = keyed.papers.sources };
-  the_mutations = record { said = said.history.mutations; numbered = keyed.papers.mutations };
-  the_namings = record { said = said.history.namings; numbered = keyed.papers.namings };
+  the_sources = record { said = said.history.sources; numbered = keyed.sources_and_mutations.sources };
+  the_mutations = record { said = said.history.mutations; numbered = keyed.sources_and_mutations.mutations };
+  the_namings = record { said = said.history.namings; numbered = keyed.sources_and_mutations.namings };
   the_mandates = record { said = said.history.mandates; numbered = mandates_keyed };
 }
 
@@ -275,7 +275,7 @@ none_keyed : (db : Trees) → HaveUniqueRowidsV1 db → HaveUniqueRowidsV1 (with
 none_keyed db keyed = record {
   persons = record { parties = keyed.persons.parties; roles = keyed.persons.roles; members = keyed.persons.members };
   holdings = record { units = keyed.holdings.units; parcels = keyed.holdings.parcels; rrrs = keyed.holdings.rrrs };
-  papers = record { sources = keyed.papers.sources; mutations = keyed.papers.mutations; namings = keyed.papers.namings };
+  sources_and_mutations = record { sources = keyed.sources_and_mutations.sources; mutations = keyed.sources_and_mutations.mutations; namings = keyed.sources_and_mutations.namings };
 }
 
 none_apart : IsDistinct int_eq []
