@@ -292,7 +292,8 @@ def geometry(it, register, unit):
     it.send_form()
     check(f"{it.name}: a new unit without a name is reported", "Each new unit needs a name." in it.errors(),
         it.errors())
-    it.js("const e = [...document.querySelectorAll('[data-part=unit]')].pop(); e.value = 'Mill pond'; e.dispatchEvent(new Event('input'));")
+    it.js("const e = [...document.querySelectorAll('[data-part=unit]')].pop(); e.value = 'Mill pond';"
+          "e.dispatchEvent(new Event('input', {bubbles: true}));")
     it.picture("subdivision")
     check(f"{it.name}: subdivision by a surveyor", sent(it, "Lodged"), it.text())
     mutation = register.last("mutations")
