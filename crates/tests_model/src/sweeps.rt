@@ -13,26 +13,26 @@ use std::test::Fail;
 
 // ---- required intervals that are covered
 
-fn offered(key: u64, since: i64, until: i64) -> CoverageSpan
-    ensures { result ≡ record { first = key; second = 0; since = since; asked = false; until = until } }
+fn provided(key: u64, since: i64, until: i64) -> CoverageSpan
+    ensures { result ≡ record { first = key; second = 0; since = since; required = false; until = until } }
 {
     CoverageSpan {
         first: key,
         second: 0,
         since,
-        asked: false,
+        required: false,
         until,
     }
 }
 
-fn asked(key: u64, since: i64, until: i64) -> CoverageSpan
-    ensures { result ≡ record { first = key; second = 0; since = since; asked = true; until = until } }
+fn required(key: u64, since: i64, until: i64) -> CoverageSpan
+    ensures { result ≡ record { first = key; second = 0; since = since; required = true; until = until } }
 {
     CoverageSpan {
         first: key,
         second: 0,
         since,
-        asked: true,
+        required: true,
         until,
     }
 }
@@ -48,35 +48,35 @@ fn covers(alloc: Global, pieces: &[CoverageSpan]) -> Result<bool, AllocError>
 #[test]
 fn nothing_is_asked_for(rt: HostRuntime) -> Result<(), Fail> {
     assert!(&rt; covers(rt.alloc(), &[])?);
-    assert!(&rt; covers(rt.alloc(), &[offered(1, 10, 20)])?);
-    assert!(&rt; !covers(rt.alloc(), &[asked(1, 10, 20)])?);
+    assert!(&rt; covers(rt.alloc(), &[provided(1, 10, 20)])?);
+    assert!(&rt; !covers(rt.alloc(), &[required(1, 10, 20)])?);
     Ok(())
 }
 
 /// A provided interval starts and ends with the required one, or a millisecond too late or too early.
 #[test]
 fn provided_intervals_start_and_end_with_required_ones(rt: HostRuntime) -> Result<(), Fail> {
-    assert!(&rt; covers(rt.alloc(), &[asked(1, 10, 20), offered(1, 10, 20)])?);
-    assert!(&rt; !covers(rt.alloc(), &[asked(1, 10, 20), offered(1, 11, 20)])?);
-    assert!(&rt; !covers(rt.alloc(), &[asked(1, 10, 20), offered(1, 10, 19)])?);
-    assert!(&rt; !covers(rt.alloc(), &[asked(1, 20, 30), offered(1, 10, 20)])?);
+    assert!(&rt; covers(rt.alloc(), &[required(1, 10, 20), provided(1, 10, 20)])?);
+    assert!(&rt; !covers(rt.alloc(), &[required(1, 10, 20), provided(1, 11, 20)])?);
+    assert!(&rt; !covers(rt.alloc(), &[required(1, 10, 20), provided(1, 10, 19)])?);
+    assert!(&rt; !covers(rt.alloc(), &[required(1, 20, 30), provided(1, 10, 20)])?);
     Ok(())
 }
 
 /// Provided intervals that touch leave no gap. A gap of a millisecond matters only if the time is required.
 #[test]
 fn gaps_between_offers(rt: HostRuntime) -> Result<(), Fail> {
-    let (early, late) = (offered(1, 10, 15), offered(1, 15, 20));
-    let after_a_gap = offered(1, 16, 20);
-    assert!(&rt; covers(rt.alloc(), &[late, asked(1, 10, 20), early])?);
-    assert!(&rt; !covers(rt.alloc(), &[after_a_gap, asked(1, 10, 20), early])?);
+    let (early, late) = (provided(1, 10, 15), provided(1, 15, 20));
+    let after_a_gap = provided(1, 16, 20);
+    assert!(&rt; covers(rt.alloc(), &[late, required(1, 10, 20), early])?);
+    assert!(&rt; !covers(rt.alloc(), &[after_a_gap, required(1, 10, 20), early])?);
     assert!(&rt;
         covers(
             rt.alloc(),
-            &[asked(1, 16, 20), after_a_gap, asked(1, 10, 15), early]
+            &[required(1, 16, 20), after_a_gap, required(1, 10, 15), early]
         )?
     );
-    assert!(&rt; !covers(rt.alloc(), &[asked(1, 15, 16), after_a_gap, early])?);
+    assert!(&rt; !covers(rt.alloc(), &[required(1, 15, 16), after_a_gap, early])?);
     Ok(())
 }
 
@@ -87,18 +87,22 @@ fn offers_of_two_keys(rt: HostRuntime) -> Result<(), Fail> {
         covers(
             rt.alloc(),
             &[
-                asked(1, 10, 20),
-                offered(2, 10, 20),
-                offered(1, 5, 25),
-                asked(2, 12, 14)
+                required(1, 10, 20),
+                provided(2, 10, 20),
+                provided(1, 5, 25),
+                required(2, 12, 14)
             ]
         )?
     );
-    assert!(&rt; !covers(rt.alloc(), &[asked(1, 10, 20), offered(2, 10, 20)])?);
+    assert!(&rt; !covers(rt.alloc(), &[required(1, 10, 20), provided(2, 10, 20)])?);
     assert!(&rt;
         !covers(
             rt.alloc(),
-            &[asked(1, 10, 20), offered(1, 10, 15), offered(2, 15, 20)]
+            &[
+                required(1, 10, 20),
+                provided(1, 10, 15),
+                provided(2, 15, 20)
+            ]
         )?
     );
     Ok(())
