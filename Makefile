@@ -13,8 +13,8 @@ help: ## list these targets
 build: ## prove and build the program (./land --prove); 44 to 67 minutes on four cores from scratch, less if out/ has earlier proofs
 	./land --prove
 
-test: ## prove and run the tests (rt test in the three crates that have them); builds the libraries below them first
-	@for crate in tests_model tests_http tests_store; do (cd "crates/$$crate" && rt test) || exit; done
+test: ## prove and run the tests (rt test in the crates that have them); builds the libraries below them first
+	@for crate in tests_model tests_http tests_pool tests_store; do (cd "crates/$$crate" && rt test) || exit; done
 
 gate: ## check everything (.ci/run): proofs from scratch, mutants, tests, release, docs; 68 minutes on four idle cores
 	.ci/run

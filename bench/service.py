@@ -194,4 +194,5 @@ def main():
                 print(f"{name:22}{way:12}{rates[0]:10.0f}{rates[1]:10.0f}", flush=True)
 
 
-main()
+if __name__ == "__main__":
+    main()

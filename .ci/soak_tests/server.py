@@ -57,14 +57,17 @@ def check(file):
     return ran.stdout.strip()
 
 
+def limit_files(limit):
+    """Limits the files of this process to a number of bytes each."""
+    # A write past the limit then fails, and does not kill the process.
+    signal.signal(signal.SIGXFSZ, signal.SIG_IGN)
+    resource.setrlimit(resource.RLIMIT_FSIZE, (limit, resource.getrlimit(resource.RLIMIT_FSIZE)[1]))
+
+
 def start(file, port, connections, limit=None):
     """Starts a server, whose files may have at most `limit` bytes each, and does not wait for it."""
-    def set_limit():
-        # A write past the limit then fails, and does not kill the process.
-        signal.signal(signal.SIGXFSZ, signal.SIG_IGN)
-        resource.setrlimit(resource.RLIMIT_FSIZE, (limit, resource.getrlimit(resource.RLIMIT_FSIZE)[1]))
     arguments = [*program(), "serve", "--file", file, "--port", str(port), "--connections", str(connections)]
-    return subprocess.Popen(arguments, stderr=subprocess.PIPE, text=True, preexec_fn=None if limit is None else set_limit)
+    return subprocess.Popen(arguments, stderr=subprocess.PIPE, text=True, preexec_fn=None if limit is None else lambda: limit_files(limit))
 
 
 def serve(file, connections, limit=None):

@@ -15,7 +15,7 @@ _land() {
             mapfile -t COMPREPLY < <(compgen -W 'party unit parcel rrr source mutation' -- "$cur")
             return
             ;;
-        --clock | --at | --port | --party | --connections) return ;;
+        --clock | --at | --port | --party | --connections | --at-once) return ;;
     esac
     local words=
     case $COMP_CWORD-${COMP_WORDS[1]} in
@@ -23,7 +23,7 @@ _land() {
         2-help) words='talk new serve check migrate extract' ;;
         *-talk) words='--clock --help' ;;
         *-new | *-check | *-migrate) words='--file --help' ;;
-        *-serve) words='--file --port --connections --help' ;;
+        *-serve) words='--file --port --connections --at-once --help' ;;
         *-extract) words='--file --clock --party --role --kind --at --help' ;;
     esac
     mapfile -t COMPREPLY < <(compgen -W "$words" -- "$cur")

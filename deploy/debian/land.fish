@@ -14,6 +14,7 @@ complete -c land -n '__fish_seen_subcommand_from new serve check migrate extract
 complete -c land -n '__fish_seen_subcommand_from talk extract' -l clock -x -d 'the clock reading, in milliseconds'
 complete -c land -n '__fish_seen_subcommand_from serve' -l port -x -d '1 to 65535'
 complete -c land -n '__fish_seen_subcommand_from serve' -l connections -x -d '1 to 1000000'
+complete -c land -n '__fish_seen_subcommand_from serve' -l at-once -x -d 'connections at the same time, 1 to 1024'
 complete -c land -n '__fish_seen_subcommand_from extract' -l party -x -d 'the number of the caller'
 complete -c land -n '__fish_seen_subcommand_from extract' -l role -x -a 'citizen conveyancer notary bank certifiedSurveyor stateAdministrator'
 complete -c land -n '__fish_seen_subcommand_from extract' -l kind -x -a 'party unit parcel rrr source mutation'

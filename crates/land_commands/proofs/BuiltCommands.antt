@@ -2,7 +2,7 @@
 use Rattle.std.proofs.Common.{true, false, List, [], ◌∷◌, ◌++◌, codes}
 use Rattle.clap.specs.Simple.{Shape, filled_from, help_rule, new_shape}
 use Rattle.clap.specs.Walk.{Rule, Text}
-use Rattle.land_commands.specs.Words.Options.{connections_rule, file_rule, kind_rule, moment_rule, party_rule, port_rule, role_rule}
+use Rattle.land_commands.specs.Words.Options.{at_once_rule, connections_rule, file_rule, kind_rule, moment_rule, party_rule, port_rule, role_rule}
 use Rattle.land_commands.specs.declared.words.choices.Choices.{Choices}
 
 -- a command with these options, as `clap` builds it
@@ -21,7 +21,7 @@ abbrev pub file_built : Text → Shape
 file_built name = built_of name (file_rule ∷ [])
 
 abbrev pub serve_built : Shape
-serve_built = built_of (codes "serve") (file_rule ∷ port_rule ∷ connections_rule ∷ [])
+serve_built = built_of (codes "serve") (file_rule ∷ port_rule ∷ connections_rule ∷ at_once_rule ∷ [])
 
 abbrev pub extract_built : Choices → Shape
 extract_built choices =

@@ -34,15 +34,15 @@ count_of (negsuc n) h = absurd h.le
 -- ---- several options
 
 -- an option of a command
-record OptionShape : Type 0 where
-  name : Text
-  is_required : Bool
-  values : ValueParser
+pub record OptionShape : Type 0 where
+  pub name : Text
+  pub is_required : Bool
+  pub values : ValueParser
 
-abbrev told : Text → Bool → ValueParser → OptionShape
+abbrev pub told : Text → Bool → ValueParser → OptionShape
 told name is_required values = record { name = name; is_required = is_required; values = values }
 
-abbrev rule_told : OptionShape → Rule
+abbrev pub rule_told : OptionShape → Rule
 rule_told o = filled (option_rule o.name o.is_required o.values)
 
 module _ (name : Text) (Passes : Text → Type 0) where
@@ -72,7 +72,7 @@ module _ (name : Text) (Passes : Text → Type 0) where
       let other = parts.0 in
       ((λ same. cc), one_suits before o after parts.1 f h)
 
-  one_keeps : (before : List OptionShape) (o : OptionShape) (after : List OptionShape) → list_any (λ o. bytes_eq o.name name) before ≡ false
+  pub one_keeps : (before : List OptionShape) (o : OptionShape) (after : List OptionShape) → list_any (λ o. bytes_eq o.name name) before ≡ false
       → list_any (λ o. bytes_eq o.name name) after ≡ false → ((text : Text) → Accepts false o.values text → Passes text)
       → Each (Keeps (AllPass name Passes)) (map rule_told (before ++ o ∷ after) ++ filled help_rule ∷ [])
   one_keeps before o after e f h = suits_keep (before ++ o ∷ after) (one_suits before o after e f h)
@@ -115,7 +115,7 @@ kind_chosen places text e accepted =
 
 -- ---- the command
 
-abbrev file_shape : OptionShape
+abbrev pub file_shape : OptionShape
 file_shape = told (codes "file") true parser.String
 
 abbrev clock_shape : OptionShape

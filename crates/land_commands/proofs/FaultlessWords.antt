@@ -1,5 +1,5 @@
 -- Arguments in which `clap` finds no fault name a command. There is one such lemma for each command.
-use Rattle.std.proofs.Common.{◌≡◌, refl, Bool, true, false, List, [], Option, Some, None, cond, is_some, option_map, codes}
+use Rattle.std.proofs.Common.{◌≡◌, ◌⊎◌, inl, inr, refl, ℕ, pos, Bool, true, false, List, [], ◌∷◌, Option, Some, None, cond, is_some, option_map, codes}
 use Rattle.std.specs.Option.{option_map_or}
 use Rattle.std.specs.Str.Parse.{signed_digits_value}
 use Rattle.clap.specs.Faults.{check_fault, defaults_fault, entered_fault, fault_of, level_fault, settle_fault, walk_fault}
@@ -8,13 +8,13 @@ use Rattle.clap.specs.Values.{Accepts}
 use Rattle.clap.specs.Walk.{Row, Text, answers_to, finished, first_of, nothing_held, rows_after, settled, stop_after, walk, walk_from}
 use Rattle.clap.specs.declared.builder.value_parser.ValueParser.TheVariants as parser
 use Rattle.land_commands.proofs.BuiltCommands.{extract_built, file_built, serve_built, talk_built}
-use Rattle.land_commands.proofs.FaultlessExtract.{count_of, extract_named}
-use Rattle.land_commands.proofs.GivenOptions.{Each, HasNoDefault, given_passes, help_keeps, option_keeps, required_given}
+use Rattle.land_commands.proofs.FaultlessExtract.{OptionShape, count_of, extract_named, file_shape, one_keeps, told}
+use Rattle.land_commands.proofs.GivenOptions.{Each, HasNoDefault, given_passes, help_keeps, option_keeps, passes_if_any, required_given}
 use Rattle.land_commands.proofs.WalkKeeps.{both_none}
 use Rattle.land_commands.specs.Words.Choices.{AreChoiceWords}
 use Rattle.land_commands.specs.Words.Commands.{land_app}
-use Rattle.land_commands.specs.Words.Names.{IsCommandIn, NamesBy}
-use Rattle.land_commands.specs.Words.Options.{counts, moments, ports}
+use Rattle.land_commands.specs.Words.Names.{HasNumberOr, IsCommandIn, NamesBy}
+use Rattle.land_commands.specs.Words.Options.{counts, limits, moments, ports}
 use Rattle.land_commands.specs.Words.PlainCommands.{PlainCommand, to_talk, to_make, to_serve, to_check, to_migrate}
 use Rattle.land_commands.specs.declared.words.choices.Choices.{Choices}
 
@@ -40,36 +40,41 @@ file_named name words e =
     (option_keeps (codes "file") (Accepts false parser.String) (codes "file") true parser.String (λ same text h. h), (help_keeps _, tt)) (given.0 refl) in
     (file.0, file.1)
 
--- arguments of `serve` without a fault have a file, a port and a number of connections
+abbrev port_shape : OptionShape
+port_shape = told (codes "port") true ports
+
+abbrev count_shape : OptionShape
+count_shape = told (codes "connections") true counts
+
+abbrev limit_shape : OptionShape
+limit_shape = told (codes "at-once") false limits
+
+-- an optional limit is a number, or absent
+limit_if_any : (rows : List Row) → (first_of (codes "at-once") rows ≡ None) ⊎ ((text : Text) × (first_of (codes "at-once") rows ≡ Some text) × Accepts false limits text)
+    → (at_once : ℕ) × HasNumberOr rows (codes "at-once") (pos 1) (pos 1024) (pos 1) (pos at_once)
+limit_if_any rows (inl none) = (1, inr (none, refl))
+limit_if_any rows (inr (text, found, accepted)) =
+    let number = count_of (signed_digits_value 10 text) accepted.2 in
+    (number.0, inl (record { text = text; found = found; in_range = accepted; value = number.1 }))
+
+-- arguments of `serve` without a fault have a file, a port and a number of connections, and a limit if `--at-once` is given
 serve_named : (words : List Text) → level_fault serve_built [] nothing_held words false [] ≡ []
     → (order : PlainCommand) × IsCommandIn (Some (rows_at serve_built words)) order
 serve_named words e =
-    let none : Each HasNoDefault serve_built.rules = (refl, (refl, (refl, (refl, tt)))) in
+    let none : Each HasNoDefault serve_built.rules = (refl, (refl, (refl, (refl, (refl, tt))))) in
     let given = required_given serve_built none words e in
-    let file = given_passes serve_built none words e (codes "file") (Accepts false parser.String) (
-      option_keeps (codes "file") (Accepts false parser.String) (codes "file") true parser.String (λ same text h. h),
-      (
-        option_keeps (codes "file") (Accepts false parser.String) (codes "port") true ports (λ same. cc),
-        (option_keeps (codes "file") (Accepts false parser.String) (codes "connections") true counts (λ same. cc), (help_keeps _, tt)),
-      ),
-    ) (given.0 refl) in
-    let port = given_passes serve_built none words e (codes "port") (Accepts false ports) (
-      option_keeps (codes "port") (Accepts false ports) (codes "file") true parser.String (λ same. cc),
-      (
-        option_keeps (codes "port") (Accepts false ports) (codes "port") true ports (λ same text h. h),
-        (option_keeps (codes "port") (Accepts false ports) (codes "connections") true counts (λ same. cc), (help_keeps _, tt)),
-      ),
-    ) (given.1.0 refl) in
-    let count = given_passes serve_built none words e (codes "connections") (Accepts false counts) (
-      option_keeps (codes "connections") (Accepts false counts) (codes "file") true parser.String (λ same. cc),
-      (
-        option_keeps (codes "connections") (Accepts false counts) (codes "port") true ports (λ same. cc),
-        (option_keeps (codes "connections") (Accepts false counts) (codes "connections") true counts (λ same text h. h), (help_keeps _, tt)),
-      ),
-    ) (given.1.1.0 refl) in
+    let file = given_passes serve_built none words e (codes "file") (Accepts false parser.String)
+    (one_keeps (codes "file") (Accepts false parser.String) [] file_shape (port_shape ∷ count_shape ∷ limit_shape ∷ []) refl refl (λ text h. h)) (given.0 refl) in
+    let port = given_passes serve_built none words e (codes "port") (Accepts false ports)
+    (one_keeps (codes "port") (Accepts false ports) (file_shape ∷ []) port_shape (count_shape ∷ limit_shape ∷ []) refl refl (λ text h. h)) (given.1.0 refl) in
+    let count = given_passes serve_built none words e (codes "connections") (Accepts false counts)
+    (one_keeps (codes "connections") (Accepts false counts) (file_shape ∷ port_shape ∷ []) count_shape (limit_shape ∷ []) refl refl (λ text h. h)) (given.1.1.0 refl) in
+    let limit = limit_if_any (rows_after serve_built.rules [] words)
+    (passes_if_any serve_built none words e (codes "at-once") (Accepts false limits)
+    (one_keeps (codes "at-once") (Accepts false limits) (file_shape ∷ port_shape ∷ count_shape ∷ []) limit_shape [] refl refl (λ text h. h))) in
     let at_port = count_of (signed_digits_value 10 port.0) port.2.2 in
     let in_all = count_of (signed_digits_value 10 count.0) count.2.2 in (
-      to_serve file.0 at_port.0 in_all.0,
+      to_serve file.0 at_port.0 in_all.0 limit.0,
       (
         rows_after serve_built.rules [] words,
         refl,
@@ -77,6 +82,7 @@ serve_named words e =
           file.1,
           record { text = port.0; found = port.1; in_range = port.2; value = at_port.1 },
           record { text = count.0; found = count.1; in_range = count.2; value = in_all.1 },
+          limit.1,
         ),
       ),
     )

@@ -1,5 +1,5 @@
 -- Arguments with each option once, in the order of the help text, name the command with these options.
-use Rattle.std.proofs.Common.{◌≡◌, ◌≢◌, ◌∙◌, ◌≤◌, ◌<◌, ◌==◌, refl, rules, sym, ap, subst, arith, ℕ, pos, Bool, true, false, List, [], ◌∷◌, Some, None, codes, w64}
+use Rattle.std.proofs.Common.{◌≡◌, ◌≢◌, ◌∙◌, ◌≤◌, ◌<◌, ◌==◌, inl, inr, refl, rules, sym, ap, subst, arith, ℕ, pos, Bool, true, false, List, [], ◌∷◌, ◌++◌, Some, None, codes, w64}
 use Rattle.std.proofs.lemmas.Bool.Decides.{nat_tests}
 use Rattle.std.specs.Prelude.{◌≤ℤ◌, FitsSigned, fold}
 use Rattle.std.specs.Char.{digit_value}
@@ -18,9 +18,9 @@ use Rattle.clap.specs.declared.builder.value_parser.Reading.TheVariants as readi
 use Rattle.clap.specs.declared.parser.matches.ValueSource.TheVariants.{CommandLine}
 use Rattle.land_commands.proofs.BuiltCommands.{file_built, serve_built, talk_built}
 use Rattle.land_commands.specs.Words.Commands.{land_app}
-use Rattle.land_commands.specs.Words.Laws.{IsPlainText, IsNumeralIn}
+use Rattle.land_commands.specs.Words.Laws.{IsPlainText, IsNumeralIn, PlainServiceLaw, serve_words}
 use Rattle.land_commands.specs.Words.Names.{NamesBy}
-use Rattle.land_commands.specs.Words.Options.{counts, moments, ports}
+use Rattle.land_commands.specs.Words.Options.{counts, limits, moments, ports}
 use Rattle.land_commands.specs.Words.PlainCommands.{to_talk, to_make, to_serve, to_check, to_migrate}
 use Rattle.land_commands.specs.declared.words.choices.Choices.{Choices}
 
@@ -68,6 +68,9 @@ port_row = row_with (codes "port") reading.WithoutMinus
 
 abbrev count_row : Text → Row
 count_row = row_with (codes "connections") reading.WithoutMinus
+
+abbrev limit_row : Text → Row
+limit_row = row_with (codes "at-once") reading.WithoutMinus
 
 -- ---- walks
 
@@ -361,57 +364,134 @@ count_answered_well : (rows : List Row) (x : ℕ) (xs : Text) → (x == 45) ≡ 
 unfolding clap_on_literals
 count_answered_well rows x xs sign = rw sign (rw sign refl)
 
--- the arguments of `serve`
-abbrev pub service : (file port_digits count_digits : Text) → List Text
-service file port_digits count_digits =
-    codes "--file" ∷ file ∷ codes "--port" ∷ port_digits ∷ codes "--connections" ∷ count_digits ∷ []
-
-serve_leads : (x y z : ℕ) (xs ys zs : Text) → (x == 45) ≡ false → (y == 45) ≡ false → (z == 45) ≡ false → accepts false ports (y ∷ ys) ≡ true
-    → Leads serve_built (walk_from nothing_held) (service (x ∷ xs) (y ∷ ys) (z ∷ zs))
-    (with_value (file_row (x ∷ xs) ∷ port_row (y ∷ ys) ∷ []) (codes "connections") (z ∷ zs))
-serve_leads x y z xs ys zs a b c accepted =
-    on_to serve_built _ _ _ _ _ file_asked file_asked_well
-    (on_to serve_built _ _ _ _ _ (file_answered x xs a) (file_answered_well x xs a)
-    (on_to serve_built _ _ _ _ _ (port_asked (x ∷ xs)) (port_asked_well (x ∷ xs))
-    (on_to serve_built _ _ _ _ _ (port_answered _ y ys b) (port_answered_well _ y ys b)
-    (on_to serve_built _ _ _ _ _ (count_asked (x ∷ xs) (y ∷ ys)) (count_asked_well (x ∷ xs) (y ∷ ys) accepted)
-    (on_to serve_built _ _ _ _ _ (count_answered _ z zs c) (count_answered_well _ z zs c) (empty_walk serve_built _))))))
-
-serve_ends : (file port_digits count_digits : Text) → accepts false counts count_digits ≡ true
-    → EndsWell serve_built (with_value (file_row file ∷ port_row port_digits ∷ []) (codes "connections") count_digits).held
+limit_asked : (file port count : Text)
+    → walked serve_built.rules [] (with_value (file_row file ∷ port_row port ∷ []) (codes "connections") count) (codes "--at-once")
+    ≡ expects_value (file_row file ∷ port_row port ∷ count_row count ∷ []) (codes "at-once")
 unfolding clap_on_literals
-serve_ends file port_digits count_digits accepted = record { settles = rw accepted refl; defaults = refl; checks = refl }
+limit_asked file port count = refl
 
-serve_fault_below : (choices : Choices) (program file port_digits count_digits : Text) → fault_of (land_app choices) (program ∷ codes "serve" ∷ service file port_digits count_digits)
-    ≡ or_else (level_fault serve_built [] nothing_held (service file port_digits count_digits) false []) []
+limit_asked_well : (file port count : Text) → accepts false counts count ≡ true
+    → turn_fault serve_built [] (with_value (file_row file ∷ port_row port ∷ []) (codes "connections") count) (codes "--at-once") ≡ []
 unfolding clap_on_literals
-serve_fault_below choices program file port_digits count_digits = refl
+limit_asked_well file port count accepted = rw accepted refl
 
-serve_rows_below : (choices : Choices) (program file port_digits count_digits : Text) → subcommand_of (land_app choices) (program ∷ codes "serve" ∷ service file port_digits count_digits)
-    ≡ Some (codes "serve", rows_after serve_built.rules [] (service file port_digits count_digits))
+limit_answered : (rows : List Row) (x : ℕ) (xs : Text) → (x == 45) ≡ false
+    → walked serve_built.rules [] (expects_value rows (codes "at-once")) (x ∷ xs) ≡ with_value rows (codes "at-once") (x ∷ xs)
 unfolding clap_on_literals
-serve_rows_below choices program file port_digits count_digits = refl
+limit_answered rows x xs sign = rw sign (rw sign refl)
 
-pub plain_service : (choices : Choices) (program file port_digits count_digits : Text) (port connections : ℕ) → IsPlainText file
-    → IsNumeralIn port_digits 1 65535 port → IsNumeralIn count_digits 1 1000000 connections
-    → NamesBy choices (program ∷ codes "serve" ∷ service file port_digits count_digits) (to_serve file port connections)
+limit_answered_well : (rows : List Row) (x : ℕ) (xs : Text) → (x == 45) ≡ false → turn_fault serve_built [] (expects_value rows (codes "at-once")) (x ∷ xs) ≡ []
+unfolding clap_on_literals
+limit_answered_well rows x xs sign = rw sign (rw sign refl)
+
+count_ends : (file port count : Text) → accepts false counts count ≡ true
+    → EndsWell serve_built (with_value (file_row file ∷ port_row port ∷ []) (codes "connections") count).held
+unfolding clap_on_literals
+count_ends file port count accepted = record { settles = rw accepted refl; defaults = refl; checks = refl }
+
+limit_ends : (file port count limit : Text) → accepts false limits limit ≡ true
+    → EndsWell serve_built (with_value (file_row file ∷ port_row port ∷ count_row count ∷ []) (codes "at-once") limit).held
+unfolding clap_on_literals
+limit_ends file port count limit accepted = record { settles = rw accepted refl; defaults = refl; checks = refl }
+
+serve_fault_below : (choices : Choices) (program file port count : Text) → fault_of (land_app choices) (program ∷ codes "serve" ∷ serve_words file port count)
+    ≡ or_else (level_fault serve_built [] nothing_held (serve_words file port count) false []) []
+unfolding clap_on_literals
+serve_fault_below choices program file port count = refl
+
+serve_rows_below : (choices : Choices) (program file port count : Text) → subcommand_of (land_app choices) (program ∷ codes "serve" ∷ serve_words file port count)
+    ≡ Some (codes "serve", rows_after serve_built.rules [] (serve_words file port count))
+unfolding clap_on_literals
+serve_rows_below choices program file port count = refl
+
+limit_fault_below : (choices : Choices) (program file port count limit : Text)
+    → fault_of (land_app choices) (program ∷ codes "serve" ∷ (serve_words file port count ++ codes "--at-once" ∷ limit ∷ []))
+    ≡ or_else (level_fault serve_built [] nothing_held (serve_words file port count ++ codes "--at-once" ∷ limit ∷ []) false []) []
+unfolding clap_on_literals
+limit_fault_below choices program file port count limit = refl
+
+limit_rows_below : (choices : Choices) (program file port count limit : Text)
+    → subcommand_of (land_app choices) (program ∷ codes "serve" ∷ (serve_words file port count ++ codes "--at-once" ∷ limit ∷ []))
+    ≡ Some (codes "serve", rows_after serve_built.rules [] (serve_words file port count ++ codes "--at-once" ∷ limit ∷ []))
+unfolding clap_on_literals
+limit_rows_below choices program file port count limit = refl
+
+module _ (choices : Choices) (program : Text) (x y z : ℕ) (xs ys zs : Text) (port connections : ℕ) (plain : IsPlainText (x ∷ xs))
+    (port_read : IsRead (y ∷ ys) 1 65535 port) (count_read : IsRead (z ∷ zs) 1 1000000 connections) where
+  count_passes : accepts false counts (z ∷ zs) ≡ true
+  count_passes = Accepts-accepts false counts (z ∷ zs) count_read.1
+
+  -- the walk until the number of connections
+  to_count : (more : List Text) (end : Walk)
+      → Leads serve_built (with_value (file_row (x ∷ xs) ∷ port_row (y ∷ ys) ∷ []) (codes "connections") (z ∷ zs)) more end
+      → Leads serve_built (walk_from nothing_held) (serve_words (x ∷ xs) (y ∷ ys) (z ∷ zs) ++ more) end
+  to_count more end rest =
+      let a = no_hyphen x plain in
+      let b = no_hyphen y port_read.0 in
+      let c = no_hyphen z count_read.0 in
+      let port_passes = Accepts-accepts false ports (y ∷ ys) port_read.1 in
+      on_to serve_built _ _ _ _ _ file_asked file_asked_well
+      (on_to serve_built _ _ _ _ _ (file_answered x xs a) (file_answered_well x xs a)
+      (on_to serve_built _ _ _ _ _ (port_asked (x ∷ xs)) (port_asked_well (x ∷ xs))
+      (on_to serve_built _ _ _ _ _ (port_answered _ y ys b) (port_answered_well _ y ys b)
+      (on_to serve_built _ _ _ _ _ (count_asked (x ∷ xs) (y ∷ ys)) (count_asked_well (x ∷ xs) (y ∷ ys) port_passes)
+      (on_to serve_built _ _ _ _ _ (count_answered _ z zs c) (count_answered_well _ z zs c) rest)))))
+
+  one_at_a_time : NamesBy choices (program ∷ codes "serve" ∷ serve_words (x ∷ xs) (y ∷ ys) (z ∷ zs)) (to_serve (x ∷ xs) port connections 1)
+  one_at_a_time =
+      let leads = to_count [] _ (empty_walk serve_built _) in
+      let ends = count_ends (x ∷ xs) (y ∷ ys) (z ∷ zs) count_passes in
+      record {
+        faultless = serve_fault_below choices program (x ∷ xs) (y ∷ ys) (z ∷ zs) ∙ none_of_both _ _ (level_well serve_built _ _ leads ends) refl;
+        found = (
+          file_row (x ∷ xs) ∷ port_row (y ∷ ys) ∷ count_row (z ∷ zs) ∷ [],
+          serve_rows_below choices program (x ∷ xs) (y ∷ ys) (z ∷ zs) ∙ ap (λ (rows : List Row). Some (codes "serve", rows)) (rows_well serve_built _ _ leads),
+          (
+            refl,
+            record { text = y ∷ ys; found = refl; in_range = port_read.1; value = port_read.2 },
+            record { text = z ∷ zs; found = refl; in_range = count_read.1; value = count_read.2 },
+            inr (refl, refl),
+          ),
+        );
+      }
+
+  at_limit : (w : ℕ) (ws : Text) (at_once : ℕ) → IsRead (w ∷ ws) 1 1024 at_once
+      → NamesBy choices (program ∷ codes "serve" ∷ (serve_words (x ∷ xs) (y ∷ ys) (z ∷ zs) ++ codes "--at-once" ∷ (w ∷ ws) ∷ []))
+      (to_serve (x ∷ xs) port connections at_once)
+  at_limit w ws at_once limit_read =
+      let sign = no_hyphen w limit_read.0 in
+      let leads =
+      to_count (codes "--at-once" ∷ (w ∷ ws) ∷ []) _
+      (on_to serve_built _ _ _ _ _ (limit_asked (x ∷ xs) (y ∷ ys) (z ∷ zs)) (limit_asked_well (x ∷ xs) (y ∷ ys) (z ∷ zs) count_passes)
+      (on_to serve_built _ _ _ _ _ (limit_answered _ w ws sign) (limit_answered_well _ w ws sign) (empty_walk serve_built _))) in
+      let ends = limit_ends (x ∷ xs) (y ∷ ys) (z ∷ zs) (w ∷ ws) (Accepts-accepts false limits (w ∷ ws) limit_read.1) in
+      record {
+        faultless = limit_fault_below choices program (x ∷ xs) (y ∷ ys) (z ∷ zs) (w ∷ ws) ∙ none_of_both _ _ (level_well serve_built _ _ leads ends) refl;
+        found = (
+          file_row (x ∷ xs) ∷ port_row (y ∷ ys) ∷ count_row (z ∷ zs) ∷ limit_row (w ∷ ws) ∷ [],
+          limit_rows_below choices program (x ∷ xs) (y ∷ ys) (z ∷ zs) (w ∷ ws) ∙ ap (λ (rows : List Row). Some (codes "serve", rows)) (rows_well serve_built _ _ leads),
+          (
+            refl,
+            record { text = y ∷ ys; found = refl; in_range = port_read.1; value = port_read.2 },
+            record { text = z ∷ zs; found = refl; in_range = count_read.1; value = count_read.2 },
+            inl (record { text = w ∷ ws; found = refl; in_range = limit_read.1; value = limit_read.2 }),
+          ),
+        );
+      }
+
+  at_any_limit : (limit_digits : Text) (at_once : ℕ) → IsNumeralIn limit_digits 1 1024 at_once
+      → NamesBy choices (program ∷ codes "serve" ∷ (serve_words (x ∷ xs) (y ∷ ys) (z ∷ zs) ++ codes "--at-once" ∷ limit_digits ∷ []))
+      (to_serve (x ∷ xs) port connections at_once)
+  at_any_limit [] at_once written = absurd (omega arith)
+  at_any_limit (w ∷ ws) at_once written = at_limit w ws at_once (numeral_reads (w ∷ ws) 1 1024 at_once (omega arith) written)
+
+pub plain_service : PlainServiceLaw
 plain_service choices program [] port_digits count_digits port connections plain port_written count_written = absurd plain
 plain_service choices program (x ∷ xs) [] count_digits port connections plain port_written count_written = absurd (omega arith)
 plain_service choices program (x ∷ xs) (y ∷ ys) [] port connections plain port_written count_written = absurd (omega arith)
 plain_service choices program (x ∷ xs) (y ∷ ys) (z ∷ zs) port connections plain port_written count_written =
-    let at_port = numeral_reads (y ∷ ys) 1 65535 port (omega arith) port_written in
-    let in_all = numeral_reads (z ∷ zs) 1 1000000 connections (omega arith) count_written in
-    let leads = serve_leads x y z xs ys zs (no_hyphen x plain) (no_hyphen y at_port.0) (no_hyphen z in_all.0) (Accepts-accepts false ports (y ∷ ys) at_port.1) in
-    let ends = serve_ends (x ∷ xs) (y ∷ ys) (z ∷ zs) (Accepts-accepts false counts (z ∷ zs) in_all.1) in
-    record {
-      faultless = serve_fault_below choices program (x ∷ xs) (y ∷ ys) (z ∷ zs) ∙ none_of_both _ _ (level_well serve_built _ _ leads ends) refl;
-      found = (
-        file_row (x ∷ xs) ∷ port_row (y ∷ ys) ∷ count_row (z ∷ zs) ∷ [],
-        serve_rows_below choices program (x ∷ xs) (y ∷ ys) (z ∷ zs) ∙ ap (λ (rows : List Row). Some (codes "serve", rows)) (rows_well serve_built _ _ leads),
-        (
-          refl,
-          record { text = y ∷ ys; found = refl; in_range = at_port.1; value = at_port.2 },
-          record { text = z ∷ zs; found = refl; in_range = in_all.1; value = in_all.2 },
-        ),
-      );
-    }
+    let port_read = numeral_reads (y ∷ ys) 1 65535 port (omega arith) port_written in
+    let count_read = numeral_reads (z ∷ zs) 1 1000000 connections (omega arith) count_written in (
+      one_at_a_time choices program x y z xs ys zs port connections plain port_read count_read,
+      at_any_limit choices program x y z xs ys zs port connections plain port_read count_read,
+    )

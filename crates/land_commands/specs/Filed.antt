@@ -1,10 +1,11 @@
 -- The commands `new`, `check` and `serve`, on files.
-use Rattle.std.specs.Prelude.{◌≡◌, ◌≢◌, ◌⊎◌, ◌<◌, ℕ, ℤ, List, [], ◌++◌, codes, decimal, length, take, Option}
-use Rattle.std.specs.Prelude.{Result, Ok, Err}
+use Rattle.std.specs.Prelude.{◌≡◌, ◌≢◌, ◌⊎◌, ◌<◌, ◌≤◌, ℕ, ℤ, List, [], ◌++◌, codes, decimal, length, take}
+use Rattle.std.specs.Prelude.{Option, Result, Ok, Err}
 use Rattle.std.specs.Fmt.{signed_decimal}
 use Rattle.std.specs.Io.KnownBytes.{Appends}
 use Rattle.land_commands.specs.ProgramFaults.{IsFaultOfClosing, IsFaultOfOpeningExisting, IsFaultOfOpening}
-use Rattle.land_commands.specs.ProgramFaults.{fault_of_adopting, fault_of_creating, fault_of_service}
+use Rattle.land_commands.specs.ProgramFaults.{fault_of_adopting, fault_of_creating, fault_of_pool}
+use Rattle.land_commands.specs.ProgramFaults.{fault_of_service}
 use Rattle.land_commands.specs.declared.program_fault.ProgramFault.{ProgramFault}
 use Rattle.land_commands.specs.declared.program_fault.ProgramFault.TheVariants as program
 use Rattle.land_desk.specs.Service.{ServesConnections, ReportsClosed}
@@ -12,6 +13,9 @@ use Rattle.land_desk.specs.declared.service.serving.ServiceFault.{ServiceFault}
 use Rattle.land_keep.specs.Keeping.{IsStateOf}
 use Rattle.land_keep.specs.Timeline.{new_timeline}
 use Rattle.land_keep.specs.declared.store_fault.StoreFault.{StoreFault}
+use Rattle.land_pool.specs.Endings.{Ending}
+use Rattle.land_pool.specs.Interleaving.{ReportsClosing, ServesAtOnce}
+use Rattle.land_pool.specs.declared.pool.PoolFault.{PoolFault}
 use Rattle.land_tables.specs.Adopting.{IsAdopted, IsRefused}
 use Rattle.land_tables.specs.Calls.{StaysOpenAndSame}
 use Rattle.land_tables.specs.TablesState.{IsCreated, IsHonest, IsOldOrCommitted, TablesState, held}
@@ -132,22 +136,65 @@ pub record Service (C : Type 0) : Type 1 where
   pub clock : C
   pub clock_after : C
 
--- A register is opened in a file and served.
-pub record ServesOpened {S C T : Type 0} (g : Ghosts S) (holds : State
-    → Type 0) (s : Service C) (r : Result T ServiceFault) : Type 0 where
+-- The endings of connections to a port that were recorded before a service and after it.
+pub record Endings : Type 0 where
+  pub old : Option (List Ending)
+  pub new : Option (List Ending)
+
+-- `wanted` of the pending connections are served on tables, several at the same time, if their store is
+-- honest.
+pub record ServesTablesAtOnce {S C T : Type 0} (g : Ghosts S) (reads : C → ℤ → C
+    → Type 0) (wanted : ℕ) (coming after : Option (List (Option (List ℕ)))) (endings : Endings)
+    (from : TablesState S) (clock : C) (to : TablesState S) (clock_after : C)
+    (r : Result T PoolFault) : Type 0 where
+  pub told : ReportsClosing r to.is_closed
+  pub was : IsHonest g to → IsHonest g from
+  pub served : IsHonest g to
+      → ServesAtOnce reads wanted
+      (record { closed = from.is_closed; timeline = held g from; clock = clock })
+      (IsStateOf (IsHonest g to) to.is_closed (held g to) clock_after) coming after endings.old endings.new r
+
+-- A register is opened in a file, and its tables are served.
+pub record ServesOpened {S T F : Type 0} (g : Ghosts S) (holds : State → Type 0)
+    (serves : TablesState S → TablesState S → Result T F → Type 0) (r : Result T F) : Type 0 where
   pub from : TablesState S
   pub to : TablesState S
   pub taken : IsOpened g holds from
-  pub served : ServesTables g s.reads s.wanted s.coming s.after from s.clock to s.clock_after r
+  pub served : serves from to r
 
--- As many connections are served as requested, and the file is closed. Or no register can be opened; or
+-- The tables in a file are served without a fault, and the file is closed. Or no register can be opened; or
 -- listening fails; or the service ends early; or closing fails.
-abbrev pub ServesFile : {S C T : Type 0} → Ghosts S → (holds : State → Type 0) → (closed : Held S → Type 0)
-    → Service C → Result T ProgramFault → Type 0
-ServesFile {S} {C} {T} g holds closed s (Ok done) =
-    (it : ServesOpened {T = T} g holds s (Ok done)) × closed it.to.conn
-ServesFile {S} {C} {T} g holds closed s (Err fault) =
+abbrev pub ServesFileBy : {S T F : Type 0} → Ghosts S → (holds : State → Type 0) → (closed : Held S → Type 0)
+    → (serves : TablesState S → TablesState S → Result T F → Type 0) → (reported : F → ProgramFault)
+    → Result T ProgramFault → Type 0
+ServesFileBy g holds closed serves reported (Ok done) =
+    (it : ServesOpened g holds serves (Ok done)) × closed it.to.conn
+ServesFileBy {S} {T} {F} g holds closed serves reported (Err fault) =
     IsNotOpenable g holds fault
     ⊎ (((o : TablesState S) × IsOpened g holds o × (fault ≡ program.Listen))
-    ⊎ (((why : ServiceFault) × ServesOpened {T = T} g holds s (Err why) × (fault ≡ fault_of_service why))
-    ⊎ ((done : T) × ServesOpened {T = T} g holds s (Ok done) × IsFaultOfClosing fault)))
+    ⊎ (((why : F) × ServesOpened g holds serves (Err why) × (fault ≡ reported why))
+    ⊎ ((done : T) × ServesOpened g holds serves (Ok done) × IsFaultOfClosing fault)))
+
+-- Connections are served one at a time, as many as requested.
+abbrev pub ServesFile : {S C T : Type 0} → Ghosts S → (holds : State → Type 0) → (closed : Held S → Type 0)
+    → Service C → Result T ProgramFault → Type 0
+ServesFile g holds closed s =
+    ServesFileBy g holds closed
+    (λ from to r. ServesTables g s.reads s.wanted s.coming s.after from s.clock to s.clock_after r)
+    fault_of_service
+
+-- The same, several at the same time.
+abbrev pub ServesFileAtOnce : {S C T : Type 0} → Ghosts S → (holds : State → Type 0)
+    → (closed : Held S → Type 0) → Service C → Endings → Result T ProgramFault → Type 0
+ServesFileAtOnce g holds closed s endings =
+    ServesFileBy g holds closed
+    (λ from to r.
+    ServesTablesAtOnce g s.reads s.wanted s.coming s.after endings from s.clock to s.clock_after r)
+    fault_of_pool
+
+-- Connections are served one at a time, or several at the same time if `at_once` is above 1.
+abbrev pub ServesRegister : {S C T : Type 0} → Ghosts S → (holds : State → Type 0)
+    → (closed : Held S → Type 0) → (at_once : ℕ) → Service C → Endings → Result T ProgramFault → Type 0
+ServesRegister g holds closed at_once s endings result =
+    (at_once ≤ 1 → ServesFile g holds closed s result)
+    × (1 < at_once → ServesFileAtOnce g holds closed s endings result)

@@ -3,7 +3,7 @@ use Rattle.std.specs.Prelude.{◌≡◌, ◌⊎◌, ℕ, ℤ, false, List, [], t
 use Rattle.std.specs.Prelude.{IfSome}
 use Rattle.std.specs.Io.KnownBytes.{Appends}
 use Rattle.land_commands.specs.Extracting.{ExtractsRegister, extract_request_of}
-use Rattle.land_commands.specs.Filed.{ChecksRegister, ServesFile, CreatesRegister}
+use Rattle.land_commands.specs.Filed.{ChecksRegister, CreatesRegister, ServesRegister}
 use Rattle.land_commands.specs.Migrating.{IsMigrating}
 use Rattle.land_commands.specs.ProgramFaults.{fault_of, line_of, status_of}
 use Rattle.land_commands.specs.CommandErrors.{denied_text}
@@ -23,6 +23,7 @@ use Rattle.land_desk.specs.declared.serve.DeskFault.{DeskFault}
 use Rattle.land_desk.specs.declared.serve.Served.{Served}
 use Rattle.land_keep.specs.Machine as machine
 use Rattle.land_keep.specs.Timeline.{new_timeline}
+use Rattle.land_pool.specs.Endings.{Ending}
 use Rattle.sqlite.specs.Held.{Held}
 use Rattle.sqlite.specs.State.{State}
 use Rattle.sqlite.specs.Store.{Ghosts}
@@ -71,19 +72,28 @@ ReportsExtracted (Err (command_error.Denied rule)) old new status = ReportsDenia
 ReportsExtracted (Err (command_error.Fault fault)) old new status =
     (status ≡ status_of fault) × WritesOrFails (line_of fault) old new
 
--- A host, as far as a command depends on it: the states that its files may have, when a file is closed, and
--- the pending connections to its ports before the command and after it.
+-- A host, as far as a command depends on it: the states that its files may have, when a file is closed, and,
+-- for each port, the pending connections and the recorded endings before the command and after it.
 pub record Files (S : Type 0) : Type 1 where
   pub holds : List ℕ → State → Type 0
   pub is_closed : Held S → Type 0
   pub coming : ℕ → Option (List (Option (List ℕ)))
   pub after : ℕ → Option (List (Option (List ℕ)))
+  pub ended : ℕ → Option (List Ending)
+  pub ended_after : ℕ → Option (List Ending)
 
 -- The host before a call and after it.
 abbrev pub files_of : {H S : Type 0} → (holds : List ℕ → State → Type 0) → (is_closed : Held S → Type 0)
-    → (coming : H → ℕ → Option (List (Option (List ℕ)))) → (old new : H) → Files S
-files_of holds is_closed coming old new =
-    record { holds = holds; is_closed = is_closed; coming = coming old; after = coming new }
+    → (coming : H → ℕ → Option (List (Option (List ℕ)))) → (ended : H → ℕ → Option (List Ending))
+    → (old new : H) → Files S
+files_of holds is_closed coming ended old new = record {
+  holds = holds;
+  is_closed = is_closed;
+  coming = coming old;
+  after = coming new;
+  ended = ended old;
+  ended_after = ended new;
+}
 
 -- Running commands on a host, with a clock.
 module _ {S C : Type 0} (g : Ghosts S) (h : Files S) (reads : C → ℤ → C → Type 0) where
@@ -97,8 +107,9 @@ module _ {S C : Type 0} (g : Ghosts S) (h : Files S) (reads : C → ℤ → C �
   RunsCommand (to_make file) input clock clock_after old new old_errors new_errors status =
       (done : Result (Unit {0}) ProgramFault) × CreatesRegister g (h.holds file) h.is_closed done
       × Appends old new [] × ReportsDone done old_errors new_errors status
-  RunsCommand (to_serve file port connections) input clock clock_after old new old_errors new_errors status =
-      (done : Result (Unit {0}) ProgramFault) × ServesFile g (h.holds file) h.is_closed
+  RunsCommand (to_serve file port connections at_once) input clock clock_after old new old_errors new_errors
+      status =
+      (done : Result (Unit {0}) ProgramFault) × ServesRegister g (h.holds file) h.is_closed at_once
       (record {
         reads = reads;
         wanted = connections;
@@ -106,7 +117,7 @@ module _ {S C : Type 0} (g : Ghosts S) (h : Files S) (reads : C → ℤ → C �
         after = h.after port;
         clock = clock;
         clock_after = clock_after;
-      }) done
+      }) (record { old = h.ended port; new = h.ended_after port }) done
       × Appends old new [] × ReportsDone done old_errors new_errors status
   RunsCommand (to_check file) input clock clock_after old new old_errors new_errors status =
       (done : Result (Unit {0}) ProgramFault) × ChecksRegister g (h.holds file) old new done

@@ -10,6 +10,8 @@ use Rattle.land_desk.specs.declared.service.serving.ServiceFault.{ServiceFault}
 use Rattle.land_desk.specs.declared.service.serving.ServiceFault.TheVariants as service
 use Rattle.land_keep.specs.declared.store_fault.StoreFault.{StoreFault}
 use Rattle.land_keep.specs.declared.store_fault.StoreFault.TheVariants as store
+use Rattle.land_pool.specs.declared.pool.PoolFault.{PoolFault}
+use Rattle.land_pool.specs.declared.pool.PoolFault.TheVariants as pool
 use Rattle.land_tables.specs.declared.fault.AdoptFault.{AdoptFault}
 use Rattle.land_tables.specs.declared.fault.AdoptFault.TheVariants as adopt
 
@@ -38,6 +40,12 @@ fault_of_adopting adopt.Store = program.Closed
 abbrev pub fault_of_service : ServiceFault → ProgramFault
 fault_of_service service.Closed = program.Closed
 fault_of_service service.Accept = program.Stream
+
+-- The fault for a service of several connections at the same time that ended early.
+abbrev pub fault_of_pool : PoolFault → ProgramFault
+fault_of_pool pool.Closed = program.Closed
+fault_of_pool pool.Accept = program.Stream
+fault_of_pool pool.NoMemory = program.NoMemory
 
 -- Reading the arguments failed: out of memory, or one is not valid UTF-8.
 abbrev pub IsFaultOfWords : ErrorKind → ProgramFault → Type 0

@@ -1,10 +1,11 @@
 //! The commands `new`, `check` and `serve`, on files.
 ghost use Rattle.std.specs.Prelude.{◌≡◌, string_bytes, IfErr, IfOk, OnOk};
-ghost use Rattle.land_commands.specs.Filed.{ChecksRegister, ServesFile, OpensRegister, CreatesRegister};
-ghost use Rattle.land_commands.specs.Filed.{ServesTables};
+ghost use Rattle.land_commands.specs.Filed.{ChecksRegister, OpensRegister, CreatesRegister};
+ghost use Rattle.land_commands.specs.Filed.{ServesFile, ServesRegister, ServesTables};
 ghost use Rattle.land_commands.specs.Filed.{check_text};
 ghost use Rattle.land_commands.specs.ProgramFaults.{IsFaultOfClosing};
 
+use crate::at_once_command::serve_file_at_once;
 use crate::host::Host;
 use crate::program_fault::ProgramFault;
 use land_desk::service::connections::Connections;
@@ -45,6 +46,7 @@ pub(crate) fn open_register<H: Host>(
 ) -> Result<Tables<H::Store>, ProgramFault>
     ensures finding { OpensRegister H.Store.Store (H.holds file.now) result }
     ensures port { H.coming host.new ≡ H.coming host.old }
+    ensures ended { H.ended host.new ≡ H.ended host.old }
 {
     let conn = host.open_existing(file)?;
     match Tables::adopt(host.alloc(), conn) {
@@ -75,6 +77,32 @@ fn check_line(alloc: Global, last: i64, next: u64) -> Result<String, AllocError>
     ensures { IfOk result (λ text. string_bytes text ≡ check_text last next) }
 {
     format!(in alloc; "sound: last {last}, next {next}\n")
+}
+
+/// Serves the first `connections` connections to a port on the register in a file: one at a time, or at most
+/// `at_once` of them at the same time if that is above 1.
+pub fn serve_register<H: Host, C: Clock>(
+    host: &mut H,
+    file: &str,
+    port: u16,
+    connections: u32,
+    at_once: u16,
+    clock: &mut C,
+) -> Result<(), ProgramFault>
+    ensures { ServesRegister H.Store.Store (H.holds file.now) H.is_closed at_once (record {
+      reads = C.reads;
+      wanted = connections;
+      coming = H.coming host.old port;
+      after = H.coming host.new port;
+      clock = clock.old;
+      clock_after = clock.new;
+    }) (record { old = H.ended host.old port; new = H.ended host.new port }) result }
+{
+    if at_once <= 1 {
+        serve_file(host, file, port, connections, clock)
+    } else {
+        serve_file_at_once(host, file, port, connections, at_once, clock)
+    }
 }
 
 /// Serves the first `connections` connections to a port, one at a time, on the register in a file.

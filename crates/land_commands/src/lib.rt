@@ -1,6 +1,7 @@
 //! The commands of the program, on files, streams and a clock that are passed in.
 #![tactic(auto)]
 
+pub mod at_once_command;
 pub mod command_error;
 pub mod extract_command;
 pub mod file_commands;

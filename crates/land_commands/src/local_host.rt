@@ -11,6 +11,7 @@ use crate::host::Host;
 use crate::program_fault::ProgramFault;
 use land_desk::service::callers::Callers;
 use land_desk::service::timer::RequestTimer;
+use land_port::port::Port;
 use sqlite::{Connection, Error, ErrorCode, FileFrom, FileStore, Start, Wary};
 use std::alloc::Global;
 use std::fs::File;
@@ -121,6 +122,8 @@ impl<'a> Host for LocalHost<'a> {
 
     type Listener = Callers<'a, HostRuntime>;
 
+    type Source = Port<HostRuntime>;
+
     ghost holds = { λ _ s. FindsIn (image_at ⟦<Wary as Start>⟧) s };
 
     ghost is_closed = { λ c. IsClosedFile c };
@@ -169,5 +172,13 @@ impl<'a> Host for LocalHost<'a> {
 
     fn stop_listening(&mut self, _port: u16, listener: Callers<'a, HostRuntime>) {
         drop(listener);
+    }
+
+    fn listen_at_once(&mut self, port: u16) -> io::Result<Port<HostRuntime>> {
+        Port::listen(self.rt, &self.rt, self.rt.alloc(), port)
+    }
+
+    fn stop_listening_at_once(&mut self, _port: u16, mut source: Port<HostRuntime>) {
+        source.drain();
     }
 }

@@ -22,7 +22,8 @@ pub fn run_args<H: Host, I: Read, O: Write, E: Write, C: Clock>(
     errors: &mut E,
     clock: &mut C,
 ) -> u8
-    ensures { RunsArguments H.Store.Store (files_of H.holds H.is_closed H.coming host.old host.new) C.reads
+    ensures { RunsArguments H.Store.Store
+        (files_of H.holds H.is_closed H.coming H.ended host.old host.new) C.reads
         (map string_bytes words.now) (I.remaining input.old) clock.old clock.new
         (O.contents output.old) (O.contents output.new)
         (E.contents errors.old) (E.contents errors.new) result }

@@ -2,12 +2,13 @@
 ghost use Rattle.std.specs.Prelude.{◌≡◌};
 ghost use Rattle.std.specs.IoError.{error_kind};
 ghost use Rattle.land_commands.specs.ProgramFaults.{fault_of, fault_of_adopting, fault_of_creating};
-ghost use Rattle.land_commands.specs.ProgramFaults.{fault_of_service};
+ghost use Rattle.land_commands.specs.ProgramFaults.{fault_of_pool, fault_of_service};
 ghost use Rattle.land_commands.specs.ProgramFaults.{IsFaultOfWords, line_of, status_of};
 
 use land_desk::serve::DeskFault;
 use land_desk::service::serving::ServiceFault;
 use land_keep::store_fault::StoreFault;
+use land_pool::pool::PoolFault;
 use land_tables::fault::AdoptFault;
 use std::alloc::AllocError;
 use std::io;
@@ -120,6 +121,19 @@ impl From<ServiceFault> for ProgramFault {
         match fault {
             ServiceFault::Closed => ProgramFault::Closed,
             ServiceFault::Accept => ProgramFault::Stream,
+        }
+    }
+}
+
+/// From a service of several connections at the same time that ended early.
+impl From<PoolFault> for ProgramFault {
+    ghost from_gives = { λ from to. to ≡ fault_of_pool from };
+
+    fn from(fault: PoolFault) -> ProgramFault {
+        match fault {
+            PoolFault::Closed => ProgramFault::Closed,
+            PoolFault::Accept => ProgramFault::Stream,
+            PoolFault::NoMemory => ProgramFault::NoMemory,
         }
     }
 }

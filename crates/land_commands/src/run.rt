@@ -12,7 +12,7 @@ ghost use Rattle.sqlite.specs.Steps.{over_memory};
 
 use crate::command_error::CommandError;
 use crate::extract_command::{ExtractRequest, extract};
-use crate::file_commands::{check, create_register, serve_file};
+use crate::file_commands::{check, create_register, serve_register};
 use crate::fixed_clock::FixedClock;
 use crate::host::Host;
 use crate::migrate_command::migrate;
@@ -38,7 +38,8 @@ pub fn run_command<H: Host, I: Read, O: Write, E: Write, C: Clock>(
     errors: &mut E,
     clock: &mut C,
 ) -> u8
-    ensures { RunsCommand H.Store.Store (files_of H.holds H.is_closed H.coming host.old host.new) C.reads
+    ensures { RunsCommand H.Store.Store
+        (files_of H.holds H.is_closed H.coming H.ended host.old host.new) C.reads
         (order_of command.entry) (I.remaining input.old) clock.old clock.new
         (O.contents output.old) (O.contents output.new)
         (E.contents errors.old) (E.contents errors.new) result }
@@ -53,7 +54,11 @@ pub fn run_command<H: Host, I: Read, O: Write, E: Write, C: Clock>(
             file,
             port,
             connections,
-        } => report_done(errors, serve_file(host, file, port, connections, clock)),
+            at_once,
+        } => {
+            let done = serve_register(host, file, port, connections, at_once, clock);
+            report_done(errors, done)
+        }
         Command::Check { file } => report_done(errors, check(host, file, output)),
         Command::Migrate { file } => report_done(errors, migrate(host, file, output)),
         Command::Extract {

@@ -3,9 +3,9 @@ use Rattle.std.proofs.Common.{◌≡◌, ℕ, ℤ, ◌+◌, List, [], ◌∷◌,
 use Rattle.std.specs.Io.KnownBytes.{prepend_known}
 use Rattle.land_core.specs.declared.ask.Request.{Request}
 use Rattle.land_desk.proofs.ServingLemmas.{begins, goes_on, nothing_done}
-use Rattle.land_desk.specs.Serving.{RepliesTo, ForwardSimulation, Exchange, ServesPrefix, StepOf, StepIfHonest, ServesAll, ServesByRun, ServesItem, Serves, ServesToSome, HasServed, HandlesOr501}
+use Rattle.land_desk.specs.Serving.{AnswersItem, RepliesTo, ForwardSimulation, Exchange, ServesPrefix, StepOf, StepIfHonest, ServesAll, ServesByRun, ServesItem, Serves, ServesToSome, HasServed, HandlesOr501}
 use Rattle.land_desk.specs.Serving.Asking.{IfBoth}
-use Rattle.land_desk.specs.Turns.{ServesNext}
+use Rattle.land_desk.proofs.KnownNext.{ServesKnown}
 use Rattle.land_desk.specs.declared.serve.DeskFault.{DeskFault}
 use Rattle.land_desk.specs.declared.serve.DeskFault.TheVariants as desk
 use Rattle.land_desk.specs.declared.serve.Served.{Served}
@@ -78,7 +78,7 @@ module _ {C : Type 0} (step later : State C → Request → Reply → State C �
     -- the connection stays open
     pub keeps_on : (start before after w u v : Option (List ℕ)) (n : ℕ) (t : AfterItem) → t ≡ next_item.KeepAlive
         → IfBoth start before (λ bytes rest. (now : State C) × HasServed step bytes rest from now w u n × stood now)
-        → IfSome before (λ rest. ForwardSimulation stood stands (λ now to. ServesNext later rest now to after u v (Ok t)))
+        → IfSome before (λ rest. ForwardSimulation stood stands (λ now to. ServesKnown later rest now to after u v (Ok t)))
         → IfBoth start after (λ bytes rest. (to : State C) × HasServed later bytes rest from to w v (n + 1) × stands to)
     keeps_on None before after w u v n t is so brings = tt
     keeps_on (Some bytes) None after w u v n t is so brings = absurd so
@@ -119,3 +119,9 @@ pub serves_honestly : {C : Type 0} (reads : C → ℤ → C → Type 0) (honest 
     → Serves (StepIfHonest honest reads) bytes from to old new result → ServesByRun reads bytes from to old new result
 serves_honestly reads honest trust bytes from to old new result s =
     serves_later (StepIfHonest honest reads) (StepOf reads) (step_honestly reads honest trust) bytes from to old new result s
+
+-- on an honest store, an item is answered by the model
+pub answers_honestly : {C : Type 0} (reads : C → ℤ → C → Type 0) (honest : Type 0) → honest
+    → (from : State C) (x : Exchange) (to : State C) → AnswersItem (StepIfHonest honest reads) from x to → AnswersItem (StepOf reads) from x to
+answers_honestly reads honest trust from x to answers =
+    (answers_later (StepIfHonest honest reads) (StepOf reads) (step_honestly reads honest trust) from x.item x.reply to answers.0, answers.1)

@@ -2,6 +2,7 @@
 pub mod Asking
 pub mod ExchangeLemmas
 pub mod Honesty
+pub mod KnownNext
 pub mod Moving
 pub mod ResponseLemmas
 pub mod ServingLemmas

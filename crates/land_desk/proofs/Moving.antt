@@ -17,13 +17,9 @@ module _ {C : Type 0} (step : State C → Request → Reply → State C → Type
   told_heard (Ok asked) from r to (inl none) = inl none.1
   told_heard (Ok asked) from r to (inr heard) = inr (asked, r, heard)
 
-  reply_steps : (from : State C) (item : Item) (r : Reply) (to : State C) → RepliesTo step from item r to → MayStep step from to
+  pub reply_steps : (from : State C) (item : Item) (r : Reply) (to : State C) → RepliesTo step from item r to → MayStep step from to
   reply_steps from (request h body) r to is = told_heard (reading h.method h.target (field_map (fields_of h)) body) from r to is
   reply_steps from (faulty f) r to is = inl is.1
-
-  -- an answered item is a request that caused a transition, or changes nothing
-  pub one_step : (bytes : List ℕ) (from : State C) (x : Exchange) (rest : List ℕ) (to : State C) → ServesItem step bytes from x rest to → MayStep step from to
-  one_step bytes from x rest to one = reply_steps from x.item x.reply to one.1
 
   -- no transition
   pub reach_self : (from : State C) → Reachable step from from

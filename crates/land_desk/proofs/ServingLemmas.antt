@@ -7,7 +7,7 @@ use Rattle.std.proofs.lemmas.Bool.{false≢true}
 use Rattle.land_core.specs.declared.ask.Request.{Request}
 use Rattle.land_desk.specs.Serving.{Exchange, ServesItem, ServesPrefix, ServesAll, Serves, ServesItemsInOrder, HasServed, closes, closing, all_sent}
 use Rattle.land_desk.specs.Serving.Asking.{IfBoth}
-use Rattle.land_desk.specs.Turns.{ServesNext}
+use Rattle.land_desk.proofs.KnownNext.{ServesKnown}
 use Rattle.land_desk.specs.declared.serve.DeskFault.{DeskFault}
 use Rattle.land_desk.specs.declared.serve.DeskFault.TheVariants as desk
 use Rattle.land_desk.specs.declared.next_item.AfterItem.{AfterItem}
@@ -63,12 +63,12 @@ module _ {C : Type 0} (step : State C → Request → Reply → State C → Type
 
   pub goes_on : (start before after : Option (List ℕ)) (from now to : State C) (w u v : Option (List ℕ)) (n : ℕ) (t : AfterItem) → t ≡ next_item.KeepAlive
       → IfBoth start before (λ bytes rest. HasServed step bytes rest from now w u n)
-      → IfSome before (λ rest. ServesNext step rest now to after u v (Ok t))
+      → IfSome before (λ rest. ServesKnown step rest now to after u v (Ok t))
       → IfBoth start after (λ bytes rest. HasServed step bytes rest from to w v (n + 1))
   goes_on None before after from now to w u v n t is so given = tt
   goes_on (Some bytes) None after from now to w u v n t is so given = absurd so
   goes_on (Some bytes) (Some rest) after from now to w u v n t is so given =
-      let one = subst (λ (r : AfterItem). ServesNext step rest now to after u v (Ok r)) is given in
+      let one = subst (λ (r : AfterItem). ServesKnown step rest now to after u v (Ok r)) is given in
       let xs = so.0 in
       let x = one.0 in
       subst (λ (o : Option (List ℕ)). IfBoth (Some bytes) o (λ bytes rest. HasServed step bytes rest from to w v (n + 1))) (sym one.5) (
@@ -80,12 +80,12 @@ module _ {C : Type 0} (step : State C → Request → Reply → State C → Type
 
   pub serves_end : (start before after : Option (List ℕ)) (from now to : State C) (w u v : Option (List ℕ)) (n : ℕ) (t : AfterItem) → t ≡ next_item.Eof
       → IfBoth start before (λ bytes rest. HasServed step bytes rest from now w u n)
-      → IfSome before (λ rest. ServesNext step rest now to after u v (Ok t))
+      → IfSome before (λ rest. ServesKnown step rest now to after u v (Ok t))
       → IfSome start (λ bytes. Serves step bytes from to w v (Ok (record { replies = n })))
   serves_end None before after from now to w u v n t is so given = tt
   serves_end (Some bytes) None after from now to w u v n t is so given = absurd so
   serves_end (Some bytes) (Some rest) after from now to w u v n t is so given =
-      let one = subst (λ (r : AfterItem). ServesNext step rest now to after u v (Ok r)) is given in (
+      let one = subst (λ (r : AfterItem). ServesKnown step rest now to after u v (Ok r)) is given in (
         so.0,
         subst (λ (s : State C). ServesAll step bytes from so.0 s) (sym one.1) (goes_to_end bytes rest from now so.0 so.1 one.0),
         subst (λ (t : List ℕ). Appends w v t) (append-nil (all_sent so.0)) (Appends-trans w u v (all_sent so.0) [] so.2 one.2),
@@ -94,12 +94,12 @@ module _ {C : Type 0} (step : State C → Request → Reply → State C → Type
 
   pub serves_last : (start before after : Option (List ℕ)) (from now to : State C) (w u v : Option (List ℕ)) (n : ℕ) (t : AfterItem) → t ≡ next_item.Close
       → IfBoth start before (λ bytes rest. HasServed step bytes rest from now w u n)
-      → IfSome before (λ rest. ServesNext step rest now to after u v (Ok t))
+      → IfSome before (λ rest. ServesKnown step rest now to after u v (Ok t))
       → IfSome start (λ bytes. Serves step bytes from to w v (Ok (record { replies = n + 1 })))
   serves_last None before after from now to w u v n t is so given = tt
   serves_last (Some bytes) None after from now to w u v n t is so given = absurd so
   serves_last (Some bytes) (Some rest) after from now to w u v n t is so given =
-      let one = subst (λ (r : AfterItem). ServesNext step rest now to after u v (Ok r)) is given in (
+      let one = subst (λ (r : AfterItem). ServesKnown step rest now to after u v (Ok r)) is given in (
         so.0 ++ one.0 ∷ [],
         goes_to_last bytes rest one.1 from now to so.0 one.0 so.1 one.2 one.3,
         subst (λ (t : List ℕ). Appends w v t) (said_more so.0 one.0) (Appends-trans w u v (all_sent so.0) one.0.sent so.2 one.4),
@@ -117,7 +117,7 @@ module _ {C : Type 0} (step : State C → Request → Reply → State C → Type
 
   pub serves_fault : (start before after : Option (List ℕ)) (from now to : State C) (w u v : Option (List ℕ)) (n : ℕ) (e : DeskFault)
       → IfBoth start before (λ bytes rest. HasServed step bytes rest from now w u n)
-      → IfSome before (λ rest. ServesNext step rest now to after u v (Err e))
+      → IfSome before (λ rest. ServesKnown step rest now to after u v (Err e))
       → IfSome start (λ bytes. Serves step bytes from to w v (Err e))
   serves_fault None before after from now to w u v n e so one = tt
   serves_fault (Some bytes) None after from now to w u v n e so one = absurd so

@@ -1,7 +1,7 @@
 -- Contracts of serving, as relations between a keeper and a clock before a call and after it.
 use Rattle.std.specs.Prelude.{ℕ, ℤ, Bool, List, ◌++◌, drop, Option, Result, Ok, IfSome}
 use Rattle.land_core.specs.declared.ask.Request.{Request}
-use Rattle.land_desk.specs.Serving.{Handles, HandlesOr501, StepIfHonest, MayStep, ReachesSome, ServesToSome}
+use Rattle.land_desk.specs.Serving.{Handles, HandlesOr501, StepIfHonest, ReachesSome, ServesToSome}
 use Rattle.land_desk.specs.Turns.{IsResponseTo, ServesNext, AnswersFirst}
 use Rattle.land_desk.specs.declared.handler.Response.{Response}
 use Rattle.land_desk.specs.declared.serve.DeskFault.{DeskFault}
@@ -37,14 +37,8 @@ module _ {K C : Type 0} (g : Ghosts K) (reads : C → ℤ → C → Type 0) wher
   -- behind it.
   abbrev pub ServesFirst : (keeper : K) → (clock : C) → (after : K) → (late : C)
       → (input left old new : Option (List ℕ)) → Result AfterItem DeskFault → Type 0
-  ServesFirst keeper clock after late input left old new result =
-      IfSome input (λ bytes. Simulates g keeper clock after late
-      (λ from to. ServesNext (StepIfHonest (g.honest after) reads) bytes from to left old new result))
-
-  -- The model makes at most one transition.
-  abbrev pub StepsAtMostOnce : (keeper : K) → (clock : C) → (after : K) → (late : C) → Type 0
-  StepsAtMostOnce keeper clock after late =
-      Simulates g keeper clock after late (MayStep (StepIfHonest (g.honest after) reads))
+  ServesFirst keeper clock after late input left old new result = Simulates g keeper clock after late
+      (λ from to. ServesNext (StepIfHonest (g.honest after) reads) input left from to old new result)
 
   -- The response is the one for the request of `size` bytes at the start of the bytes, no matter which bytes
   -- follow.

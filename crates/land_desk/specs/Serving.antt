@@ -121,6 +121,11 @@ ReachesSome {C} step from stands = (to : State C) × Reachable step from to × s
 
 -- ---- items of known bytes
 
+-- An item of any stream gets this reply, and its response is sent.
+abbrev pub AnswersItem : {C : Type 0} → Transition C → State C → Exchange → State C → Type 0
+AnswersItem step from x to =
+    RepliesTo step from x.item x.reply to × IsResponse x.reply (closing x) (is_head_request x.item) x.sent
+
 -- The first item of the bytes gets this reply, and its response is sent. `rest` follows the item.
 abbrev pub ServesItem : {C : Type 0} → Transition C → List ℕ → State C → Exchange → List ℕ → State C → Type 0
 ServesItem step bytes from x rest to =

@@ -1,10 +1,10 @@
 -- Responses, and serving the first item of a stream.
 use Rattle.std.specs.Prelude.{◌≡◌, ℕ, ◌+◌, ◌*◌, ◌<◌, ◌≤◌, Bool, true, false, ◌||◌, List, [], ◌++◌, length}
 use Rattle.std.specs.Prelude.{take}
-use Rattle.std.specs.Prelude.{◌⊎◌, Option, Some, Result, Ok, Err, IfErr, IfOk}
-use Rattle.std.specs.Io.KnownBytes.{Appends, prepend_known}
+use Rattle.std.specs.Prelude.{◌⊎◌, Option, Some, Result, Ok, Err, IfErr, IfOk, IfSome}
+use Rattle.std.specs.Io.KnownBytes.{Appends, Keeps, prepend_known}
 use Rattle.land_desk.specs.Responses.{IsResponse}
-use Rattle.land_desk.specs.Serving.{Exchange, ServesItem, Transition, closes, closing}
+use Rattle.land_desk.specs.Serving.{AnswersItem, Exchange, ServesItem, Transition, closes, closing}
 use Rattle.land_desk.specs.Serving.Asking.{ReadsForFirst, IfBoth}
 use Rattle.land_desk.specs.declared.handler.Response.{Response}
 use Rattle.land_desk.specs.declared.handler.ResponseBytes.{ResponseBytes}
@@ -15,6 +15,7 @@ use Rattle.land_desk.specs.declared.next_item.AfterItem.{AfterItem}
 use Rattle.land_desk.specs.declared.next_item.AfterItem.TheVariants as next_item
 use Rattle.land_keep.specs.Machine.{State}
 use Rattle.land_keep.specs.declared.reply.Reply.{Reply}
+use Rattle.land_wire.specs.Framing.Items.{IsItem}
 
 -- The bytes of a response.
 abbrev pub wire_bytes : ResponseBytes → List ℕ
@@ -50,22 +51,29 @@ SendsResponse bytes close_after old new (Err desk.Write) = (n : ℕ) × Appends 
 SendsResponse bytes close_after old new (Err desk.Read) = ⊥
 SendsResponse bytes close_after old new (Err desk.NoMemory) = ⊥
 
--- Serving the first item of known bytes. `left`: the bytes that remain.
-abbrev pub ServesNext : {C : Type 0} → Transition C → List ℕ → State C → State C → (left : Option (List ℕ))
+-- Serving the first item of a stream, by at most one transition. `input` and `left`: its bytes before and after,
+-- if they are known.
+abbrev pub ServesNext : {C : Type 0} → Transition C → (input left : Option (List ℕ)) → State C → State C
     → (old new : Option (List ℕ)) → Result AfterItem DeskFault → Type 0
-ServesNext step bytes from to left old new (Ok next_item.Eof) = (bytes ≡ []) × (to ≡ from)
-    × Appends old new []
-ServesNext step bytes from to left old new (Ok next_item.Close) =
-    (x : Exchange) × (rest : List ℕ) × ServesItem step bytes from x rest to × (closing x ≡ true)
+ServesNext step input left from to old new (Ok next_item.Eof) =
+    IfSome input (λ bytes. bytes ≡ []) × (to ≡ from) × Appends old new []
+ServesNext step input left from to old new (Ok next_item.Close) =
+    (x : Exchange) × AnswersItem step from x to
+    × IfSome input (λ bytes. (rest : List ℕ) × IsItem bytes x.item rest) × (closing x ≡ true)
     × Appends old new x.sent
-ServesNext step bytes from to left old new (Ok next_item.KeepAlive) =
-    (x : Exchange) × (rest : List ℕ) × ServesItem step bytes from x rest to × (closing x ≡ false)
-    × Appends old new x.sent × (left ≡ Some rest)
-ServesNext step bytes from to left old new (Err desk.Write) =
-    (x : Exchange) × (rest : List ℕ) × (n : ℕ) × ServesItem step bytes from x rest to
-    × Appends old new (take n x.sent)
-ServesNext step bytes from to left old new (Err desk.Read) = (to ≡ from) × Appends old new []
-ServesNext step bytes from to left old new (Err desk.NoMemory) = (to ≡ from) × Appends old new []
+ServesNext step input left from to old new (Ok next_item.KeepAlive) =
+    (x : Exchange) × AnswersItem step from x to
+    × IfBoth input left (λ bytes rest. IsItem bytes x.item rest) × (closing x ≡ false)
+    × Appends old new x.sent
+ServesNext step input left from to old new (Err desk.Write) =
+    (x : Exchange) × AnswersItem step from x to
+    × IfSome input (λ bytes. (rest : List ℕ) × IsItem bytes x.item rest)
+    × (n : ℕ) × Appends old new (take n x.sent)
+-- Nothing was answered, and no byte is lost. The item can be served later.
+ServesNext step input left from to old new (Err desk.Read) =
+    (to ≡ from) × Keeps input left × Appends old new []
+ServesNext step input left from to old new (Err desk.NoMemory) =
+    (to ≡ from) × Keeps input left × Appends old new []
 
 -- How far the reader was read to serve one item. `buffer`: the bytes read ahead. `left`: the bytes still in
 -- the reader.

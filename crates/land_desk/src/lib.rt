@@ -3,7 +3,7 @@
 
 pub mod handler;
 pub mod laws;
-mod next_item;
+pub mod next_item;
 pub mod response;
 pub mod serve;
 pub mod service;

@@ -4,7 +4,7 @@ ghost use Rattle.std.specs.Io.KnownBytes.{prepend_known};
 ghost use Rattle.httparse.specs.Grammar.{RequestHead};
 ghost use Rattle.httparse.specs.Spans.{IsRequestAt, span_bytes};
 ghost use Rattle.land_core.specs.Acts.{is_well_formed_request};
-ghost use Rattle.land_desk.specs.Keepers.{AnswersRequest, ServesFirst, StepsAtMostOnce};
+ghost use Rattle.land_desk.specs.Keepers.{AnswersRequest, ServesFirst};
 ghost use Rattle.land_desk.specs.Turns.{CountsFailedRead, SendsResponse, MakesProgress, ReadsOnlyItem};
 ghost use Rattle.land_desk.specs.Turns.{StaysWithinBudget, wire_bytes};
 ghost use Rattle.land_keep.specs.Keepers.{WasHonest};
@@ -12,6 +12,7 @@ ghost use Rattle.land_keep.specs.Machine.{at_of};
 ghost use Rattle.land_wire.specs.Fields.{field_map};
 ghost use Rattle.land_wire.specs.Framing.Frame.{fields_of};
 ghost use Rattle.land_wire.specs.Framing.Items.{IsRequestIn};
+ghost use Rattle.land_wire.specs.Framing.Reads.{StaysWithin, input_limit};
 ghost use Rattle.land_wire.specs.Framing.Stream.{field_room};
 ghost use Rattle.land_wire.specs.Laws.{IsExplicitMoment};
 ghost use Rattle.land_wire.specs.Reading.{reading};
@@ -51,8 +52,10 @@ pub enum AfterItem {
 
 /// Serves the first item of `buffer` followed by the bytes of `reader`, and removes its bytes from `buffer`.
 ///
-/// Does not read once the item is complete. Errors: those of `DeskFault`.
-pub(crate) fn serve_next_item<R: Read, W: Write, K: Keeper, C: Clock>(
+/// Does not read once the item is complete. Errors: those of `DeskFault`. After `Read` and `NoMemory` nothing was
+/// answered and no byte is lost: the bytes that were read are in `buffer`, and the item can be served later. So a
+/// reader that does not block may fail where it would.
+pub fn serve_next_item<R: Read, W: Write, K: Keeper, C: Clock>(
     alloc: Global,
     router: &Router<Endpoint>,
     reader: &mut CountedReader<'_, R>,
@@ -69,7 +72,6 @@ pub(crate) fn serve_next_item<R: Read, W: Write, K: Keeper, C: Clock>(
         (prepend_known buffer.old.items (R.remaining reader.old.reader.now))
         (prepend_known buffer.new.items (R.remaining reader.new.reader.now))
         (W.contents writer.old) (W.contents writer.new) result }
-    ensures step { StepsAtMostOnce K.Keeper C.reads keeper.old clock.old keeper.new clock.new }
     ensures was { WasHonest K.Keeper keeper.old keeper.new }
     ensures reads { ReadsOnlyItem buffer.old.items buffer.new.items
         (R.remaining reader.old.reader.now) (R.remaining reader.new.reader.now) result }
@@ -77,6 +79,7 @@ pub(crate) fn serve_next_item<R: Read, W: Write, K: Keeper, C: Clock>(
         (R.remaining reader.old.reader.now) (R.remaining reader.new.reader.now)
         reader.old.left reader.new.left }
     ensures same_reference { reader.new.reader.ghost_name ≡ reader.old.reader.ghost_name }
+    ensures limit { StaysWithin input_limit buffer.old.items buffer.new.items }
     ensures fewer { reader.new.left ≤ reader.old.left }
     ensures progress { MakesProgress buffer.old.items buffer.new.items
         reader.old.left reader.new.left result }

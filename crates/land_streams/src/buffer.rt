@@ -26,6 +26,7 @@ pub fn read_more<R: Read>(
     ensures fewer { reader.new.left ≤ reader.old.left }
     ensures bound { length buffer.new.items + 1024 * reader.new.left
         ≤ length buffer.old.items + 1024 * reader.old.left }
+    ensures limit { length buffer.new.items ≤ length buffer.old.items + 1024 }
     ensures grows { IfOk result (λ n. (piece : List ℕ) × (length piece ≡ n)
         × (buffer.new.items ≡ buffer.old.items ++ piece)
         × Consumes (R.remaining reader.old.reader.now) (R.remaining reader.new.reader.now) piece) }
@@ -70,6 +71,8 @@ pub fn read_to<R: Read>(
     ensures unread { end ≤ length buffer.old.items → reader.new ≡ reader.old }
     ensures ahead { length buffer.old.items < end + 1024
         → IfOk result (λ w. length buffer.new.items < end + 1024) }
+    ensures limit { (most : ℕ) → end + 1023 ≤ most → length buffer.old.items ≤ most
+        → length buffer.new.items ≤ most }
     ensures same_reference { reader.new.reader.ghost_name ≡ reader.old.reader.ghost_name }
     ensures whole { IfOk result (λ w. w ≡ true → end ≤ length buffer.new.items) }
     ensures cut { IfOk result

@@ -34,6 +34,13 @@ impl<'a, R> CountedReader<'a, R> {
     {
         CountedReader { reader, left }
     }
+
+    /// Returns the number of reads left.
+    pub fn left(&self) -> u64
+        ensures { result ≡ self.now.left }
+    {
+        self.left
+    }
 }
 
 impl<R: Read> CountedReader<'_, R> {

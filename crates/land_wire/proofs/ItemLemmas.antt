@@ -334,6 +334,13 @@ head_ahead bytes headers spans o e is read =
           (head_within bytes n h _ head (omega (arith, all, at.len)))))
     ]
 
+-- a head has at most 8192 bytes
+pub head_small : (bytes : List ℕ) (headers : List HeaderSpan) (spans : RequestSpans) (o : HeadResult) → o ≡ found.Whole spans → IsHeadIn bytes headers o
+    → spans.len ≤ 8192
+head_small bytes headers spans o e is =
+    let here = subst (λ (k : HeadResult). IsHeadIn bytes headers k) e is in
+    omega (arith, here.1.2, here.1.1.len)
+
 pub fault_read : (bytes : List ℕ) (f : FrameFault) (empty : Bool) → LastReadWasNeeded bytes → ReadsUpTo bytes (next_of_fault f empty)
 fault_read bytes fault.Head empty read = inr read
 fault_read bytes fault.HeadLong empty read = inr read

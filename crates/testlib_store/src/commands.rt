@@ -33,6 +33,8 @@ enum Deed {
     Migrate,
     /// Serves one connection on this port.
     Serve(u16),
+    /// Serves one connection on this port, as a service of several at the same time.
+    ServeAtOnce(u16),
     /// Extracts the entries that this party sees in this role, at a moment or now.
     Extract(u64, Role, Option<i64>),
 }
@@ -67,6 +69,13 @@ fn command(deed: Deed, file: &'static str) -> Command<'static> {
             file,
             port,
             connections: 1,
+            at_once: 1,
+        },
+        Deed::ServeAtOnce(port) => Command::Serve {
+            file,
+            port,
+            connections: 1,
+            at_once: 2,
         },
         Deed::Extract(party, role, at) => Command::Extract {
             file,
@@ -366,6 +375,7 @@ const CANNOT_BE_OPENED: &[Step] = &[
     Step(Deed::Check, 1, "", CANNOT_OPEN),
     Step(Deed::Migrate, 1, "", CANNOT_OPEN),
     Step(Deed::Serve(1), 1, "", CANNOT_OPEN),
+    Step(Deed::ServeAtOnce(1), 1, "", CANNOT_OPEN),
     Step(Deed::Extract(1, Role::Citizen, None), 1, "", CANNOT_OPEN),
 ];
 
@@ -410,6 +420,7 @@ const UNOWNED: &[Step] = &[
     Step(Deed::Check, 1, "", NOT_OURS),
     Step(Deed::Migrate, 1, "", NOT_OURS),
     Step(Deed::Serve(1), 1, "", NOT_OURS),
+    Step(Deed::ServeAtOnce(1), 1, "", NOT_OURS),
 ];
 
 /// Checks that an empty file is not a register and stays empty, until one is created in it.
@@ -511,13 +522,12 @@ const TAKEN: Place = Place("land_taken.land", "land_taken.land-wal");
 /// Checks that a register cannot be served on a port in use.
 fn serve_on<H: Host>(rt: &HostRuntime, host: &mut H, port: u16) -> Result<(), Stop> {
     delete_files(rt, TAKEN);
-    run_step(host, TAKEN.0, 0, Step(Deed::New, 0, "", ""))?;
-    run_step(
-        host,
-        TAKEN.0,
-        1,
+    let steps = [
+        Step(Deed::New, 0, "", ""),
         Step(Deed::Serve(port), 1, "", CANNOT_LISTEN),
-    )?;
+        Step(Deed::ServeAtOnce(port), 1, "", CANNOT_LISTEN),
+    ];
+    run_steps(host, TAKEN.0, &steps)?;
     delete_files(rt, TAKEN);
     Ok(())
 }

@@ -1,4 +1,4 @@
-//! Connections that a command serves, one after another.
+//! Connections that a command serves, one after another or several at the same time.
 ghost use Rattle.std.specs.Prelude.{None, unwrap_or};
 ghost use Rattle.std.specs.Option.{option_map};
 
@@ -8,14 +8,105 @@ use land_commands::run::run_command;
 use land_commands::words::command::Command;
 use land_desk::service::connections::Connections;
 use land_keep::store_fault::StoreFault;
+use land_pool::connection_source::ConnectionSource;
 use land_tables::tables::Tables;
 use sqlite::{Connection, MemStore};
 use std::alloc::Global;
 use std::io;
+use std::io::Read;
 use testlib_scenario::calls::{CALLS, Call, Calls, expect_all_outputs, sinks};
 use testlib_scenario::doubles::{ClockReadings, Sink};
 use testlib_scenario::run_scenario::open_sink;
 use testlib_scenario::stop::{Stop, expect};
+
+/// A reader that records whether it has failed.
+#[derive(Drop)]
+struct WatchedReader<R> {
+    reader: R,
+    has_failed: bool,
+}
+
+impl<R: Read> Read for WatchedReader<R> {
+    ghost remaining = { λ it. R.Read.remaining it.reader };
+
+    fn read(&mut self, buf: &mut [u8]) -> io::Result<usize> {
+        match self.reader.read(buf) {
+            Ok(count) => Ok(count),
+            Err(error) => {
+                self.has_failed = true;
+                Err(error)
+            }
+        }
+    }
+}
+
+/// The number of keys that are ready in each round.
+const KEYS: usize = 8;
+
+/// The connections of a source, several of which are open at the same time. Waiting fails after `waits`
+/// rounds.
+#[derive(Drop)]
+struct ManyVisits<L> {
+    visits: L,
+    next: usize,
+    waits: u64,
+}
+
+impl<L: Connections> ConnectionSource for ManyVisits<L> {
+    type Reader = WatchedReader<L::Reader>;
+
+    type Writer = L::Writer;
+
+    ghost coming = { λ it. L.Connections.coming it.visits };
+
+    fn wait(&mut self) -> io::Result<()> {
+        if self.waits == 0 {
+            return Err(io::Error::from(io::ErrorKind::TimedOut));
+        }
+        self.waits -= 1;
+        Ok(())
+    }
+
+    fn accept(&mut self, _key: usize) -> io::Result<(WatchedReader<L::Reader>, L::Writer)> {
+        match self.visits.accept_connection() {
+            Ok((reader, writer)) => {
+                let watched = WatchedReader {
+                    reader,
+                    has_failed: false,
+                };
+                Ok((watched, writer))
+            }
+            Err(error) => Err(error),
+        }
+    }
+
+    fn next_ready(&mut self) -> Option<usize> {
+        if self.next >= KEYS {
+            self.next = 0;
+            return None;
+        }
+        let key = self.next;
+        self.next += 1;
+        Some(key)
+    }
+
+    fn close(
+        &mut self,
+        _number: u64,
+        reader: WatchedReader<L::Reader>,
+        mut writer: L::Writer,
+        complete: bool,
+    ) {
+        let mut inner = reader.reader;
+        if complete {
+            L::close_connection(&mut inner, &mut writer);
+        }
+    }
+
+    fn has_failed(reader: &WatchedReader<L::Reader>, _writer: &L::Writer) -> bool {
+        reader.has_failed
+    }
+}
 
 /// A host with a register in memory under every name, and with connections that are accepted once.
 #[derive(Drop)]
@@ -28,6 +119,8 @@ impl<L: Connections + Drop> Host for MemoryHost<L> {
     type Store = MemStore;
 
     type Listener = L;
+
+    type Source = ManyVisits<L>;
 
     ghost holds = { λ _ _. Unit {0} };
 
@@ -66,20 +159,37 @@ impl<L: Connections + Drop> Host for MemoryHost<L> {
     fn stop_listening(&mut self, _port: u16, listener: L) {
         self.visits = Some(listener);
     }
+
+    fn listen_at_once(&mut self, _port: u16) -> io::Result<ManyVisits<L>> {
+        match self.visits.take() {
+            Some(visits) => Ok(ManyVisits {
+                visits,
+                next: 0,
+                waits: 1000,
+            }),
+            None => Err(io::Error::from(io::ErrorKind::AddrInUse)),
+        }
+    }
+
+    fn stop_listening_at_once(&mut self, _port: u16, source: ManyVisits<L>) {
+        let visits = source.visits;
+        self.visits = Some(visits);
+    }
 }
 
-/// Runs the command that serves this number of connections, and returns its exit status.
+/// Runs the command that serves these connections, and returns its exit status.
 fn status<L: Connections + Drop>(
     alloc: Global,
     visits: L,
-    connections: u32,
+    ending: Ending,
     output: &mut Sink,
     errors: &mut Sink,
 ) -> u8 {
     let command = Command::Serve {
         file: "town.land",
         port: 8080,
-        connections,
+        connections: ending.connections,
+        at_once: ending.at_once,
     };
     let mut town = MemoryHost {
         alloc,
@@ -90,9 +200,18 @@ fn status<L: Connections + Drop>(
     run_command(&mut town, command, &mut input, output, errors, &mut clock)
 }
 
-/// The number of connections to serve, the exit status, and the error output.
+/// A command that serves connections, and its result.
 #[derive(Clone, Copy)]
-struct Ending(u32, u8, &'static str);
+struct Ending {
+    /// The number of connections to serve.
+    connections: u32,
+    /// The number of connections that are open at the same time.
+    at_once: u16,
+    /// The exit status.
+    status: u8,
+    /// The error output.
+    errors: &'static str,
+}
 
 /// Returns whether a command has reported that it was out of memory (501).
 fn lacked_memory(errors: &Sink) -> bool {
@@ -104,15 +223,15 @@ fn expect_ending(ending: Ending, status: u8, output: &Sink, errors: &Sink) -> Re
     if lacked_memory(errors) {
         return Err(Stop::Memory);
     }
-    let is_said = output.taken.is_empty() && errors.taken.as_slice() == ending.2.as_bytes();
-    expect(is_said && status == ending.1, "the ending", 0)
+    let is_said = output.taken.is_empty() && errors.taken.as_slice() == ending.errors.as_bytes();
+    expect(is_said && status == ending.status, "the ending", 0)
 }
 
 /// Runs the command that serves the connections, and checks its result.
 fn expect_end<L: Connections + Drop>(alloc: Global, visits: L, ending: Ending) -> Result<(), Stop> {
     let mut output = open_sink(alloc, 0)?;
     let mut errors = open_sink(alloc, 64)?;
-    let status = status(alloc, visits, ending.0, &mut output, &mut errors);
+    let status = status(alloc, visits, ending, &mut output, &mut errors);
     expect_ending(ending, status, &output, &errors)
 }
 
@@ -127,13 +246,46 @@ fn expect_service(alloc: Global, calls: &'static [Call], ending: Ending) -> Resu
     expect_all_outputs(calls, &sinks)
 }
 
-/// A command serves connections.
+/// All connections are served, one after another.
+const ALL_SERVED: Ending = Ending {
+    connections: 5,
+    at_once: 1,
+    status: 0,
+    errors: "",
+};
+
+/// The second connection cannot be accepted.
+const NO_SECOND: Ending = Ending {
+    connections: 2,
+    at_once: 1,
+    status: 1,
+    errors: "land: input or output failed\n",
+};
+
+/// A command serves connections one after another.
 pub fn a_command_serves_connections(alloc: Global) -> Result<(), Stop> {
-    expect_service(alloc, CALLS, Ending(5, 0, ""))
+    expect_service(alloc, CALLS, ALL_SERVED)
+}
+
+/// A command serves several connections at the same time.
+pub fn a_command_serves_connections_at_once(alloc: Global) -> Result<(), Stop> {
+    let ending = Ending {
+        at_once: 3,
+        ..ALL_SERVED
+    };
+    expect_service(alloc, CALLS, ending)
 }
 
 /// A command reports that a connection cannot be accepted.
 pub fn a_failed_accept_ends_the_command(alloc: Global) -> Result<(), Stop> {
-    let ending = Ending(2, 1, "land: input or output failed\n");
+    expect_service(alloc, &CALLS[..1], NO_SECOND)
+}
+
+/// A command that serves several connections at the same time reports that it cannot wait for another one.
+pub fn a_failed_wait_ends_the_command(alloc: Global) -> Result<(), Stop> {
+    let ending = Ending {
+        at_once: 2,
+        ..NO_SECOND
+    };
     expect_service(alloc, &CALLS[..1], ending)
 }

@@ -5,8 +5,8 @@ use Rattle.clap.specs.Words.{App, app_of, new_app, with_rule, with_subcommand}
 use Rattle.clap.specs.declared.builder.command.Command.{Command}
 use Rattle.clap.specs.declared.builder.command.Command.TheViews.{out-Command}
 use Rattle.land_commands.specs.Words.Choices.{Places}
-use Rattle.land_commands.specs.Words.Options.{at_rule, clock_rule, connections_rule, file_rule, kind_rule}
-use Rattle.land_commands.specs.Words.Options.{party_rule, port_rule, role_rule}
+use Rattle.land_commands.specs.Words.Options.{at_once_rule, at_rule, clock_rule, connections_rule, file_rule}
+use Rattle.land_commands.specs.Words.Options.{kind_rule, party_rule, port_rule, role_rule}
 use Rattle.land_commands.specs.declared.words.choices.Choices.{Choices}
 
 -- One of the subcommands is required, and `help` is not one of them.
@@ -21,9 +21,12 @@ talk_app = with_rule (new_app (codes "talk")) clock_rule
 abbrev pub make_app : App
 make_app = with_rule (new_app (codes "new")) file_rule
 
--- `serve --file FILE --port PORT --connections COUNT`
+-- `serve --file FILE --port PORT --connections COUNT [--at-once LIMIT]`
 abbrev pub serve_app : App
-serve_app = with_rule (with_rule (with_rule (new_app (codes "serve")) file_rule) port_rule) connections_rule
+serve_app =
+    with_rule
+    (with_rule (with_rule (with_rule (new_app (codes "serve")) file_rule) port_rule) connections_rule)
+    at_once_rule
 
 -- `check --file FILE`
 abbrev pub check_app : App

@@ -46,15 +46,24 @@ PlainFileLaw = (choices : Choices) (program file : Text) → IsPlainText file
     × NamesBy choices (program ∷ codes "check" ∷ codes "--file" ∷ file ∷ []) (to_check file)
     × NamesBy choices (program ∷ codes "migrate" ∷ codes "--file" ∷ file ∷ []) (to_migrate file)
 
--- `serve --file FILE --port PORT --connections COUNT` names `serve`, if PORT and COUNT are decimal digits.
+-- The arguments of `serve` after its name.
+abbrev pub serve_words : (file port_digits count_digits : Text) → List Text
+serve_words file port_digits count_digits =
+    codes "--file" ∷ file ∷ codes "--port" ∷ port_digits ∷ codes "--connections" ∷ count_digits ∷ []
+
+-- `serve --file FILE --port PORT --connections COUNT` names `serve` for one connection at a time, and with
+-- `--at-once LIMIT` for this number of them, if PORT, COUNT and LIMIT are decimal digits.
 abbrev pub PlainServiceLaw : Type 0
 PlainServiceLaw =
     (choices : Choices) (program file port_digits count_digits : Text) (port connections : ℕ)
     → IsPlainText file
     → IsNumeralIn port_digits 1 65535 port → IsNumeralIn count_digits 1 1000000 connections
-    → NamesBy choices (program ∷ codes "serve" ∷ codes "--file" ∷ file ∷ codes "--port" ∷ port_digits
-    ∷ codes "--connections" ∷ count_digits ∷ [])
-    (to_serve file port connections)
+    → NamesBy choices (program ∷ codes "serve" ∷ serve_words file port_digits count_digits)
+    (to_serve file port connections 1)
+    × ((limit_digits : Text) (at_once : ℕ) → IsNumeralIn limit_digits 1 1024 at_once
+    → NamesBy choices (program ∷ codes "serve"
+    ∷ (serve_words file port_digits count_digits ++ codes "--at-once" ∷ limit_digits ∷ []))
+    (to_serve file port connections at_once))
 
 -- The arguments of `extract` after its name.
 abbrev pub extract_words : (file clock_digits party_digits : Text) → Role → Kind → List Text

@@ -1,5 +1,5 @@
 -- The command that the arguments name.
-use Rattle.std.specs.Prelude.{◌≡◌, ◌≢◌, ℕ, ℤ, pos, List, [], codes, Option, Some, None, Result, Ok, Err}
+use Rattle.std.specs.Prelude.{◌≡◌, ◌≢◌, ◌⊎◌, ℕ, ℤ, pos, List, [], codes, Option, Some, None, Result, Ok, Err}
 use Rattle.std.specs.Str.Parse.{signed_digits_value}
 use Rattle.clap.specs.Words.{IsSignedIn, Row, Text, fault_of, first_of, kind_of, subcommand_of}
 use Rattle.clap.specs.declared.error.Error.{Error}
@@ -39,6 +39,17 @@ IsOptionalNumber rows option least most (Some maybe) = HasOptionalNumber rows op
 IsOptionalNumber rows option least most None = (maybe : Option ℤ)
     → HasOptionalNumber rows option least most maybe → ⊥
 
+-- The number of an option, or the default if the option is absent.
+abbrev pub HasNumberOr : List Row → Text → (least most default number : ℤ) → Type 0
+HasNumberOr rows option least most default number =
+    HasNumber rows option least most number ⊎ ((first_of option rows ≡ None) × (number ≡ default))
+
+-- The number of an option with a default, or its value is not valid.
+abbrev pub IsNumberOr : List Row → Text → (least most default : ℤ) → Option ℤ → Type 0
+IsNumberOr rows option least most default (Some number) = HasNumberOr rows option least most default number
+IsNumberOr rows option least most default None = (number : ℤ)
+    → HasNumberOr rows option least most default number → ⊥
+
 -- The value whose word is given for an option, or the word is of no value.
 module _ {A : Type 0} (spell : A → Text) where
   abbrev pub IsChoiceOf : List Row → Text → Option A → Type 0
@@ -60,19 +71,21 @@ IsCallerOption rows None = (party : ℕ) (role : Role) → HasCaller rows party 
 abbrev pub word_of : PlainCommand → Text
 word_of (to_talk clock) = codes "talk"
 word_of (to_make file) = codes "new"
-word_of (to_serve file port connections) = codes "serve"
+word_of (to_serve file port connections at_once) = codes "serve"
 word_of (to_check file) = codes "check"
 word_of (to_migrate file) = codes "migrate"
 word_of (to_extract file clock party role kind at) = codes "extract"
 
 -- The options of a command are those that `clap` found, each number in its range: moments from 0 to the end
--- of the year 2099, ports from 1 to 65535, parties from 1 to 1,000,000,000, connections from 1 to 1,000,000.
+-- of the year 2099, ports from 1 to 65535, parties from 1 to 1,000,000,000, connections from 1 to 1,000,000,
+-- and those at the same time from 1 to 1,024, by default 1.
 abbrev pub HasOptions : List Row → PlainCommand → Type 0
 HasOptions rows (to_talk clock) = HasNumber rows (codes "clock") (pos 0) last_moment clock
 HasOptions rows (to_make file) = first_of (codes "file") rows ≡ Some file
-HasOptions rows (to_serve file port connections) =
+HasOptions rows (to_serve file port connections at_once) =
     (first_of (codes "file") rows ≡ Some file) × HasNumber rows (codes "port") (pos 1) (pos 65535) (pos port)
     × HasNumber rows (codes "connections") (pos 1) (pos 1000000) (pos connections)
+    × HasNumberOr rows (codes "at-once") (pos 1) (pos 1024) (pos 1) (pos at_once)
 HasOptions rows (to_check file) = first_of (codes "file") rows ≡ Some file
 HasOptions rows (to_migrate file) = first_of (codes "file") rows ≡ Some file
 HasOptions rows (to_extract file clock party role kind at) =

@@ -28,6 +28,10 @@ ports = parser.Signed (pos 1) (pos 65535)
 abbrev pub counts : ValueParser
 counts = parser.Signed (pos 1) (pos 1000000)
 
+-- Numbers from 1 to 1024.
+abbrev pub limits : ValueParser
+limits = parser.Signed (pos 1) (pos 1024)
+
 -- Numbers from 1 to 1000000000.
 abbrev pub parties : ValueParser
 parties = parser.Signed (pos 1) (pos 1000000000)
@@ -55,6 +59,10 @@ port_rule = option_rule (codes "port") true ports
 -- `--connections COUNT`
 abbrev pub connections_rule : Rule
 connections_rule = option_rule (codes "connections") true counts
+
+-- `--at-once LIMIT`, which is optional.
+abbrev pub at_once_rule : Rule
+at_once_rule = option_rule (codes "at-once") false limits
 
 -- `--party NUMBER`
 abbrev pub party_rule : Rule

@@ -11,7 +11,7 @@ use Rattle.land_core.specs.declared.role.Role.{Role}
 pub data PlainCommand : Type 0 where
   to_talk : (clock : ℤ) → PlainCommand
   to_make : (file : Text) → PlainCommand
-  to_serve : (file : Text) (port connections : ℕ) → PlainCommand
+  to_serve : (file : Text) (port connections at_once : ℕ) → PlainCommand
   to_check : (file : Text) → PlainCommand
   to_migrate : (file : Text) → PlainCommand
   to_extract : (file : Text) (clock : ℤ) (party : ℕ) (role : Role) (kind : Kind) (at : Option ℤ)
@@ -21,7 +21,7 @@ pub data PlainCommand : Type 0 where
 abbrev pub order_of : Command → PlainCommand
 order_of (Talk clock) = to_talk clock
 order_of (New file) = to_make file.now
-order_of (Serve file port connections) = to_serve file.now port connections
+order_of (Serve file port connections at_once) = to_serve file.now port connections at_once
 order_of (Check file) = to_check file.now
 order_of (Migrate file) = to_migrate file.now
 order_of (Extract file clock caller kind at) = to_extract file.now clock caller.party caller.role kind at

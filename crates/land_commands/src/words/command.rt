@@ -24,6 +24,8 @@ pub enum Command<'a> {
         port: u16,
         /// The number of connections to serve, 1 to 1000000.
         connections: u32,
+        /// The maximum number of connections that are open at the same time, 1 to 1024. 1: one after another.
+        at_once: u16,
     },
     /// `check`: checks that a file holds a sound register.
     Check {

@@ -10,17 +10,17 @@ ghost use Rattle.land_commands.specs.Words.Options.{IsOption};
 
 use crate::words::choices::Choices;
 use crate::words::options::{
-    at_option, clock_option, connections_option, file_option, kind_option, party_option,
-    port_option, role_option,
+    at_once_option, at_option, clock_option, connections_option, file_option, kind_option,
+    party_option, port_option, role_option,
 };
 use clap::{Arg, Command};
 use std::alloc::{AllocError, Global};
 
 /// The end of the help text: the options of each command, the values of the options, and examples.
-const MORE: &str = "Options of the commands, of which --at alone may be left out:
+const MORE: &str = "Options of the commands, of which those in brackets may be left out:
   talk     --clock <MS>
   new      --file <FILE>
-  serve    --file <FILE> --port <PORT> --connections <COUNT>
+  serve    --file <FILE> --port <PORT> --connections <COUNT> [--at-once <LIMIT>]
   check    --file <FILE>
   migrate  --file <FILE>
   extract  --file <FILE> --clock <MS> --party <NUMBER> --role <ROLE> --kind <KIND> [--at <MS>]
@@ -111,7 +111,8 @@ While it runs: curl -H 'Register-Party: 1' -H 'Register-Role: stateAdministrator
         file_option(alloc, "The file of the register, as 'land new' makes it"),
     )?;
     let with_port = with_option(with_file, port_option(alloc))?;
-    with_option(with_port, connections_option(alloc))
+    let with_connections = with_option(with_port, connections_option(alloc))?;
+    with_option(with_connections, at_once_option(alloc))
 }
 
 /// Declares `check`.

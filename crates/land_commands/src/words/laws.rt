@@ -23,7 +23,8 @@ pub fn plain_files_are_read()
     ensures { PlainFileLaw }
 {}
 
-/// `serve --file FILE --port PORT --connections COUNT` names `serve`, if PORT and COUNT are decimal digits.
+/// `serve --file FILE --port PORT --connections COUNT`, optionally with `--at-once LIMIT`, names `serve`, if
+/// the numbers are decimal digits.
 pub fn plain_services_are_read()
     ensures { PlainServiceLaw }
 {}

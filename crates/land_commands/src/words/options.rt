@@ -1,7 +1,7 @@
 //! Declares the options of the commands to `clap`.
 ghost use Rattle.std.specs.Prelude.{pos, true};
-ghost use Rattle.land_commands.specs.Words.Options.{IsOption, at_rule, clock_rule, connections_rule};
-ghost use Rattle.land_commands.specs.Words.Options.{file_rule};
+ghost use Rattle.land_commands.specs.Words.Options.{IsOption, at_once_rule, at_rule, clock_rule};
+ghost use Rattle.land_commands.specs.Words.Options.{connections_rule, file_rule};
 ghost use Rattle.land_commands.specs.Words.Options.{kind_rule, moment_rule, option_rule, party_rule};
 ghost use Rattle.land_commands.specs.Words.Options.{port_rule};
 ghost use Rattle.land_commands.specs.Words.Options.{role_rule};
@@ -16,6 +16,9 @@ pub const LAST_PORT: i64 = 65_535;
 
 /// The largest number of connections to serve.
 pub const MAX_CONNECTIONS: i64 = 1_000_000;
+
+/// The largest number of connections that are open at the same time.
+pub const MAX_AT_ONCE: i64 = 1024;
 
 /// The largest number of a party that may be the caller.
 pub const LAST_PARTY: i64 = 1_000_000_000;
@@ -88,6 +91,15 @@ pub fn connections_option<'a>(alloc: Global) -> Arg<'a>
     let help = "How many connections to answer before it ends, 1 to 1000000";
     let counts = clap::value_parser!(u32).range(1..=MAX_CONNECTIONS);
     option(alloc, "connections", "COUNT", help, true, counts)
+}
+
+/// Declares `--at-once LIMIT`, which is optional: 1 to 1024.
+pub fn at_once_option<'a>(alloc: Global) -> Arg<'a>
+    ensures { IsOption at_once_rule result }
+{
+    let help = "How many connections to answer at the same time, 1 to 1024; if it is left out, 1";
+    let limits = clap::value_parser!(u16).range(1..=MAX_AT_ONCE);
+    option(alloc, "at-once", "LIMIT", help, false, limits)
 }
 
 /// Declares `--party NUMBER`: 1 to 1000000000.

@@ -3,7 +3,7 @@ ghost use Rattle.std.specs.Prelude.{map, pos, codes, option_map, string_bytes};
 ghost use Rattle.clap.specs.Words.{found_of, rows_of, subcommand_rows_of};
 ghost use Rattle.land_commands.specs.Words.Choices.{IsWordOf, kind_word, role_word};
 ghost use Rattle.land_commands.specs.Words.Names.{IsCallerOption, IsChoiceOf, IsOptionalNumber, FindsCommand};
-ghost use Rattle.land_commands.specs.Words.Names.{IsOptionNumber};
+ghost use Rattle.land_commands.specs.Words.Names.{IsNumberOr, IsOptionNumber};
 ghost use Rattle.land_commands.specs.Words.Names.{HasOptionsOf};
 ghost use Rattle.land_commands.specs.Words.Names.{IsReading, IsFaultOfError};
 ghost use Rattle.land_commands.specs.Words.PlainCommands.{order_of};
@@ -12,7 +12,7 @@ ghost use Rattle.land_keep.specs.Moments.{last_moment};
 use crate::words::choices::all_choices;
 use crate::words::clap_matches::{matches, number_of, subcommand_found, text_of};
 use crate::words::command::Command;
-use crate::words::options::{LAST_PARTY, LAST_PORT, MAX_CONNECTIONS};
+use crate::words::options::{LAST_PARTY, LAST_PORT, MAX_AT_ONCE, MAX_CONNECTIONS};
 use crate::words::words_fault::WordsFault;
 use clap::error::ErrorKind;
 use clap::{ArgMatches, Error};
@@ -87,10 +87,12 @@ fn serve_of<'a>(found: &ArgMatches<'a>) -> Option<Command<'a>>
     let file = text_of(found, "file")?;
     let port = port_of(found)?;
     let connections = connections_of(found)?;
+    let at_once = at_once_of(found)?;
     Some(Command::Serve {
         file,
         port,
         connections,
+        at_once,
     })
 }
 
@@ -224,4 +226,16 @@ fn connections_of(found: &ArgMatches<'_>) -> Option<u32>
 {
     let connections = number_of(found, "connections", 1, MAX_CONNECTIONS)?;
     u32::try_from(connections).ok()
+}
+
+/// Reads `--at-once`, by default 1.
+fn at_once_of(found: &ArgMatches<'_>) -> Option<u16>
+    ensures { IsNumberOr (rows_of (found_of found.now)) (codes "at-once") (pos 1) (pos 1024) (pos 1)
+        (option_map pos result) }
+{
+    if text_of(found, "at-once").is_none() {
+        return Some(1);
+    }
+    let at_once = number_of(found, "at-once", 1, MAX_AT_ONCE)?;
+    u16::try_from(at_once).ok()
 }

@@ -14,7 +14,7 @@ pub(crate) const IDLE_TIMEOUT: u64 = 30;
 const REQUEST_TIMEOUT: u64 = 60;
 
 /// The time, in seconds, for which input is discarded after the last reply.
-const LINGER: u64 = 1;
+pub const LINGER: u64 = 1;
 
 /// Returns the longest wait for the next bytes of a request that has taken `taken` until now.
 pub fn read_timeout(taken: Duration) -> Duration

@@ -1,12 +1,24 @@
 -- The effect of reading an item or a head on the reader and its buffer.
-use Rattle.std.specs.Prelude.{◌≡◌, ◌≤◌, ◌<◌, ◌+◌, ◌*◌, ◌⊎◌, ℕ, List, IfErr, Option, Result}
+use Rattle.std.specs.Prelude.{◌≡◌, ◌≤◌, ◌<◌, ◌+◌, ◌*◌, ◌⊎◌, ℕ, List, length, IfErr, Option, Result}
 use Rattle.std.specs.Io.KnownBytes.{Keeps, prepend_known}
 use Rattle.land_streams.specs.declared.stream_fault.StreamFault.{StreamFault}
 use Rattle.land_streams.specs.declared.stream_fault.StreamFault.TheVariants as fault
+use Rattle.land_wire.specs.Framing.Frame.{body_limit}
+use Rattle.land_wire.specs.Framing.Stream.{max_head_length}
 
 -- each read takes one of the reads that are left, and adds at most 1024 bytes to the buffer
 abbrev pub ReadsChunks : (length left : ℕ) → (new_length new_left : ℕ) → Type 0
 ReadsChunks length left new_length new_left = new_length + 1024 * new_left ≤ length + 1024 * left
+
+-- a bound on the buffer that is at least this limit stays a bound
+abbrev pub StaysWithin : (limit : ℕ) → (buffer new_buffer : List ℕ) → Type 0
+StaysWithin limit buffer new_buffer =
+    (most : ℕ) → limit ≤ most → length buffer ≤ most → length new_buffer ≤ most
+
+-- the most bytes that reading an item keeps in the buffer: the longest head, the longest body, and the rest of
+-- a chunk of 1024 bytes
+abbrev pub input_limit : ℕ
+input_limit = max_head_length + body_limit + 1023
 
 -- the bytes of the buffer and of the reader together are unchanged
 abbrev pub LosesNoByte : (buffer : List ℕ) → (rest : Option (List ℕ)) → (new_buffer : List ℕ)

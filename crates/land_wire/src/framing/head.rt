@@ -1,9 +1,9 @@
 //! Reads the head at the front of a stream that arrives in chunks.
-ghost use Rattle.std.specs.Prelude.{◌≡◌, ◌≤◌, ℕ, List, length, vec_len, vec_capacity, IfOk, IfSome};
+ghost use Rattle.std.specs.Prelude.{◌≡◌, ◌≤◌, ◌+◌, ℕ, List, length, vec_len, vec_capacity, IfOk, IfSome};
 ghost use Rattle.std.specs.Io.KnownBytes.{IsAtEnd, prepend_known};
 ghost use Rattle.httparse.specs.Grammar.{RequestHead};
 ghost use Rattle.land_wire.specs.Framing.Reads.{FailsOnlyIfCalled, IsOutOfMemoryOnlyIfFull, LosesNoByte};
-ghost use Rattle.land_wire.specs.Framing.Reads.{ReadsChunks};
+ghost use Rattle.land_wire.specs.Framing.Reads.{ReadsChunks, StaysWithin};
 ghost use Rattle.land_wire.specs.Framing.Stream.{HasHead, IsHeadFaultOf, IsHeadIn, LastReadWasNeeded};
 ghost use Rattle.land_wire.specs.Framing.Stream.{IsHeadParse};
 ghost use Rattle.land_wire.specs.Framing.Stream.{field_room, max_head_length};
@@ -64,6 +64,7 @@ pub fn read_head<R: Read>(
     ensures unread { (h : RequestHead) (rest : List ℕ) → HasHead buffer.old.items h rest
         → (reader.new ≡ reader.old) × (buffer.new.items ≡ buffer.old.items) }
     ensures ahead { length buffer.old.items ≤ 1024 → IfOk result (λ f. LastReadWasNeeded buffer.new.items) }
+    ensures limit { StaysWithin (max_head_length + 1023) buffer.old.items buffer.new.items }
     ensures same_reference { reader.new.reader.ghost_name ≡ reader.old.reader.ghost_name }
     ensures whole { IfOk result (λ f. IsHeadIn buffer.new.items headers.new f) }
     ensures fault { IfOk result (λ f. IfSome

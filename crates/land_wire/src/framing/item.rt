@@ -5,7 +5,7 @@ ghost use Rattle.httparse.specs.Grammar.{RequestHead};
 ghost use Rattle.land_wire.specs.Framing.Items.{next_of_fault, request, IsItem, IsNextIn, IsNextOf};
 ghost use Rattle.land_wire.specs.Framing.Items.{ReadsUpTo};
 ghost use Rattle.land_wire.specs.Framing.Reads.{FailsOnlyIfCalled, IsOutOfMemoryOnlyIfFull, LosesNoByte};
-ghost use Rattle.land_wire.specs.Framing.Reads.{ReadsChunks};
+ghost use Rattle.land_wire.specs.Framing.Reads.{ReadsChunks, StaysWithin, input_limit};
 ghost use Rattle.land_wire.specs.Framing.Stream.{field_room};
 
 use crate::framing::frame_fault::FrameFault;
@@ -48,6 +48,7 @@ pub fn read_item<R: Read>(
     ensures unread { (h : RequestHead) (body rest : List ℕ)
         → IsItem buffer.old.items (request h body) rest → reader.new ≡ reader.old }
     ensures ahead { length buffer.old.items ≤ 1024 → IfOk result (λ f. ReadsUpTo buffer.new.items f) }
+    ensures limit { StaysWithin input_limit buffer.old.items buffer.new.items }
     ensures same_reference { reader.new.reader.ghost_name ≡ reader.old.reader.ghost_name }
     ensures front { IfOk result (λ f. IsNextIn buffer.new.items headers.new f) }
     ensures item { IfOk result (λ f. IfSome

@@ -2,6 +2,7 @@ use Rattle.std.proofs.Common.{◌∙◌, ap, inl, inr, refl, subst, subst₂, sy
 use Rattle.std.specs.Prelude.{OnOk}
 use Rattle.land_commands.proofs.Filings.{served_and_closed}
 use Rattle.land_commands.specs.Filed.{ServesTables}
+use Rattle.land_commands.specs.ProgramFaults.{fault_of_service}
 use Rattle.land_desk.specs.declared.service.serving.ServiceFault.{ServiceFault}
 use Rattle.land_commands.proofs.file_commands.serve_file.Goals as goal
 
@@ -20,7 +21,10 @@ returns-in-Ok-served g c =
     (g.H.Host.coming c.stop_listening.new.self c.args.port) from c.args.clock.now to c.serve_tables-served.new.clock r) c.in-Ok-served.is
     (subst₂ (λ coming after. ServesTables S g.C.Clock.reads c.args.connections coming after from c.args.clock.now to c.serve_tables-served.new.clock
     c.serve_tables-served.result.0) came (sym c.stop_listening.ensures) c.serve_tables-served.ensures) in
-    served_and_closed S (g.H.Host.holds c.args.file.now) g.H.Host.is_closed _ tt c.close.result (λ a b. refl)
+    served_and_closed S (g.H.Host.holds c.args.file.now) g.H.Host.is_closed
+    (λ from to r. ServesTables S g.C.Clock.reads c.args.connections (g.H.Host.coming c.args.host.now c.args.port)
+    (g.H.Host.coming c.stop_listening.new.self c.args.port) from c.args.clock.now to c.serve_tables-served.new.clock r)
+    fault_of_service tt c.close.result (λ a b. refl)
     (record { from = from; to = to; taken = c.in_ok-tables.ensures.finding; served = over })
     (subst (λ conn. OnOk c.close.result (g.H.Host.is_closed conn)) c.into_connection.ensures c.close.ensures.closed) c.close.ensures.fault
 

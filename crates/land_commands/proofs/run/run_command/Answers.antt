@@ -15,6 +15,6 @@ returns-in-Extract g c =
     let alike : to_z w64 (of_z w64 it.clock) ≡ it.clock = search rules in
     let done = subst (λ (clock : ℤ). ExtractsRegister S (g.H.Host.holds it.file.now) (extract_request_of clock it.caller.party it.caller.role it.kind it.at) old new c.extract-done.result)
     alike c.extract-done.ensures in
-    subst (λ (command : Command). RunsCommand S (record { holds = g.H.Host.holds; is_closed = g.H.Host.is_closed; coming = g.H.Host.coming c.args.host.now; after = g.H.Host.coming c.extract-done.new.host }) g.C.Clock.reads (order_of command) (g.I.Read.remaining c.args.input.now) c.args.clock.now c.args.clock.now old new
+    subst (λ (command : Command). RunsCommand S (record { holds = g.H.Host.holds; is_closed = g.H.Host.is_closed; coming = g.H.Host.coming c.args.host.now; after = g.H.Host.coming c.extract-done.new.host; ended = g.H.Host.ended c.args.host.now; ended_after = g.H.Host.ended c.extract-done.new.host }) g.C.Clock.reads (order_of command) (g.I.Read.remaining c.args.input.now) c.args.clock.now c.args.clock.now old new
     (g.E.Write.contents c.args.errors.now) (g.E.Write.contents c.report_extracted.new.errors) c.report_extracted.result)
     (sym it.is) (c.extract-done.result, done, c.report_extracted.ensures)

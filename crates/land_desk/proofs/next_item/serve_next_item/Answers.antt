@@ -1,24 +1,26 @@
-use Rattle.std.proofs.Common.{◌+◌, ◌*◌, [], arith, inl, length, refl, Err, Ok, drop}
+use Rattle.std.proofs.Common.{◌+◌, ◌*◌, [], ap, arith, length, refl, Err, Ok, drop}
+use Rattle.std.proofs.lemmas.List.{length-drop}
 use Rattle.std.specs.Io.KnownBytes.{prepend_known}
+use Rattle.std.proofs.KnownBytes.{Appends-nil}
 use Rattle.land_desk.proofs.Asking.{called, eof_reads, fault_reads, front_gone, if_more, none_gone, none_more, none_unread, not_read, request_reads, request_gone}
-use Rattle.land_desk.proofs.Moving.{one_step}
-use Rattle.land_desk.proofs.TurnLemmas.{serves_eof, serves_framing_fault, serves_request, stays_put, read_failed}
+use Rattle.land_desk.proofs.TurnLemmas.{serves_eof, serves_framing_fault, serves_request}
 use Rattle.land_desk.specs.Serving.{StepIfHonest}
-use Rattle.land_desk.specs.Turns.{ServesNext, wire_bytes}
+use Rattle.land_desk.specs.Turns.{wire_bytes}
 use Rattle.land_desk.specs.declared.serve.DeskFault.TheVariants as desk
-use Rattle.land_desk.specs.declared.next_item.AfterItem.TheVariants as next_item
 use Rattle.land_desk.proofs.next_item.serve_next_item.Goals as goal
 
 pub returns-in-Ok-Fault-clause-next_item : goal.returns-in-Ok-Fault-clause-next_item
-returns-in-Ok-Fault-clause-next_item g c =
-    let step = StepIfHonest (g.K.Keeper.honest c.args.keeper.now) g.C.Clock.reads in
-    let start = prepend_known c.args.buffer.now.items (g.R.Read.remaining c.args.reader.now.reader.now) in
-    let left = prepend_known c.read_item.new.buffer.items (g.R.Read.remaining c.read_item.new.reader.reader.now) in
-    stays_put step start _ _ (λ bytes from to. ServesNext step bytes from to left (g.W.Write.contents c.args.writer.now) (g.W.Write.contents c.write_response.new.writer) c.write_response.result)
-    (λ s at. at)
-    (λ s. serves_framing_fault step start left left (g.W.Write.contents c.args.writer.now) (g.W.Write.contents c.write_response.new.writer) c.in-Ok-Fault.field-0
-    c.in-Ok-Fault.fault c.reject.result s c.write_response.result
-    c.in-Ok-Fault.field-0-is c.in-Ok-Fault.ensures.stream c.in-Ok-Fault.ensures.item c.reject.ensures c.write_response.ensures)
+returns-in-Ok-Fault-clause-next_item g c from at = (
+  from,
+  serves_framing_fault (StepIfHonest (g.K.Keeper.honest c.args.keeper.now) g.C.Clock.reads)
+      (prepend_known c.args.buffer.now.items (g.R.Read.remaining c.args.reader.now.reader.now))
+      (prepend_known c.read_item.new.buffer.items (g.R.Read.remaining c.read_item.new.reader.reader.now))
+      (prepend_known c.read_item.new.buffer.items (g.R.Read.remaining c.read_item.new.reader.reader.now))
+      (g.W.Write.contents c.args.writer.now) (g.W.Write.contents c.write_response.new.writer) c.in-Ok-Fault.field-0
+      c.in-Ok-Fault.fault c.reject.result from c.write_response.result
+      c.in-Ok-Fault.field-0-is c.in-Ok-Fault.ensures.stream c.in-Ok-Fault.ensures.item c.reject.ensures c.write_response.ensures,
+  at,
+)
 
 pub returns-in-Ok-Request-clause-next_item : goal.returns-in-Ok-Request-clause-next_item
 returns-in-Ok-Request-clause-next_item g c =
@@ -31,48 +33,23 @@ returns-in-Ok-Request-clause-next_item g c =
     c.write_response-next_item.result c.in-Ok-Request.ensures.stream it c.consume_front.ensures c.write_response-next_item.ensures
 
 pub returns-in-Ok-End-clause-next_item : goal.returns-in-Ok-End-clause-next_item
-returns-in-Ok-End-clause-next_item g c =
-    let step = StepIfHonest (g.K.Keeper.honest c.args.keeper.now) g.C.Clock.reads in
-    let start = prepend_known c.args.buffer.now.items (g.R.Read.remaining c.args.reader.now.reader.now) in
-    let left = prepend_known c.read_item.new.buffer.items (g.R.Read.remaining c.read_item.new.reader.reader.now) in
-    let w = g.W.Write.contents c.args.writer.now in
-    stays_put step start _ _ (λ bytes from to. ServesNext step bytes from to left w w (Ok next_item.Eof)) (λ s at. at)
-    (λ s. serves_eof step start left left w c.in-Ok-End.field-0 s c.in-Ok-End.field-0-is c.in-Ok-End.ensures.stream c.in-Ok-End.ensures.item)
+returns-in-Ok-End-clause-next_item g c from at = (
+  from,
+  serves_eof (StepIfHonest (g.K.Keeper.honest c.args.keeper.now) g.C.Clock.reads)
+      (prepend_known c.args.buffer.now.items (g.R.Read.remaining c.args.reader.now.reader.now))
+      (prepend_known c.read_item.new.buffer.items (g.R.Read.remaining c.read_item.new.reader.reader.now))
+      (prepend_known c.read_item.new.buffer.items (g.R.Read.remaining c.read_item.new.reader.reader.now))
+      (g.W.Write.contents c.args.writer.now) c.in-Ok-End.field-0 from c.in-Ok-End.field-0-is c.in-Ok-End.ensures.stream c.in-Ok-End.ensures.item,
+  at,
+)
 
 pub returns-in-Err-Read-clause-next_item : goal.returns-in-Err-Read-clause-next_item
-returns-in-Err-Read-clause-next_item g c =
-    let step = StepIfHonest (g.K.Keeper.honest c.args.keeper.now) g.C.Clock.reads in
-    let start = prepend_known c.args.buffer.now.items (g.R.Read.remaining c.args.reader.now.reader.now) in
-    let left = prepend_known c.read_item.new.buffer.items (g.R.Read.remaining c.read_item.new.reader.reader.now) in
-    let w = g.W.Write.contents c.args.writer.now in
-    stays_put step start _ _ (λ bytes from to. ServesNext step bytes from to left w w (Err desk.Read)) (λ s at. at)
-    (λ s. read_failed step start left w s desk.Read (λ e. cc))
+returns-in-Err-Read-clause-next_item g c from at =
+    (from, (refl, c.in-Err-Read.ensures.stream, Appends-nil (g.W.Write.contents c.args.writer.now)), at)
 
 pub returns-in-Err-NoMemory-clause-next_item : goal.returns-in-Err-NoMemory-clause-next_item
-returns-in-Err-NoMemory-clause-next_item g c =
-    let step = StepIfHonest (g.K.Keeper.honest c.args.keeper.now) g.C.Clock.reads in
-    let start = prepend_known c.args.buffer.now.items (g.R.Read.remaining c.args.reader.now.reader.now) in
-    let left = prepend_known c.read_item.new.buffer.items (g.R.Read.remaining c.read_item.new.reader.reader.now) in
-    let w = g.W.Write.contents c.args.writer.now in
-    stays_put step start _ _ (λ bytes from to. ServesNext step bytes from to left w w (Err desk.NoMemory)) (λ s at. at)
-    (λ s. read_failed step start left w s desk.NoMemory (λ e. cc))
-
-pub returns-in-Ok-Fault-clause-step : goal.returns-in-Ok-Fault-clause-step
-returns-in-Ok-Fault-clause-step g c from at = (from, inl refl, at)
-
-pub returns-in-Ok-End-clause-step : goal.returns-in-Ok-End-clause-step
-returns-in-Ok-End-clause-step g c from at = (from, inl refl, at)
-
-pub returns-in-Err-Read-clause-step : goal.returns-in-Err-Read-clause-step
-returns-in-Err-Read-clause-step g c from at = (from, inl refl, at)
-
-pub returns-in-Err-NoMemory-clause-step : goal.returns-in-Err-NoMemory-clause-step
-returns-in-Err-NoMemory-clause-step g c from at = (from, inl refl, at)
-
-pub returns-in-Ok-Request-clause-step : goal.returns-in-Ok-Request-clause-step
-returns-in-Ok-Request-clause-step g c from at =
-    let it = c.answer_first-answer.ensures.spoken [] from at in
-    (it.0, one_step (StepIfHonest (g.K.Keeper.honest c.answer_first-answer.new.keeper) g.C.Clock.reads) _ from it.1.0 _ it.0 it.1.1, it.2)
+returns-in-Err-NoMemory-clause-next_item g c from at =
+    (from, (refl, c.in-Err-NoMemory.ensures.stream, Appends-nil (g.W.Write.contents c.args.writer.now)), at)
 
 pub returns-in-Err-Read-clause-reads : goal.returns-in-Err-Read-clause-reads
 returns-in-Err-Read-clause-reads g c small =
@@ -159,3 +136,24 @@ returns-in-Ok-Fault-clause-read_fault g c =
 pub returns-in-Err-Read-clause-read_fault : goal.returns-in-Err-Read-clause-read_fault
 returns-in-Err-Read-clause-read_fault g c is =
     called _ c.args.reader.now.left c.args.reader.now.left c.read_item.new.reader.left (omega arith) (c.in-Err-Read.ensures.failed c.in-Err-Read.field-0-is)
+
+pub returns-in-Err-Read-clause-limit : goal.returns-in-Err-Read-clause-limit
+returns-in-Err-Read-clause-limit g c most wide small = c.in-Err-Read.ensures.limit most wide small
+
+pub returns-in-Err-NoMemory-clause-limit : goal.returns-in-Err-NoMemory-clause-limit
+returns-in-Err-NoMemory-clause-limit g c most wide small = c.in-Err-NoMemory.ensures.limit most wide small
+
+pub returns-in-Ok-End-clause-limit : goal.returns-in-Ok-End-clause-limit
+returns-in-Ok-End-clause-limit g c most wide small = c.in-Ok-End.ensures.limit most wide small
+
+pub returns-in-Ok-Fault-clause-limit : goal.returns-in-Ok-Fault-clause-limit
+returns-in-Ok-Fault-clause-limit g c most wide small = c.in-Ok-Fault.ensures.limit most wide small
+
+pub returns-in-Ok-Request-clause-limit : goal.returns-in-Ok-Request-clause-limit
+returns-in-Ok-Request-clause-limit g c most wide small =
+    omega (
+      arith,
+      ap length c.consume_front.ensures,
+      length-drop (c.in-Ok-Request.spans.len + c.in-Ok-Request.length) c.read_item.new.buffer.items,
+      c.in-Ok-Request.ensures.limit most wide small,
+    )

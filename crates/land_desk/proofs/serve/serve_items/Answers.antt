@@ -5,7 +5,7 @@ use Rattle.land_desk.proofs.Honesty.{comes_to, step_later, keeps_on, starts}
 use Rattle.land_desk.proofs.Moving.{moves_on, reach_self}
 use Rattle.land_desk.proofs.ServingLemmas.{serves_end, serves_last, serves_fault}
 use Rattle.land_desk.specs.Serving.{StepIfHonest}
-use Rattle.land_desk.specs.Turns.{ServesNext}
+use Rattle.land_desk.proofs.KnownNext.{ServesKnown, serves_known, steps_once}
 use Rattle.land_keep.specs.Keeping.{IsStateOf}
 use Rattle.land_keep.specs.Machine.{State}
 use Rattle.land_desk.proofs.serve.serve_items.Goals as goal
@@ -21,14 +21,16 @@ returns-in-Ok-Eof-clause-served g c =
     let after = prepend_known c.serve_next_item.new.buffer.items (g.R.Read.remaining c.serve_next_item.new.reader.reader.now) in
     let w = g.W.Write.contents c.args.writer.now in
     let u = g.W.Write.contents c.loop-fault.writer in
+    let stood : State g.row.C.Denot → Type 0 = λ s. IsStateOf (g.K.Keeper.honest c.loop-fault.keeper) (g.K.Keeper.closed c.loop-fault.keeper) (g.K.Keeper.timeline c.loop-fault.keeper) c.loop-fault.clock s in
+    let stands : State g.row.C.Denot → Type 0 = λ s. IsStateOf (g.K.Keeper.honest c.serve_next_item.new.keeper) (g.K.Keeper.closed c.serve_next_item.new.keeper) (g.K.Keeper.timeline c.serve_next_item.new.keeper) c.serve_next_item.new.clock s in
     let v = g.W.Write.contents c.serve_next_item.new.writer in
     comes_to step later weaken
-    (λ s. IsStateOf (g.K.Keeper.honest c.loop-fault.keeper) (g.K.Keeper.closed c.loop-fault.keeper) (g.K.Keeper.timeline c.loop-fault.keeper) c.loop-fault.clock s)
-    (λ s. IsStateOf (g.K.Keeper.honest c.serve_next_item.new.keeper) (g.K.Keeper.closed c.serve_next_item.new.keeper) (g.K.Keeper.timeline c.serve_next_item.new.keeper) c.serve_next_item.new.clock s)
+    stood
+    stands
     from start before w u v c.loop-fault.replies (Ok (record { replies = c.loop-fault.replies }))
-    (λ rest now to. ServesNext later rest now to after u v (Ok c.in-Ok-Eof.field-0))
+    (λ rest now to. ServesKnown later rest now to after u v (Ok c.in-Ok-Eof.field-0))
     (λ now to so next_item. serves_end later start before after from now to w u v c.loop-fault.replies _ c.in-Ok-Eof.field-0-is so next_item)
-    c.loop-fault.invariant.1 c.in-Ok-Eof.ensures.next_item
+    c.loop-fault.invariant.1 (serves_known later stood stands before after u v (Ok c.in-Ok-Eof.field-0) c.in-Ok-Eof.ensures.next_item)
 
 pub returns-in-Ok-Close-clause-served : goal.returns-in-Ok-Close-clause-served
 returns-in-Ok-Close-clause-served g c =
@@ -41,14 +43,16 @@ returns-in-Ok-Close-clause-served g c =
     let after = prepend_known c.serve_next_item.new.buffer.items (g.R.Read.remaining c.serve_next_item.new.reader.reader.now) in
     let w = g.W.Write.contents c.args.writer.now in
     let u = g.W.Write.contents c.loop-fault.writer in
+    let stood : State g.row.C.Denot → Type 0 = λ s. IsStateOf (g.K.Keeper.honest c.loop-fault.keeper) (g.K.Keeper.closed c.loop-fault.keeper) (g.K.Keeper.timeline c.loop-fault.keeper) c.loop-fault.clock s in
+    let stands : State g.row.C.Denot → Type 0 = λ s. IsStateOf (g.K.Keeper.honest c.serve_next_item.new.keeper) (g.K.Keeper.closed c.serve_next_item.new.keeper) (g.K.Keeper.timeline c.serve_next_item.new.keeper) c.serve_next_item.new.clock s in
     let v = g.W.Write.contents c.serve_next_item.new.writer in
     comes_to step later weaken
-    (λ s. IsStateOf (g.K.Keeper.honest c.loop-fault.keeper) (g.K.Keeper.closed c.loop-fault.keeper) (g.K.Keeper.timeline c.loop-fault.keeper) c.loop-fault.clock s)
-    (λ s. IsStateOf (g.K.Keeper.honest c.serve_next_item.new.keeper) (g.K.Keeper.closed c.serve_next_item.new.keeper) (g.K.Keeper.timeline c.serve_next_item.new.keeper) c.serve_next_item.new.clock s)
+    stood
+    stands
     from start before w u v c.loop-fault.replies (Ok (record { replies = c.loop-fault.replies + 1 }))
-    (λ rest now to. ServesNext later rest now to after u v (Ok c.in-Ok-Close.field-0))
+    (λ rest now to. ServesKnown later rest now to after u v (Ok c.in-Ok-Close.field-0))
     (λ now to so next_item. serves_last later start before after from now to w u v c.loop-fault.replies _ c.in-Ok-Close.field-0-is so next_item)
-    c.loop-fault.invariant.1 c.in-Ok-Close.ensures.next_item
+    c.loop-fault.invariant.1 (serves_known later stood stands before after u v (Ok c.in-Ok-Close.field-0) c.in-Ok-Close.ensures.next_item)
 
 pub returns-in-Err-clause-served : goal.returns-in-Err-clause-served
 returns-in-Err-clause-served g c =
@@ -61,14 +65,16 @@ returns-in-Err-clause-served g c =
     let after = prepend_known c.serve_next_item.new.buffer.items (g.R.Read.remaining c.serve_next_item.new.reader.reader.now) in
     let w = g.W.Write.contents c.args.writer.now in
     let u = g.W.Write.contents c.loop-fault.writer in
+    let stood : State g.row.C.Denot → Type 0 = λ s. IsStateOf (g.K.Keeper.honest c.loop-fault.keeper) (g.K.Keeper.closed c.loop-fault.keeper) (g.K.Keeper.timeline c.loop-fault.keeper) c.loop-fault.clock s in
+    let stands : State g.row.C.Denot → Type 0 = λ s. IsStateOf (g.K.Keeper.honest c.serve_next_item.new.keeper) (g.K.Keeper.closed c.serve_next_item.new.keeper) (g.K.Keeper.timeline c.serve_next_item.new.keeper) c.serve_next_item.new.clock s in
     let v = g.W.Write.contents c.serve_next_item.new.writer in
     comes_to step later weaken
-    (λ s. IsStateOf (g.K.Keeper.honest c.loop-fault.keeper) (g.K.Keeper.closed c.loop-fault.keeper) (g.K.Keeper.timeline c.loop-fault.keeper) c.loop-fault.clock s)
-    (λ s. IsStateOf (g.K.Keeper.honest c.serve_next_item.new.keeper) (g.K.Keeper.closed c.serve_next_item.new.keeper) (g.K.Keeper.timeline c.serve_next_item.new.keeper) c.serve_next_item.new.clock s)
+    stood
+    stands
     from start before w u v c.loop-fault.replies (Err c.in-Err.fault)
-    (λ rest now to. ServesNext later rest now to after u v (Err c.in-Err.fault))
+    (λ rest now to. ServesKnown later rest now to after u v (Err c.in-Err.fault))
     (λ now to so next_item. serves_fault later start before after from now to w u v c.loop-fault.replies c.in-Err.fault so next_item)
-    c.loop-fault.invariant.1 c.in-Err.ensures.next_item
+    c.loop-fault.invariant.1 (serves_known later stood stands before after u v (Err c.in-Err.fault) c.in-Err.ensures.next_item)
 
 pub loop-fault-preserved : goal.loop-fault-preserved
 loop-fault-preserved g c =
@@ -81,17 +87,19 @@ loop-fault-preserved g c =
     let after = prepend_known c.serve_next_item.new.buffer.items (g.R.Read.remaining c.serve_next_item.new.reader.reader.now) in
     let w = g.W.Write.contents c.args.writer.now in
     let u = g.W.Write.contents c.loop-fault.writer in
+    let stood : State g.row.C.Denot → Type 0 = λ s. IsStateOf (g.K.Keeper.honest c.loop-fault.keeper) (g.K.Keeper.closed c.loop-fault.keeper) (g.K.Keeper.timeline c.loop-fault.keeper) c.loop-fault.clock s in
+    let stands : State g.row.C.Denot → Type 0 = λ s. IsStateOf (g.K.Keeper.honest c.serve_next_item.new.keeper) (g.K.Keeper.closed c.serve_next_item.new.keeper) (g.K.Keeper.timeline c.serve_next_item.new.keeper) c.serve_next_item.new.clock s in
     let v = g.W.Write.contents c.serve_next_item.new.writer in (
       omega (arith, c.loop-fault.invariant.0, c.in-Ok-KeepAlive.ensures.room),
       keeps_on step later weaken
-          (λ s. IsStateOf (g.K.Keeper.honest c.loop-fault.keeper) (g.K.Keeper.closed c.loop-fault.keeper) (g.K.Keeper.timeline c.loop-fault.keeper) c.loop-fault.clock s)
-          (λ s. IsStateOf (g.K.Keeper.honest c.serve_next_item.new.keeper) (g.K.Keeper.closed c.serve_next_item.new.keeper) (g.K.Keeper.timeline c.serve_next_item.new.keeper) c.serve_next_item.new.clock s)
+          stood
+          stands
           from start before after w u v c.loop-fault.replies c.in-Ok-KeepAlive.field-0 c.in-Ok-KeepAlive.field-0-is
-          c.loop-fault.invariant.1 c.in-Ok-KeepAlive.ensures.next_item,
+          c.loop-fault.invariant.1 (serves_known later stood stands before after u v (Ok c.in-Ok-KeepAlive.field-0) c.in-Ok-KeepAlive.ensures.next_item),
       moves_on step later weaken
-          (λ s. IsStateOf (g.K.Keeper.honest c.loop-fault.keeper) (g.K.Keeper.closed c.loop-fault.keeper) (g.K.Keeper.timeline c.loop-fault.keeper) c.loop-fault.clock s)
-          (λ s. IsStateOf (g.K.Keeper.honest c.serve_next_item.new.keeper) (g.K.Keeper.closed c.serve_next_item.new.keeper) (g.K.Keeper.timeline c.serve_next_item.new.keeper) c.serve_next_item.new.clock s)
-          from c.loop-fault.invariant.2 c.in-Ok-KeepAlive.ensures.step,
+          stood
+          stands
+          from c.loop-fault.invariant.2 (steps_once later stood stands before after u v (Ok c.in-Ok-KeepAlive.field-0) c.in-Ok-KeepAlive.ensures.next_item),
       (λ trust. c.loop-fault.invariant.3 (c.in-Ok-KeepAlive.ensures.was trust)),
       kept_short start before (g.R.Read.remaining c.serve_next_item.new.reader.reader.now) c.loop-fault.buffer.items c.serve_next_item.new.buffer.items
           c.in-Ok-KeepAlive.field-0 c.in-Ok-KeepAlive.field-0-is c.loop-fault.invariant.4 c.in-Ok-KeepAlive.ensures.reads,
@@ -123,33 +131,51 @@ returns-in-Ok-Eof-clause-reached g c =
     let step = StepIfHonest (g.K.Keeper.honest c.loop-fault.keeper) g.C.Clock.reads in
     let later = StepIfHonest (g.K.Keeper.honest c.serve_next_item.new.keeper) g.C.Clock.reads in
     let weaken = step_later g.C.Clock.reads (g.K.Keeper.honest c.loop-fault.keeper) (g.K.Keeper.honest c.serve_next_item.new.keeper) c.in-Ok-Eof.ensures.was in
+    let before = prepend_known c.loop-fault.buffer.items (g.R.Read.remaining c.loop-fault.reader.reader.now) in
+    let after = prepend_known c.serve_next_item.new.buffer.items (g.R.Read.remaining c.serve_next_item.new.reader.reader.now) in
+    let u = g.W.Write.contents c.loop-fault.writer in
+    let v = g.W.Write.contents c.serve_next_item.new.writer in
+    let stood : State g.row.C.Denot → Type 0 = λ s. IsStateOf (g.K.Keeper.honest c.loop-fault.keeper) (g.K.Keeper.closed c.loop-fault.keeper) (g.K.Keeper.timeline c.loop-fault.keeper) c.loop-fault.clock s in
+    let stands : State g.row.C.Denot → Type 0 = λ s. IsStateOf (g.K.Keeper.honest c.serve_next_item.new.keeper) (g.K.Keeper.closed c.serve_next_item.new.keeper) (g.K.Keeper.timeline c.serve_next_item.new.keeper) c.serve_next_item.new.clock s in
     moves_on step later weaken
-    (λ s. IsStateOf (g.K.Keeper.honest c.loop-fault.keeper) (g.K.Keeper.closed c.loop-fault.keeper) (g.K.Keeper.timeline c.loop-fault.keeper) c.loop-fault.clock s)
-    (λ s. IsStateOf (g.K.Keeper.honest c.serve_next_item.new.keeper) (g.K.Keeper.closed c.serve_next_item.new.keeper) (g.K.Keeper.timeline c.serve_next_item.new.keeper) c.serve_next_item.new.clock s)
+    stood
+    stands
     (record { closed = g.K.Keeper.closed c.args.keeper.now; timeline = g.K.Keeper.timeline c.args.keeper.now; clock = c.args.clock.now })
-    c.loop-fault.invariant.2 c.in-Ok-Eof.ensures.step
+    c.loop-fault.invariant.2 (steps_once later stood stands before after u v (Ok c.in-Ok-Eof.field-0) c.in-Ok-Eof.ensures.next_item)
 
 pub returns-in-Ok-Close-clause-reached : goal.returns-in-Ok-Close-clause-reached
 returns-in-Ok-Close-clause-reached g c =
     let step = StepIfHonest (g.K.Keeper.honest c.loop-fault.keeper) g.C.Clock.reads in
     let later = StepIfHonest (g.K.Keeper.honest c.serve_next_item.new.keeper) g.C.Clock.reads in
     let weaken = step_later g.C.Clock.reads (g.K.Keeper.honest c.loop-fault.keeper) (g.K.Keeper.honest c.serve_next_item.new.keeper) c.in-Ok-Close.ensures.was in
+    let before = prepend_known c.loop-fault.buffer.items (g.R.Read.remaining c.loop-fault.reader.reader.now) in
+    let after = prepend_known c.serve_next_item.new.buffer.items (g.R.Read.remaining c.serve_next_item.new.reader.reader.now) in
+    let u = g.W.Write.contents c.loop-fault.writer in
+    let v = g.W.Write.contents c.serve_next_item.new.writer in
+    let stood : State g.row.C.Denot → Type 0 = λ s. IsStateOf (g.K.Keeper.honest c.loop-fault.keeper) (g.K.Keeper.closed c.loop-fault.keeper) (g.K.Keeper.timeline c.loop-fault.keeper) c.loop-fault.clock s in
+    let stands : State g.row.C.Denot → Type 0 = λ s. IsStateOf (g.K.Keeper.honest c.serve_next_item.new.keeper) (g.K.Keeper.closed c.serve_next_item.new.keeper) (g.K.Keeper.timeline c.serve_next_item.new.keeper) c.serve_next_item.new.clock s in
     moves_on step later weaken
-    (λ s. IsStateOf (g.K.Keeper.honest c.loop-fault.keeper) (g.K.Keeper.closed c.loop-fault.keeper) (g.K.Keeper.timeline c.loop-fault.keeper) c.loop-fault.clock s)
-    (λ s. IsStateOf (g.K.Keeper.honest c.serve_next_item.new.keeper) (g.K.Keeper.closed c.serve_next_item.new.keeper) (g.K.Keeper.timeline c.serve_next_item.new.keeper) c.serve_next_item.new.clock s)
+    stood
+    stands
     (record { closed = g.K.Keeper.closed c.args.keeper.now; timeline = g.K.Keeper.timeline c.args.keeper.now; clock = c.args.clock.now })
-    c.loop-fault.invariant.2 c.in-Ok-Close.ensures.step
+    c.loop-fault.invariant.2 (steps_once later stood stands before after u v (Ok c.in-Ok-Close.field-0) c.in-Ok-Close.ensures.next_item)
 
 pub returns-in-Err-clause-reached : goal.returns-in-Err-clause-reached
 returns-in-Err-clause-reached g c =
     let step = StepIfHonest (g.K.Keeper.honest c.loop-fault.keeper) g.C.Clock.reads in
     let later = StepIfHonest (g.K.Keeper.honest c.serve_next_item.new.keeper) g.C.Clock.reads in
     let weaken = step_later g.C.Clock.reads (g.K.Keeper.honest c.loop-fault.keeper) (g.K.Keeper.honest c.serve_next_item.new.keeper) c.in-Err.ensures.was in
+    let before = prepend_known c.loop-fault.buffer.items (g.R.Read.remaining c.loop-fault.reader.reader.now) in
+    let after = prepend_known c.serve_next_item.new.buffer.items (g.R.Read.remaining c.serve_next_item.new.reader.reader.now) in
+    let u = g.W.Write.contents c.loop-fault.writer in
+    let v = g.W.Write.contents c.serve_next_item.new.writer in
+    let stood : State g.row.C.Denot → Type 0 = λ s. IsStateOf (g.K.Keeper.honest c.loop-fault.keeper) (g.K.Keeper.closed c.loop-fault.keeper) (g.K.Keeper.timeline c.loop-fault.keeper) c.loop-fault.clock s in
+    let stands : State g.row.C.Denot → Type 0 = λ s. IsStateOf (g.K.Keeper.honest c.serve_next_item.new.keeper) (g.K.Keeper.closed c.serve_next_item.new.keeper) (g.K.Keeper.timeline c.serve_next_item.new.keeper) c.serve_next_item.new.clock s in
     moves_on step later weaken
-    (λ s. IsStateOf (g.K.Keeper.honest c.loop-fault.keeper) (g.K.Keeper.closed c.loop-fault.keeper) (g.K.Keeper.timeline c.loop-fault.keeper) c.loop-fault.clock s)
-    (λ s. IsStateOf (g.K.Keeper.honest c.serve_next_item.new.keeper) (g.K.Keeper.closed c.serve_next_item.new.keeper) (g.K.Keeper.timeline c.serve_next_item.new.keeper) c.serve_next_item.new.clock s)
+    stood
+    stands
     (record { closed = g.K.Keeper.closed c.args.keeper.now; timeline = g.K.Keeper.timeline c.args.keeper.now; clock = c.args.clock.now })
-    c.loop-fault.invariant.2 c.in-Err.ensures.step
+    c.loop-fault.invariant.2 (steps_once later stood stands before after u v (Err c.in-Err.fault) c.in-Err.ensures.next_item)
 
 pub returns-in-Ok-Eof-clause-reads : goal.returns-in-Ok-Eof-clause-reads
 returns-in-Ok-Eof-clause-reads g c =

@@ -9,6 +9,7 @@ invariant-loop-end g l =
     × (l.end ≤ length l.fn.buffer.items → l.reader ≡ l.fn.reader)
     × (length l.buffer.items + 1024 * l.reader.left ≤ length l.fn.buffer.items + 1024 * l.fn.reader.left)
     × (length l.fn.buffer.items < l.end + 1024 → length l.buffer.items < l.end + 1024)
+    × ((most : ℕ) → l.end + 1023 ≤ most → length l.fn.buffer.items ≤ most → length l.buffer.items ≤ most)
     × (l.reader.reader.ghost_name ≡ l.fn.reader.reader.ghost_name)
     × (l.reader.left ≤ l.fn.reader.left)
 

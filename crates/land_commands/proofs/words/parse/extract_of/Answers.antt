@@ -23,7 +23,7 @@ codes_differ code e f = absurd (omega (arith, e, f))
 none_lacking : (rows : List Row) → Lacks rows → HasOptionsOf (codes "extract") rows None
 none_lacking rows lacks (to_talk clock) word has = cc
 none_lacking rows lacks (to_make file) word has = cc
-none_lacking rows lacks (to_serve file port connections) word has = cc
+none_lacking rows lacks (to_serve file port connections at_once) word has = cc
 none_lacking rows lacks (to_check file) word has = cc
 none_lacking rows lacks (to_migrate file) word has = codes_differ 109 refl (ap first_code word)
 none_lacking rows lacks (to_extract file clock party role kind at) word has = lacks file clock party role kind at has

@@ -53,6 +53,7 @@ loop-spans-init g c = (
   (λ small. none_read c.args.buffer.now.items small),
   refl,
   omega arith,
+  (λ most wide small. small),
 )
 
 pub loop-spans-preserved : goal.loop-spans-preserved
@@ -73,4 +74,5 @@ loop-spans-preserved g c =
           (omega (arith, c.in-Ok.ensures.bound, c.in-Ok.ensures.spends, ap length grown.2, length-append c.loop-spans.buffer.items grown.0)) open_now),
       c.in-Ok.ensures.same_reference ∙ c.loop-spans.invariant.4,
       omega (arith, c.loop-spans.invariant.5, c.in-Ok.ensures.fewer),
+      (λ most wide small. omega (arith, short, wide, c.in-Ok.ensures.limit)),
     )

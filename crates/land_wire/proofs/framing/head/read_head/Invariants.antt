@@ -11,6 +11,7 @@ invariant-loop-spans g l = Keeps (prepend_known l.fn.buffer.items (g.R.Read.rema
     × (length l.fn.buffer.items ≤ 1024 → LastReadWasNeeded l.buffer.items)
     × (l.reader.reader.ghost_name ≡ l.fn.reader.reader.ghost_name)
     × (l.reader.left ≤ l.fn.reader.left)
+    × ((most : ℕ) → 9215 ≤ most → length l.fn.buffer.items ≤ most → length l.buffer.items ≤ most)
 
 abbrev pub decreases-loop-spans : goal.decreases-loop-spans
 decreases-loop-spans g l = l.reader.left

@@ -1,7 +1,7 @@
 use Rattle.std.proofs.Common.{◌≡◌, ◌<◌, ℕ, List, ◌++◌, true, false, [], length, inl, inr, refl, sym, subst, ◌∙◌, arith, IfSome}
 use Rattle.std.specs.Io.KnownBytes.{prepend_known}
 use Rattle.std.proofs.lemmas.List.{nil_from_length}
-use Rattle.land_wire.proofs.ItemLemmas.{front_known, failed_known, fault_read, head_ahead, request_known, request_of_stream, cut_known, item_fits}
+use Rattle.land_wire.proofs.ItemLemmas.{front_known, failed_known, fault_read, head_ahead, head_small, request_known, request_of_stream, cut_known, item_fits}
 use Rattle.land_wire.specs.Framing.Items.{request, IsItem, IsNextOf, ReadsUpTo}
 use Rattle.land_wire.specs.declared.framing.item.NextItem.{NextItem}
 use Rattle.land_wire.proofs.framing.item.read_item.Goals as goal
@@ -90,3 +90,30 @@ returns-in-Ok-true-clause-ahead g c small =
     let first = head_ahead c.read_head.new.buffer.items c.read_head.new.headers c.in-Ok-Whole.spans c.in-Ok-Whole.field-0 c.in-Ok-Whole.field-0-is
     c.in-Ok-Whole.ensures.whole (c.in-Ok-Whole.ensures.ahead small) in
     c.in-Ok-true.ensures.ahead (omega (arith, first))
+
+pub returns-in-Err-clause-limit : goal.returns-in-Err-clause-limit
+returns-in-Err-clause-limit g c most wide small = c.in-Err.ensures.limit most (omega (arith, wide)) small
+
+pub returns-in-Ok-Fault-clause-limit : goal.returns-in-Ok-Fault-clause-limit
+returns-in-Ok-Fault-clause-limit g c most wide small = c.in-Ok-Fault.ensures.limit most (omega (arith, wide)) small
+
+pub returns-in-Err-body_length_of-clause-limit : goal.returns-in-Err-body_length_of-clause-limit
+returns-in-Err-body_length_of-clause-limit g c most wide small = c.in-Ok-Whole.ensures.limit most (omega (arith, wide)) small
+
+pub returns-in-Err-read_to-clause-limit : goal.returns-in-Err-read_to-clause-limit
+returns-in-Err-read_to-clause-limit g c most wide small =
+    let head = head_small c.read_head.new.buffer.items c.read_head.new.headers c.in-Ok-Whole.spans c.in-Ok-Whole.field-0 c.in-Ok-Whole.field-0-is
+    c.in-Ok-Whole.ensures.whole in
+    c.in-Err-read_to.ensures.limit most (omega (arith, head, c.in-Ok.ensures.bound, wide)) (c.in-Ok-Whole.ensures.limit most (omega (arith, wide)) small)
+
+pub returns-in-Ok-true-clause-limit : goal.returns-in-Ok-true-clause-limit
+returns-in-Ok-true-clause-limit g c most wide small =
+    let head = head_small c.read_head.new.buffer.items c.read_head.new.headers c.in-Ok-Whole.spans c.in-Ok-Whole.field-0 c.in-Ok-Whole.field-0-is
+    c.in-Ok-Whole.ensures.whole in
+    c.in-Ok-true.ensures.limit most (omega (arith, head, c.in-Ok.ensures.bound, wide)) (c.in-Ok-Whole.ensures.limit most (omega (arith, wide)) small)
+
+pub returns-in-Ok-false-clause-limit : goal.returns-in-Ok-false-clause-limit
+returns-in-Ok-false-clause-limit g c most wide small =
+    let head = head_small c.read_head.new.buffer.items c.read_head.new.headers c.in-Ok-Whole.spans c.in-Ok-Whole.field-0 c.in-Ok-Whole.field-0-is
+    c.in-Ok-Whole.ensures.whole in
+    c.in-Ok-false.ensures.limit most (omega (arith, head, c.in-Ok.ensures.bound, wide)) (c.in-Ok-Whole.ensures.limit most (omega (arith, wide)) small)
