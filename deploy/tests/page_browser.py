@@ -170,6 +170,8 @@ class Chromium(Page):
 
     def __init__(self, stack):
         self.stack, self.root = stack, f"https://127.0.0.1:{stack.gateway_port}/"
+        # When each page was loaded: from, to, in seconds.
+        self.loads = []
         options = webdriver.ChromeOptions()
         for word in ("--headless=new", "--no-sandbox", "--disable-gpu", "--disable-dev-shm-usage",
             "--lang=en-GB",
@@ -204,15 +206,17 @@ class Chromium(Page):
     def sign_in_by_password(self, user):
         """Signs in as a user does: the browser keeps the password for the site."""
         self.driver.execute_cdp_cmd("Network.setExtraHTTPHeaders", {"headers": {}})
-        self.driver.get(self.root.replace("//", f"//{user}:secret-{user}@"))
-        self.driver.get(self.root)
+        self.load(self.root.replace("//", f"//{user}:secret-{user}@"))
+        self.load(self.root)
 
     def forget_files(self):
         """Clears the cache, since a file of the page was changed."""
         self.driver.execute_cdp_cmd("Network.clearBrowserCache", {})
 
     def load(self, url):
+        began = time.time()
         self.driver.get(url)
+        self.loads.append((began, time.time()))
 
     def js(self, text, *arguments):
         return self.driver.execute_script(text, *arguments)
@@ -236,12 +240,17 @@ class Chromium(Page):
     def console_errors(self):
         """Returns the errors and warnings on the browser's console.
 
-        Leaves out ERR_FAILED, which has no status. It was seen once, on a busy machine, and probably comes from a request that the test
-        interrupted by opening another view; that was not reproduced. So a load that really fails without a status is not found here.
+        Leaves out a request that failed with ERR_FAILED, which has no status, while a page was being loaded: the browser ends the requests
+        of the page before it. At any other time such a request is an error.
         """
         return [it["message"] for it in self.driver.get_log("browser")
             if it["level"] in ("SEVERE", "WARNING") and
-                not any(word in it["message"] for word in ("status of 4", "willReadFrequently", "net::ERR_FAILED"))]
+                not any(word in it["message"] for word in ("status of 4", "willReadFrequently")) and
+                not ("net::ERR_FAILED" in it["message"] and self.was_loading(it["timestamp"] / 1000))]
+
+    def was_loading(self, moment):
+        """Returns whether a page was being loaded at that time, in seconds, give or take half a second."""
+        return any(began - 0.5 <= moment <= ended + 0.5 for began, ended in self.loads)
 
     def resize(self, width, height=1000, mobile=False):
         self.driver.execute_cdp_cmd("Emulation.setDeviceMetricsOverride",
