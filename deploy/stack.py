@@ -227,7 +227,8 @@ class Stack:
         subprocess.run([self.program, "new", "--file", self.file(name)], check=True)
 
     def serve(self, name="town", port=None):
-        words = [self.program, "serve", "--file", self.file(name), "--port", str(port or self.register_port), "--connections", "1000000"]
+        words = [self.program, "serve", "--file", self.file(name), "--port", str(port or self.register_port), "--connections", "1000000",
+                 "--at-once", "64"]
         return self.start_process("register-" + name, words, inside=True)
 
     def start_recorder(self):
