@@ -8,6 +8,7 @@ import {
 import { h, safeText } from "./dom.js";
 import { decimal } from "./format.js";
 import { loansPanel } from "./loans.js";
+import { mandatesPanel } from "./mandates.js";
 import { allOf, pageOf } from "./mirror.js";
 import { formatMoment, when } from "./moments.js";
 import { mutationTitle, titleText } from "./mutations.js";
@@ -20,7 +21,7 @@ export const titleOf = (role) => t("start." + role);
 
 export async function startView() {
   const view = [titleOf(state.role), lead(t("start.lead." + state.role)), pastNotice(), actsPanel()];
-  if (state.role === "citizen") view.push(await landPanel());
+  if (state.role === "citizen") view.push(...await Promise.all([landPanel(), mandatesPanel()]));
   if (state.role === "bank") view.push(await loansPanel());
   if (state.role === "stateAdministrator") view.push(undecidedPanel());
   else if (state.role !== "citizen") view.push(await lodgingsPanel());

@@ -32,6 +32,25 @@ def faults(it, names, pending, views=None):
     return found
 
 
+def header_faults(it, widths=(PHONE, 768, 1024, 1280, 1440)):
+    """The header at each width, in both languages; on a phone also with its menu open."""
+    it.sign_in("office")
+    found = []
+    for language in ("de", "en"):
+        it.go("#/start?role=stateAdministrator")
+        it.js("const e = document.getElementById('language'); e.value = arguments[0]; e.dispatchEvent(new Event('change'))", language)
+        it.settle(lambda: it.js("return document.documentElement.lang") == language)
+        for width in widths:
+            it.resize(width)
+            found += [f"{language} {width}: {one}" for one in it.run_check("header")]
+            it.picture(f"header-{language}-{width}", width, 400)
+        it.resize(PHONE)
+        it.js("document.getElementById('menu').click()")
+        found += [f"{language}, menu: {one}" for one in it.run_check("header")]
+        it.resize(WIDE)
+    return found
+
+
 def tab_order_faults(it, place):
     """Tabs through a view: every control must be reached, in document order, with a visible focus indicator."""
     it.go(place)
@@ -106,5 +125,7 @@ def run(it, pending):
     for name in CHECKS:
         wrong = [one for one in found if f" {name}: " in one]
         check(f"{it.name}: accessibility: {name}, on {len(VIEWS)} views", not wrong, wrong)
+    found = header_faults(it)
+    check(f"{it.name}: the header at five widths, in two languages", not found, found)
     found = focus_faults(it, pending) + key_faults(it, pending)
     check(f"{it.name}: keyboard operation", not found, found)

@@ -169,6 +169,11 @@ def draw_next_to_first(it):
 
 
 def mandates(it):
+    it.sign_in("anna")
+    it.user_now = ("anna", "citizen")
+    it.go("#/start?role=citizen")
+    check(f"{it.name}: without a mirror mandates are not listed, and the page says so",
+        it.has("Without a mirror mandates are not listed.") and not it.count("table.mandates"), it.text()[-300:])
     open_act(it, "anna", "mandate", "citizen")
     it.fill("agent", "5")
     check(f"{it.name}: mandate", sent(it, "Mandate given"), it.text())

@@ -1,9 +1,12 @@
 """The page with a mirror: search, history, lists, the map; and that it works on when the mirror is lost."""
+import csv
+import os
+import time
+
 from harness import check, note
 from page_browser import DESK, PHONE
 from page_stack import wait_for_mirror
 import scenario
-import time
 
 OFFICE, NORA = (1, "stateAdministrator"), (5, "notary")
 
@@ -113,6 +116,62 @@ def check_undecided(it):
         it.text())
 
 
+def check_mandates(it):
+    """A citizen's mandates, given and held, newest first; a row leads to the form that withdraws it. Others never see them."""
+    act = scenario.act_sender(it.stack.queue_connection())
+    act((2, "citizen"), "mandate", {"agent": 3})
+    act((2, "citizen"), "mandate", {"agent": 5})
+    act((6, "citizen"), "mandate", {"agent": 2})
+    it.sign_in("anna")
+    it.go("#/do/mandate?role=citizen")
+    it.fill("agent", "6")
+    it.send_form()
+    it.settle(lambda: "Mandate given" in it.text(".answer"))
+    rows = "return [...document.querySelectorAll('table.mandates tbody tr')].map((r) => [...r.cells].slice(0, 2).map((c) => c.innerText" \
+        ".replace('\\u00a0', ' ')).join(' '))"
+    it.button("Your land", "#tabs")
+    it.settle(lambda: it.count("table.mandates tbody tr"))
+    wanted = ["given to Sam 6", "held from Sam 6", "given to Party 5", "given to Ben 3"]
+    check(f"{it.name}: mandates given and held, newest first", it.js(rows) == wanted, it.js(rows))
+    it.picture("mandates")
+    it.picture("mandates-narrow", PHONE)
+    it.js("const e = document.querySelectorAll('section select')[0]; e.value = 'held'; e.dispatchEvent(new Event('change'))")
+    check(f"{it.name}: those held", it.until(lambda: it.js(rows) == ["held from Sam 6"], 10), it.js(rows))
+    it.js("const e = document.querySelectorAll('section select')[0]; e.value = ''; e.dispatchEvent(new Event('change'))")
+    it.until(lambda: len(it.js(rows)) == 4, 10)
+    it.click("table.mandates tbody a[href*='withdraw']", 3)
+    check(f"{it.name}: a row leads to the form that withdraws the mandate", it.settle(lambda: it.has("Ben 3") and
+        it.js("return document.querySelector('select[name=way]').value") == "given"), it.text())
+    it.send_form()
+    check(f"{it.name}: it is withdrawn", it.settle(lambda: "Mandate withdrawn" in it.text(".answer")), it.text())
+    it.button("Your land", "#tabs")
+    it.settle(lambda: it.count("table.mandates tbody tr"))
+    check(f"{it.name}: the list has it no more", it.js(rows) == wanted[:3], it.js(rows))
+    it.js("const e = document.querySelectorAll('section select')[1]; e.value = '0'; e.dispatchEvent(new Event('change'))")
+    check(f"{it.name}: it is among those that ended", it.until(lambda: it.js(rows) == ["given to Ben 3"], 10), it.js(rows))
+    it.js("const e = document.querySelectorAll('section select')[1]; e.value = ''; e.dispatchEvent(new Event('change'))")
+    it.until(lambda: len(it.js(rows)) == 4, 10)
+    it.button("Save as CSV")
+    file = os.path.join(it.downloads, "mandates.csv")
+    saved = it.until(lambda: os.path.exists(file) and os.path.getsize(file), 20)
+    with open(file if saved else os.devnull, newline="", encoding="utf-8") as source:
+        lines = list(csv.reader(source))
+    check(f"{it.name}: they are saved as CSV", [line[:4] for line in lines] == [
+        ["principal", "principal_name", "agent", "agent_name"], ["2", "Anna", "6", "Sam"], ["6", "Sam", "2", "Anna"],
+        ["2", "Anna", "5", ""], ["2", "Anna", "3", "Ben"]], lines)
+    it.sign_in("nora")
+    it.go("#/start?role=citizen")
+    it.settle(lambda: it.count("table.mandates tbody tr"))
+    check(f"{it.name}: an agent sees its mandate, and no other", it.js(rows) == ["held from Anna 2"], it.js(rows))
+    it.go("#/start?role=notary")
+    check(f"{it.name}: other roles have no list", not it.count("table.mandates"), it.text())
+    it.js("const e = document.getElementById('language'); e.value = 'de'; e.dispatchEvent(new Event('change'))")
+    it.go("#/start?role=citizen")
+    check(f"{it.name}: in German", it.settle(lambda: it.js(rows) == ["erhalten von Anna 2"]), it.js(rows))
+    it.js("const e = document.getElementById('language'); e.value = 'en'; e.dispatchEvent(new Event('change'))")
+    it.settle()
+
+
 def canvas_colours(it):
     """Returns the number of pixels of the map that are neither paper nor white, in thousands."""
     return it.js("""const c = document.querySelector('canvas.map'); const d = c.getContext('2d').getImageData(0, 0, c.width, c.height).data;
@@ -169,7 +228,7 @@ def check_loss(it):
 
 
 def run(it, lose=True):
-    for part in (check_search, check_history, check_lists, check_map, check_undecided):
+    for part in (check_search, check_history, check_lists, check_map, check_undecided, check_mandates):
         part(it)
     found = it.console_errors()
     check(f"{it.name}: no errors on the console with a mirror", not found, found)
