@@ -71,7 +71,8 @@ export async function mandatesPanel() {
       h("td", { "data-head": heads[n] }, cell)))));
     more.hidden = !page.more;
     grid.hidden = body.childElementCount === 0;
-    status.textContent = body.childElementCount ? "" : t("mandates.none");
+    status.textContent = body.childElementCount ? t("list.shown", { n: body.childElementCount }) :
+      t("mandates.none");
   }
 
   async function restart() {

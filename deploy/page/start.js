@@ -81,6 +81,7 @@ function undecidedPanel() {
     { onchange: () => draw() });
   const words = h("input", { type: "search", oninput: () => draw() });
   let shown = PAGE;
+  let loaded = false;
   const more = button(t("page.more"), () => {
     shown += PAGE;
     draw();
@@ -96,6 +97,9 @@ function undecidedPanel() {
       [t("col.request"), t("col.reference"), t("col.lodger"), t("col.lodged")], rows));
     more.hidden = shown >= list.length;
     body.hidden = all.length === 0;
+    if (loaded) status.textContent = all.length === 0 ? t("work.nothing") :
+      list.length < all.length ? t("work.filtered", { n: list.length, total: all.length }) :
+        t("work.waiting", { n: all.length });
   }
 
   async function load() {
@@ -103,7 +107,7 @@ function undecidedPanel() {
       all.push({ ...o, title: await titleText(o) });
       if (all.length <= PAGE) await draw();
     }, (read, total) => { status.textContent = t("work.reading", { read, total }); });
-    status.textContent = all.length ? t("work.waiting", { n: all.length }) : t("work.nothing");
+    loaded = true;
     await draw();
   }
   load();
@@ -160,7 +164,8 @@ async function lodgingsPanel() {
     }
     next = after;
     more.hidden = next === null;
-    status.textContent = body.childElementCount ? "" : t("work.noLodgings");
+    status.textContent = body.childElementCount ? t("list.shown", { n: body.childElementCount }) :
+      t("work.noLodgings");
   }
 
   async function restart() {

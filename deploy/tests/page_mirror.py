@@ -1,6 +1,7 @@
 """The page with a mirror: search, history, lists, the map; and that it works on when the mirror is lost."""
 import csv
 import os
+import re
 import time
 
 from harness import check, note
@@ -178,6 +179,24 @@ def canvas_colours(it):
         let n = 0; for (let i = 0; i < d.length; i += 4) if (d[i] < 245) n += 1; return Math.round(n / 1000);""")
 
 
+def check_touch(it, x, y):
+    """A finger moves the map, two fingers enlarge it."""
+    def in_view():
+        found = re.search(r"(\d+) parcels? in view", it.text())
+        return int(found[1]) if found else None
+    it.touch([(x + 300 - 60 * n, y) for n in range(11)])
+    check(f"{it.name}: a finger moves the map", it.until(lambda: (in_view() or 47) < 47, 10), it.text()[:300])
+    it.js("document.querySelector('canvas.map').focus()")
+    it.press("0")
+    it.settle(lambda: it.has("47 parcels in view"), 10)
+    it.touch([(x - 20 - 12 * n, y) for n in range(11)], [(x + 20 + 12 * n, y) for n in range(11)])
+    check(f"{it.name}: two fingers enlarge it", it.until(lambda: (in_view() or 47) < 40, 10), it.text()[:300])
+    check(f"{it.name}: and open no unit", "#/map" in it.js("return location.hash"))
+    it.js("document.querySelector('canvas.map').focus()")
+    it.press("0")
+    it.settle(lambda: it.has("47 parcels in view"), 10)
+
+
 def check_map(it):
     it.sign_in("office")
     it.go("#/map?role=stateAdministrator")
@@ -193,6 +212,7 @@ def check_map(it):
     it.press("0")
     it.settle(lambda: it.has("47 parcels in view"), 10)
     x, y = it.js("const b = document.querySelector('canvas.map').getBoundingClientRect(); return [b.x + b.width / 2, b.y + b.height / 2]")
+    check_touch(it, x, y)
     found = None
     for step in range(-60, 61, 12):
         it.click_at(x + step, y + step)
