@@ -44,7 +44,8 @@ def header_faults(it, widths=(PHONE, 768, 1024, 1280, 1440)):
         for width in widths:
             it.resize(width)
             found += [f"{language} {width}: {one}" for one in it.run_check("header")]
-            it.picture(f"header-{language}-{width}", width, 400)
+            if len(widths) > 1:
+                it.picture(f"header-{language}-{width}", width, 400)
         it.resize(PHONE)
         it.js("document.getElementById('menu').click()")
         found += [f"{language}, menu: {one}" for one in it.run_check("header")]
@@ -155,6 +156,9 @@ def announcement_faults(it):
     it.go("#/units/9?role=stateAdministrator")
     if not is_announced(it, lambda: it.button("Show history"), "changed at these", 60):
         found.append("a history")
+    it.button("Compare two moments")
+    if not is_announced(it, lambda: it.button("Compare"), "difference"):
+        found.append("a comparison")
     it.go("#/units?role=citizen")
     if not any(key[1] == "alert" and "rule 2" in text for key, text in live_texts(it).items()):
         found.append("a denial")
