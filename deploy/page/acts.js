@@ -192,10 +192,11 @@ function mandate() {
   return { fields: [agent], body: () => ({ agent: agent.read() }) };
 }
 
-function withdraw() {
+function withdraw(prefill) {
   const way = choiceField({ key: "way", label: t("field.mandate"),
-    options: [["given", t("field.given")], ["held", t("field.held")]] });
-  const other = partyField({ key: "other", label: t("field.other"), allow: notSelf });
+    options: [["given", t("field.given")], ["held", t("field.held")]], value: prefill.principal ? "held" : "given" });
+  const other = partyField({ key: "other", label: t("field.other"), allow: notSelf,
+    value: prefill.agent || prefill.principal || null });
   return { fields: [way, other], body: () => (way.read() === "given" ?
     { principal: state.me, agent: other.read() } : { principal: other.read(), agent: state.me }) };
 }

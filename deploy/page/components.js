@@ -66,7 +66,8 @@ export function errorBox(reply, more) {
 export const message = (title, ...content) => h("div", { class: "message", role: "alert" },
   h("h2", {}, title), ...content);
 
-export const success = (title, ...content) => h("div", { class: "message success", role: "status" },
+// A screen reader announces it only in a live region that exists before: `.answer` of a form, or #status.
+export const success = (title, ...content) => h("div", { class: "message success" },
   title ? h("h2", {}, title) : "", h("p", {}, ...content));
 
 // A notice that the view shows an earlier time.

@@ -54,6 +54,11 @@ export function safeText(text) {
   return h("bdi", {}, ...parts);
 }
 
+// Lets a screen reader announce a text.
+export function announce(text) {
+  document.getElementById("status").textContent = text;
+}
+
 let counter = 0;
 // An id that no other element of the page has.
 export const newId = (prefix) => prefix + "-" + (counter += 1);

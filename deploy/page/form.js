@@ -65,7 +65,7 @@ async function madeLinks(numbers) {
 // with empty fields.
 export function formView({ name, leadText, build, lodging }) {
   const place = h("div", {});
-  const answer = h("div", { class: "answer" });
+  const answer = h("div", { class: "answer", role: "status" });
   let current;
 
   function start() {

@@ -3,7 +3,7 @@
 import { objectOf, sheetOf, state } from "./api.js";
 import { button, classOf, hrefAt, hrefOf, panel, select, small } from "./components.js";
 import { compareMoments } from "./compare.js";
-import { h, safeText } from "./dom.js";
+import { announce, h, safeText } from "./dom.js";
 import { ask, hasMirror } from "./mirror.js";
 import { when } from "./moments.js";
 import { searchChanges } from "./changes.js";
@@ -171,6 +171,7 @@ function chooser(number, moments) {
   const form = h("form", { class: "tools", onsubmit: async (event) => {
     event.preventDefault();
     result.replaceChildren(...await compareMoments(number, value("first"), value("second")));
+    announce(result.querySelector("caption, h2").textContent);
   } }, field("first", String(moments[1])), field("second", ""), h("button", {}, t("compare.compare")));
   return h("details", {}, h("summary", {}, t("compare.title")), form, result);
 }

@@ -75,10 +75,11 @@ async function render(moved) {
   if (rendering !== latest) return;
   document.title = safeString(title) + " - " + t("app.title");
   openMenu(false);
-  main.replaceChildren(h("h1", {}, safeText(title)), takeNotice(),
+  const notice = takeNotice();
+  main.replaceChildren(h("h1", {}, safeText(title)), notice,
     ...view.filter((one) => one !== "" && one));
   main.removeAttribute("aria-busy");
-  status.textContent = safeString(title);
+  status.textContent = [safeString(title), notice && notice.textContent].filter(Boolean).join(". ");
   if (moved) main.focus();
   showCaller();
 }

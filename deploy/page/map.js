@@ -29,7 +29,7 @@ export async function mapView(number) {
 }
 
 function createMap(source, found) {
-  const canvas = h("canvas", { class: "map", tabindex: "0", role: "img", "aria-label": t("map.name"),
+  const canvas = h("canvas", { class: "map", tabindex: "0", role: "application", "aria-label": t("map.name"),
     "aria-describedby": "map-keys" });
   const context = canvas.getContext("2d");
   const list = h("ul", { class: "plain columns-list" });

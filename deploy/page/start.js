@@ -8,6 +8,7 @@ import {
 import { h, safeText } from "./dom.js";
 import { decimal } from "./format.js";
 import { loansPanel } from "./loans.js";
+import { mandatesPanel } from "./mandates.js";
 import { allOf, pageOf } from "./mirror.js";
 import { formatMoment, when } from "./moments.js";
 import { mutationTitle, titleText } from "./mutations.js";
@@ -20,7 +21,7 @@ export const titleOf = (role) => t("start." + role);
 
 export async function startView() {
   const view = [titleOf(state.role), lead(t("start.lead." + state.role)), pastNotice(), actsPanel()];
-  if (state.role === "citizen") view.push(await landPanel());
+  if (state.role === "citizen") view.push(...await Promise.all([landPanel(), mandatesPanel()]));
   if (state.role === "bank") view.push(await loansPanel());
   if (state.role === "stateAdministrator") view.push(undecidedPanel());
   else if (state.role !== "citizen") view.push(await lodgingsPanel());
@@ -80,6 +81,7 @@ function undecidedPanel() {
     { onchange: () => draw() });
   const words = h("input", { type: "search", oninput: () => draw() });
   let shown = PAGE;
+  let loaded = false;
   const more = button(t("page.more"), () => {
     shown += PAGE;
     draw();
@@ -95,6 +97,9 @@ function undecidedPanel() {
       [t("col.request"), t("col.reference"), t("col.lodger"), t("col.lodged")], rows));
     more.hidden = shown >= list.length;
     body.hidden = all.length === 0;
+    if (loaded) status.textContent = all.length === 0 ? t("work.nothing") :
+      list.length < all.length ? t("work.filtered", { n: list.length, total: all.length }) :
+        t("work.waiting", { n: all.length });
   }
 
   async function load() {
@@ -102,7 +107,7 @@ function undecidedPanel() {
       all.push({ ...o, title: await titleText(o) });
       if (all.length <= PAGE) await draw();
     }, (read, total) => { status.textContent = t("work.reading", { read, total }); });
-    status.textContent = all.length ? t("work.waiting", { n: all.length }) : t("work.nothing");
+    loaded = true;
     await draw();
   }
   load();
@@ -159,7 +164,8 @@ async function lodgingsPanel() {
     }
     next = after;
     more.hidden = next === null;
-    status.textContent = body.childElementCount ? "" : t("work.noLodgings");
+    status.textContent = body.childElementCount ? t("list.shown", { n: body.childElementCount }) :
+      t("work.noLodgings");
   }
 
   async function restart() {

@@ -30,7 +30,9 @@ def test_faults(gateway):
             132),
         ("/map/parcels", 131), ("/map/parcels?box=1,2,3", 132), ("/map/parcels?box=3,0,1,1", 132), ("/map/parcels?box=0,0,1,nan", 132),
         ("/map/parcels?box=0,0,1e9,1", 132), ("/map/parcels/at?point=1", 132), ("/map/tiles/25/0/0", 132), ("/map/tiles/0/-1/0", 132),
-        ("/extracts/all.csv", 136), ("/extracts/parcels.txt", 136), ("/units/x/history", 132), ("/areas?limit=0", 132)]
+        ("/extracts/all.csv", 136), ("/extracts/parcels.txt", 136), ("/units/x/history", 132), ("/areas?limit=0", 132),
+        ("/mandates?side=all", 133), ("/mandates?current=2", 132), ("/mandates?party=2", 131), ("/mandates?principal=2", 131),
+        ("/mandates?side=given&side=held", 131), ("/mandates/2", 136)]
     for target, fault in cases:
         status, _, body = gateway.get(*OFFICE, target)
         check(f"{target}: fault {fault}", (status, body) == (400, b'{"fault":%d}' % fault), (status, body))

@@ -40,6 +40,8 @@ CHANGES = [
     (f"{RULES}/denials/sight.rt", "number == caller.party", "number != caller.party"),
     (f"{RULES}/rules/standing.rt", "past && sees_only_present(caller)", "sees_only_present(caller)"),
     (f"{RULES}/rules/standing.rt", "caller.role == Role::Bank\n", "caller.role != Role::Bank\n"),
+    (f"{RULES}/rules/standing/act.rt", "is_mandate_act(act) && caller.role != Role::Citizen", "is_mandate_act(act) && false"),
+    (f"{RULES}/rules/standing/act.rt", "mandate.principal == party || mandate.agent", "mandate.agent"),
     ("land_select_queries/src/lookups/texts.rt", "FROM mandate WHERE agent = ?1", "FROM mandate WHERE principal = ?1"),
     ("land_core/src/words.rt", 'Role::Bank => "bank"', 'Role::Bank => bank_word()'),
 ]

@@ -86,9 +86,13 @@ class Queries:
         with server.connect("postgres", self.name) as db, db.cursor() as cursor:
             cursor.execute("UPDATE access.setting SET tile_west = 0, tile_north = %s, tile_side = %s", (PLANE / 2, PLANE))
         self.folder, self.server, self.compared = folder, server, 0
+        self.mandates = [0, 0]          # shown in full lists, and of these those that ended
         with serving(self.file) as service:
             actor = Actor(service.port, seed)
             actor.acts(acts)
+            for _ in range(30):         # mandates are rare among random acts
+                for act in (actor.scenario.mandate, actor.scenario.mandate, actor.scenario.withdraw):
+                    actor.client.send(act())
             actor.close()
             self.ledger = actor.ledger
             run = feed_once(folder, server, self.name, self.file)
@@ -123,6 +127,9 @@ class Queries:
         for role, parties in sorted(held.items()):
             for party in self.dice.sample(parties, min(len(parties), 4 if role == "citizen" else 1)):
                 yield party, role
+        given = {it[side] for it in self.rows("mandate") for side in ("principal", "agent")}
+        for party in self.dice.sample(sorted(given), 2):
+            yield party, "citizen"
 
     def compare(self):
         stamps = [it for it, _ in self.ledger.moments]
@@ -136,7 +143,8 @@ class Queries:
                     self.equal("a denied query", (status, body), (403, b'{"denied":3}'))
             if role not in ("bank", "conveyancer", "certifiedSurveyor"):
                 self.compare_histories(party, role)
-        note(f"{self.name}: {self.compared} answers compared")
+        self.compare_mandates_of_all()
+        note(f"{self.name}: {self.compared} answers compared; {self.mandates[0]} mandates, of which {self.mandates[1]} had ended")
 
     def compare_view(self, view):
         def ask(target):
@@ -146,6 +154,7 @@ class Queries:
         self.compare_pages(view, ask, name)
         self.compare_map(view, ask, name)
         self.compare_sums(view, ask, name)
+        self.compare_mandates(view, ask, name)
         for kind, path in KINDS.items():
             status, headers, body = self.gateway.get(view.party, view.role, f"/extracts/{path}.csv{view.query}")
             self.equal(f"{name} extract of {kind}", (status, headers["Content-Type"].split(";")[0], body),
@@ -255,6 +264,61 @@ class Queries:
         refers = {it["mutation"] for it in self.rows("names") if it["unit"] == unit}
         self.equal(f"{name} undecided of {unit}", ask(f"/units/{unit}/undecided"),
                    {"undecided": [it for it in lodged if it["number"] in refers]})
+
+    def compare_mandates(self, view, ask, name):
+        """A citizen sees the mandates of which it is the principal or the agent, newest first; in other roles rule 28 denies them."""
+        if view.role != "citizen":
+            self.equal(f"{name} mandates", ask("/mandates"), (403, b'{"denied": 28}'))
+            return
+        moment = self.ledger.moments[-1][0] if view.at is None else view.at
+
+        def party(number):
+            seen = view.objects["party"].get(number)
+            return {"number": number, **({"name": seen["name"]} if seen else {})}
+        own = [it for it in self.rows("mandate") if view.party in (it["principal"], it["agent"]) and it["since"] <= moment]
+        own.sort(key=lambda it: -it["since"])
+        wanted = [({"principal": party(it["principal"]), "agent": party(it["agent"]), "since": it["since"],
+                    **({"until": it["until"]} if it["until"] <= moment else {})}) for it in own]
+        sides = {"": wanted, "side=given": [it for it in wanted if it["principal"]["number"] == view.party],
+                 "side=held": [it for it in wanted if it["agent"]["number"] == view.party]}
+        for side, of_side in sides.items():
+            for current in ("", "current=1", "current=0"):
+                rows = [it for it in of_side if not current or ("until" in it) == (current == "current=0")]
+                query = "&".join(filter(None, (side, current)))
+                self.equal(f"{name} mandates {query}", ask(f"/mandates?limit=1000&{query}".rstrip("&")), {"mandates": rows, "more": False})
+                skip = self.dice.randrange(3)
+                self.equal(f"{name} mandates {query}, a page", ask(f"/mandates?limit=2&skip={skip}&{query}".rstrip("&")),
+                           {"mandates": rows[skip:skip + 2], "more": len(rows) > skip + 2})
+        self.mandates[0] += len(wanted)
+        self.mandates[1] += sum("until" in it for it in wanted)
+
+    def mandate_faults(self):
+        """Asks for the mandates as each citizen. Returns those that are missing, or are shown to another party."""
+        found = []
+        for party in sorted({row["party"] for row in self.ledger.current["role"] if row["role"] == "citizen"}):
+            reply = self.gateway.json(party, "citizen", "/mandates?limit=1000")
+            shown = {(it["principal"]["number"], it["agent"]["number"], it["since"], it.get("until", OPEN)) for it in reply["mandates"]}
+            wanted = {(it["principal"], it["agent"], it["since"], it["until"]) for it in self.rows("mandate")
+                      if party in (it["principal"], it["agent"])}
+            found += [(party, it) for it in shown ^ wanted]
+            self.compared += 1
+        return found
+
+    def compare_mandates_of_all(self):
+        """Each citizen sees its own mandates and no other. Changes of the query that show others, or hide own ones, are found."""
+        faults = self.mandate_faults()
+        check(f"{self.name}: no citizen sees the mandates of others", not faults, faults[:3])
+        check(f"{self.name}: mandates were compared, and some had ended", self.mandates[0] > 20 and self.mandates[1] > 5, self.mandates)
+        with self.server.connect("postgres", self.name) as db, db.cursor() as cursor:
+            cursor.execute("SELECT pg_get_functiondef('citizen.mandates'::regproc)")
+            text = cursor.fetchone()[0]
+            for old, new in (("m.principal = me OR m.agent = me", "true"), ("m.agent = me)", "m.agent = ANY(circle))"),
+                             ("(m.principal = me OR", "(m.principal = ANY(circle) OR"), ("(m.principal = me OR", "("),
+                             ("m.since <= t AND (", "m.since <= t AND t < m.until AND (")):
+                check(f"the query of the mandates has `{old}`", old in text)
+                cursor.execute(text.replace(old, new, 1))
+                check(f"mutant of the mandates killed: `{new}`", self.mandate_faults())
+            cursor.execute(text)
 
     def compare_histories(self, party, role):
         """A row that ends is shown if row and unit are visible right before, a row that begins if both are visible then."""

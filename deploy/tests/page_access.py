@@ -1,6 +1,7 @@
 """Accessibility: the criteria of WCAG 2.2 AA that a script can check, and operation by keyboard."""
 from harness import check
 from page_browser import NARROW, PHONE, WIDE
+import scenario
 
 VIEWS = [("nora", "#/start?role=notary"), ("nora", "#/do/transfer/unit-9?role=notary"),
     ("office", "#/units/9?role=stateAdministrator"),
@@ -30,6 +31,145 @@ def faults(it, names, pending, views=None):
             found += [f"{place} {name}: {fault}" for name in group for fault in it.run_check(name)]
     it.resize(WIDE)
     return found
+
+
+def header_faults(it, widths=(PHONE, 768, 1024, 1280, 1440)):
+    """The header at each width, in both languages; on a phone also with its menu open."""
+    it.sign_in("office")
+    found = []
+    for language in ("de", "en"):
+        it.go("#/start?role=stateAdministrator")
+        it.js("const e = document.getElementById('language'); e.value = arguments[0]; e.dispatchEvent(new Event('change'))", language)
+        it.settle(lambda: it.js("return document.documentElement.lang") == language)
+        for width in widths:
+            it.resize(width)
+            found += [f"{language} {width}: {one}" for one in it.run_check("header")]
+            if len(widths) > 1:
+                it.picture(f"header-{language}-{width}", width, 400)
+        it.resize(PHONE)
+        it.js("document.getElementById('menu').click()")
+        found += [f"{language}, menu: {one}" for one in it.run_check("header")]
+        it.resize(WIDE)
+    return found
+
+
+# Roles of controls, images and containers that need a name.
+NAMED = {"button", "link", "textbox", "searchbox", "combobox", "listbox", "option", "checkbox", "radio", "slider", "spinbutton",
+    "DateTime", "DisclosureTriangle", "application", "image", "graphics-symbol", "table", "columnheader", "dialog", "navigation",
+    "heading", "region"}
+# Roles that may have the focus without a name: the page, its content, and a dialog's or a field's parts.
+UNNAMED = {"RootWebArea", "main", "MenuListPopup"}
+
+
+def tree_faults(it, place):
+    """What a screen reader gets: each control has a role and a name, headings are in order, the page has its landmarks."""
+    nodes = {node["nodeId"]: node for node in it.tree()}
+    shown = [node for node in nodes.values() if not node["ignored"]]
+
+    def role(node):
+        return node["role"]["value"]
+
+    def name(node):
+        return str(node.get("name", {}).get("value", "")).strip()
+
+    def value(node, key):
+        return next((it["value"].get("value") for it in node.get("properties", ()) if it["name"] == key), None)
+    found = [f"{role(node)} without a name" for node in shown if role(node) in NAMED and not name(node)]
+    found += [f"focus on {role(node)} {name(node)!r}" for node in shown if value(node, "focusable")
+              and role(node) not in NAMED | UNNAMED and not name(node)]
+
+    def walk(node):
+        yield node
+        for one in node.get("childIds", ()):
+            if one in nodes:
+                yield from walk(nodes[one])
+    root = next(node for node in nodes.values() if "parentId" not in node)
+    levels = [value(node, "level") for node in walk(root) if not node["ignored"] and role(node) == "heading"]
+    if levels[:1] != [1] or levels.count(1) != 1 or any(after > before + 1 for before, after in zip(levels, levels[1:])):
+        found.append(f"headings {levels}")
+    roles = [role(node) for node in shown]
+    found += [f"not one {one}" for one in ("banner", "search", "main", "contentinfo") if roles.count(one) != 1]
+    found += [] if "navigation" in roles else ["no navigation"]
+    return [f"{place}: {one}" for one in sorted(set(found))]
+
+
+def live_texts(it):
+    """Returns the text of each live region by its element. An alert is announced when it appears, a status only if it changes."""
+    nodes = {node["nodeId"]: node for node in it.tree()}
+
+    def text(node):
+        own = node.get("name", {}).get("value", "") if node["role"]["value"] == "StaticText" else ""
+        return own + " ".join(text(nodes[one]) for one in node.get("childIds", ()) if one in nodes)
+    return {(node["backendDOMNodeId"], node["role"]["value"]): text(node).replace("\u00a0", " ") for node in nodes.values()
+        if node.get("role", {}).get("value") in ("status", "alert")}
+
+
+def is_announced(it, act, words, seconds=15, before=None):
+    """Does something and returns whether a screen reader announces these words."""
+    before = before or live_texts(it)
+    act()
+
+    def heard():
+        return any(words in text and (key in before and before[key] != text or key[1] == "alert")
+                   for key, text in live_texts(it).items())
+    return it.until(heard, seconds)
+
+
+def announcement_faults(it):
+    """Results and errors that a screen reader must announce."""
+    act = scenario.act_sender(it.stack.queue_connection())
+    wait = act((5, "notary"), "transfer", {"reference": "HEARD", "document": "Deed 5", "unit": 9, "right": 21, "receiver": 2,
+        "share": "1/3"})["number"]
+    it.sign_in("office")
+    it.go("#/start?role=stateAdministrator")
+    cases = [("the view", lambda: it.button("Units", "#tabs"), "Units")]
+
+    def searched():
+        it.js("document.getElementById('search').focus()")
+        it.type("orchard")
+    cases.append(("the results of a search", searched, "1 result"))
+    found = [name for name, do, words in cases if not is_announced(it, do, words)]
+    it.go("#/start?role=stateAdministrator")
+    it.settle(lambda: it.has("waiting."))
+    if not is_announced(it, lambda: it.js("const e = document.querySelector('main input[type=search]'); e.value = 'no such';"
+                                          "e.dispatchEvent(new Event('input'));"), "0 of "):
+        found.append("a filter of a work list")
+    it.go("#/do/enrol?role=stateAdministrator")
+    if not is_announced(it, it.send_form, "1 field needs a correction"):
+        found.append("a field that is wrong")
+    it.fill("name", "Heard")
+    if not is_announced(it, it.send_form, "Enrolled"):
+        found.append("an act that was done")
+    it.go("#/do/grant/party-3?role=stateAdministrator")
+    it.settle(lambda: it.count("select[name=role] option") > 1)
+    it.fill("role", "notary")
+    act((1, "stateAdministrator"), "grant", {"party": 3, "role": "notary"})
+    if not is_announced(it, it.send_form, "refusal 215"):
+        found.append("a refusal")
+    it.go(f"#/mutations/{wait}?role=stateAdministrator")
+    before = live_texts(it)         # while a dialog is open, the tree has nothing else
+    it.button("Refuse")
+    it.until(lambda: it.count("dialog[open]"))
+    found += tree_faults_of_dialog(it)
+    if not is_announced(it, lambda: it.button("Yes", "dialog"), "Refused", before=before):
+        found.append("a decision")
+    it.go("#/units/9?role=stateAdministrator")
+    if not is_announced(it, lambda: it.button("Show history"), "changed at these", 60):
+        found.append("a history")
+    it.button("Compare two moments")
+    if not is_announced(it, lambda: it.button("Compare"), "difference"):
+        found.append("a comparison")
+    it.go("#/units?role=citizen")
+    if not any(key[1] == "alert" and "rule 2" in text for key, text in live_texts(it).items()):
+        found.append("a denial")
+    return found
+
+
+def tree_faults_of_dialog(it):
+    """An open dialog has a role and a name, and the focus."""
+    found = [node for node in it.tree() if not node["ignored"] and node["role"]["value"] in ("dialog", "alertdialog")]
+    named = found and found[0].get("name", {}).get("value", "").strip()
+    return [] if named and it.js("return document.activeElement.closest('dialog') !== null") else ["a dialog without name or focus"]
 
 
 def tab_order_faults(it, place):
@@ -106,5 +246,16 @@ def run(it, pending):
     for name in CHECKS:
         wrong = [one for one in found if f" {name}: " in one]
         check(f"{it.name}: accessibility: {name}, on {len(VIEWS)} views", not wrong, wrong)
+    if it.name == "Chromium":
+        found = []
+        for user, place in VIEWS:
+            it.sign_in(user)
+            it.go(place.format(pending=pending))
+            found += tree_faults(it, place)
+        check(f"{it.name}: the accessibility tree of {len(VIEWS)} views", not found, found)
+        found = announcement_faults(it)
+        check(f"{it.name}: what a screen reader announces", not found, found)
+    found = header_faults(it)
+    check(f"{it.name}: the header at five widths, in two languages", not found, found)
     found = focus_faults(it, pending) + key_faults(it, pending)
     check(f"{it.name}: keyboard operation", not found, found)

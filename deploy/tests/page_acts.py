@@ -169,6 +169,11 @@ def draw_next_to_first(it):
 
 
 def mandates(it):
+    it.sign_in("anna")
+    it.user_now = ("anna", "citizen")
+    it.go("#/start?role=citizen")
+    check(f"{it.name}: without a mirror mandates are not listed, and the page says so",
+        it.has("Without a mirror mandates are not listed.") and not it.count("table.mandates"), it.text()[-300:])
     open_act(it, "anna", "mandate", "citizen")
     it.fill("agent", "5")
     check(f"{it.name}: mandate", sent(it, "Mandate given"), it.text())
@@ -177,6 +182,12 @@ def mandates(it):
     open_act(it, "anna", "withdraw", "citizen")
     it.fill("other", "5")
     check(f"{it.name}: withdraw", sent(it, "Mandate withdrawn"), it.text())
+    open_act(it, "anna", "mandate", "citizen")
+    it.fill("agent", "3")
+    check(f"{it.name}: a mandate for Ben", sent(it, "Mandate given"), it.text())
+    open_act(it, "ben", "withdraw", "citizen", "/principal-2")
+    check(f"{it.name}: the other party of a mandate is filled in", it.settle(lambda: it.has("Anna 2"), 10), it.text())
+    check(f"{it.name}: withdraw by the agent", sent(it, "Mandate withdrawn"), it.text())
 
 
 def decide(it, register, number, word="Approve"):
@@ -267,6 +278,14 @@ def loans(it, register, unit):
     check(f"{it.name}: the discharge is approved", decide(it, register,
         register.last("mutations")["number"]) == "approved")
     check(f"{it.name}: the mortgage has ended", register.object("rrrs", entry["number"]) is None)
+    other = next(e for e in map(lambda n: register.object("rrrs", n), register.numbers("rrrs")) if e["class"] == "mortgage")
+    open_act(it, "nora", "discharge", "notary", f"/unit-{other['unit']}")
+    chosen = "const e = document.querySelector('[name=mortgage]'); return e && e.value"
+    check(f"{it.name}: the only mortgage of a unit is chosen", it.settle(lambda: it.js(chosen) == str(other["number"]), 10), it.js(chosen))
+    it.fill("document", "Letter 2")
+    check(f"{it.name}: discharge by a notary", sent(it, "Lodged"), it.text())
+    check(f"{it.name}: the second discharge is refused", decide(it, register, register.last("mutations")["number"],
+        "Refuse") == "refused")
 
 
 def geometry(it, register, unit):

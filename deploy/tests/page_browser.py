@@ -275,6 +275,23 @@ class Chromium(Page):
         self.driver.execute_cdp_cmd("Emulation.setTouchEmulationEnabled", {"enabled": False})
         return True
 
+    def touch(self, *fingers):
+        """Moves one or more fingers over the page at the same time. Each one is a list of points (x, y)."""
+        def send(kind, place):
+            points = [] if place is None else [{"x": one[place][0], "y": one[place][1], "id": n} for n, one in enumerate(fingers)]
+            self.driver.execute_cdp_cmd("Input.dispatchTouchEvent", {"type": kind, "touchPoints": points})
+        self.driver.execute_cdp_cmd("Emulation.setTouchEmulationEnabled", {"enabled": True})
+        send("touchStart", 0)
+        for place in range(1, len(fingers[0])):
+            send("touchMove", place)
+            time.sleep(0.02)
+        send("touchEnd", None)
+        self.driver.execute_cdp_cmd("Emulation.setTouchEmulationEnabled", {"enabled": False})
+
+    def tree(self):
+        """Returns the accessibility tree: what a screen reader gets."""
+        return self.driver.execute_cdp_cmd("Accessibility.getFullAXTree", {})["nodes"]
+
     def pdf(self):
         return base64.b64decode(self.driver.execute_cdp_cmd("Page.printToPDF",
             {"preferCSSPageSize": True})["data"])
@@ -418,7 +435,15 @@ class Firefox(Page):
             else "print")
 
     def swipe(self, *_):
-        return False
+        return False        # events of a finger scroll nothing here
+
+    def touch(self, *fingers):
+        """Moves one or more fingers over the page at the same time. Each one is a list of points (x, y)."""
+        def move(point):
+            return {"type": "pointerMove", "x": round(point[0]), "y": round(point[1]), "duration": 20}
+        self.actions(*({"type": "pointer", "id": f"finger{n}", "parameters": {"pointerType": "touch"}, "actions": [
+            move(one[0]), {"type": "pointerDown", "button": 0}, *map(move, one[1:]), {"type": "pointerUp", "button": 0}]}
+            for n, one in enumerate(fingers)))
 
     def pdf(self):
         return base64.b64decode(self.command("WebDriver:Print",

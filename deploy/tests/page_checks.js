@@ -122,6 +122,30 @@ function reflow() {
     !e.closest(".scroll,pre,svg,.visually-hidden,thead")).slice(0, 3).map(describe).concat("wider than the page");
 }
 
+// The controls of the header are in the window and do not overlap. From 768 pixels on they have two rows, and signing out is at the end of
+// the first one.
+function header() {
+  const all = [...document.querySelectorAll(".bar a, .bar input, .bar select, .bar button")].filter(visible);
+  const box = (e) => e.getBoundingClientRect();
+  const middle = (e) => box(e).y + box(e).height / 2;
+  const found = all.filter((e) => box(e).left < 0 || box(e).right > document.documentElement.clientWidth)
+    .map((e) => "outside the window: " + describe(e));
+  for (const [n, a] of all.entries()) {
+    for (const b of all.slice(n + 1)) {
+      if (box(a).left < box(b).right && box(b).left < box(a).right && box(a).top < box(b).bottom && box(b).top < box(a).bottom) {
+        found.push("overlap: " + describe(a) + " and " + describe(b));
+      }
+    }
+  }
+  if (innerWidth < 768) return found;
+  const rows = new Set(all.map((e) => Math.round(middle(e) / 12)));
+  const out = document.getElementById("sign-out");
+  const right = document.documentElement.clientWidth - box(out).right;
+  if (rows.size !== 2) found.push(rows.size + " rows");
+  if (Math.abs(middle(out) - middle(document.getElementById("search"))) > 6 || right > 40) found.push("signing out is not at the end");
+  return found;
+}
+
 // The focused element has a visible indicator with sufficient contrast: a two-tone ring, or the outline of a parcel.
 function focused() {
   const e = document.activeElement;

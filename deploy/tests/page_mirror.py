@@ -1,9 +1,13 @@
 """The page with a mirror: search, history, lists, the map; and that it works on when the mirror is lost."""
+import csv
+import os
+import re
+import time
+
 from harness import check, note
 from page_browser import DESK, PHONE
 from page_stack import wait_for_mirror
 import scenario
-import time
 
 OFFICE, NORA = (1, "stateAdministrator"), (5, "notary")
 
@@ -113,10 +117,84 @@ def check_undecided(it):
         it.text())
 
 
+def check_mandates(it):
+    """A citizen's mandates, given and held, newest first; a row leads to the form that withdraws it. Others never see them."""
+    act = scenario.act_sender(it.stack.queue_connection())
+    act((2, "citizen"), "mandate", {"agent": 3})
+    act((2, "citizen"), "mandate", {"agent": 5})
+    act((6, "citizen"), "mandate", {"agent": 2})
+    it.sign_in("anna")
+    it.go("#/do/mandate?role=citizen")
+    it.fill("agent", "6")
+    it.send_form()
+    it.settle(lambda: "Mandate given" in it.text(".answer"))
+    rows = "return [...document.querySelectorAll('table.mandates tbody tr')].map((r) => [...r.cells].slice(0, 2).map((c) => c.innerText" \
+        ".replace('\\u00a0', ' ')).join(' '))"
+    it.button("Your land", "#tabs")
+    it.settle(lambda: it.count("table.mandates tbody tr"))
+    wanted = ["given to Sam 6", "held from Sam 6", "given to Party 5", "given to Ben 3"]
+    check(f"{it.name}: mandates given and held, newest first", it.js(rows) == wanted, it.js(rows))
+    it.picture("mandates")
+    it.picture("mandates-narrow", PHONE)
+    it.js("const e = document.querySelectorAll('section select')[0]; e.value = 'held'; e.dispatchEvent(new Event('change'))")
+    check(f"{it.name}: those held", it.until(lambda: it.js(rows) == ["held from Sam 6"], 10), it.js(rows))
+    it.js("const e = document.querySelectorAll('section select')[0]; e.value = ''; e.dispatchEvent(new Event('change'))")
+    it.until(lambda: len(it.js(rows)) == 4, 10)
+    it.click("table.mandates tbody a[href*='withdraw']", 3)
+    check(f"{it.name}: a row leads to the form that withdraws the mandate", it.settle(lambda: it.has("Ben 3") and
+        it.js("return document.querySelector('select[name=way]').value") == "given"), it.text())
+    it.send_form()
+    check(f"{it.name}: it is withdrawn", it.settle(lambda: "Mandate withdrawn" in it.text(".answer")), it.text())
+    it.button("Your land", "#tabs")
+    it.settle(lambda: it.count("table.mandates tbody tr"))
+    check(f"{it.name}: the list has it no more", it.js(rows) == wanted[:3], it.js(rows))
+    it.js("const e = document.querySelectorAll('section select')[1]; e.value = '0'; e.dispatchEvent(new Event('change'))")
+    check(f"{it.name}: it is among those that ended", it.until(lambda: it.js(rows) == ["given to Ben 3"], 10), it.js(rows))
+    it.js("const e = document.querySelectorAll('section select')[1]; e.value = ''; e.dispatchEvent(new Event('change'))")
+    it.until(lambda: len(it.js(rows)) == 4, 10)
+    it.button("Save as CSV")
+    file = os.path.join(it.downloads, "mandates.csv")
+    saved = it.until(lambda: os.path.exists(file) and os.path.getsize(file), 20)
+    with open(file if saved else os.devnull, newline="", encoding="utf-8") as source:
+        lines = list(csv.reader(source))
+    check(f"{it.name}: they are saved as CSV", [line[:4] for line in lines] == [
+        ["principal", "principal_name", "agent", "agent_name"], ["2", "Anna", "6", "Sam"], ["6", "Sam", "2", "Anna"],
+        ["2", "Anna", "5", ""], ["2", "Anna", "3", "Ben"]], lines)
+    it.sign_in("nora")
+    it.go("#/start?role=citizen")
+    it.settle(lambda: it.count("table.mandates tbody tr"))
+    check(f"{it.name}: an agent sees its mandate, and no other", it.js(rows) == ["held from Anna 2"], it.js(rows))
+    it.go("#/start?role=notary")
+    check(f"{it.name}: other roles have no list", not it.count("table.mandates"), it.text())
+    it.js("const e = document.getElementById('language'); e.value = 'de'; e.dispatchEvent(new Event('change'))")
+    it.go("#/start?role=citizen")
+    check(f"{it.name}: in German", it.settle(lambda: it.js(rows) == ["erhalten von Anna 2"]), it.js(rows))
+    it.js("const e = document.getElementById('language'); e.value = 'en'; e.dispatchEvent(new Event('change'))")
+    it.settle()
+
+
 def canvas_colours(it):
     """Returns the number of pixels of the map that are neither paper nor white, in thousands."""
     return it.js("""const c = document.querySelector('canvas.map'); const d = c.getContext('2d').getImageData(0, 0, c.width, c.height).data;
         let n = 0; for (let i = 0; i < d.length; i += 4) if (d[i] < 245) n += 1; return Math.round(n / 1000);""")
+
+
+def check_touch(it, x, y):
+    """A finger moves the map, two fingers enlarge it."""
+    def in_view():
+        found = re.search(r"(\d+) parcels? in view", it.text())
+        return int(found[1]) if found else None
+    it.touch([(x + 300 - 60 * n, y) for n in range(11)])
+    check(f"{it.name}: a finger moves the map", it.until(lambda: (in_view() or 47) < 47, 10), it.text()[:300])
+    it.js("document.querySelector('canvas.map').focus()")
+    it.press("0")
+    it.settle(lambda: it.has("47 parcels in view"), 10)
+    it.touch([(x - 20 - 12 * n, y) for n in range(11)], [(x + 20 + 12 * n, y) for n in range(11)])
+    check(f"{it.name}: two fingers enlarge it", it.until(lambda: (in_view() or 47) < 40, 10), it.text()[:300])
+    check(f"{it.name}: and open no unit", "#/map" in it.js("return location.hash"))
+    it.js("document.querySelector('canvas.map').focus()")
+    it.press("0")
+    it.settle(lambda: it.has("47 parcels in view"), 10)
 
 
 def check_map(it):
@@ -134,6 +212,7 @@ def check_map(it):
     it.press("0")
     it.settle(lambda: it.has("47 parcels in view"), 10)
     x, y = it.js("const b = document.querySelector('canvas.map').getBoundingClientRect(); return [b.x + b.width / 2, b.y + b.height / 2]")
+    check_touch(it, x, y)
     found = None
     for step in range(-60, 61, 12):
         it.click_at(x + step, y + step)
@@ -169,7 +248,7 @@ def check_loss(it):
 
 
 def run(it, lose=True):
-    for part in (check_search, check_history, check_lists, check_map, check_undecided):
+    for part in (check_search, check_history, check_lists, check_map, check_undecided, check_mandates):
         part(it)
     found = it.console_errors()
     check(f"{it.name}: no errors on the console with a mirror", not found, found)

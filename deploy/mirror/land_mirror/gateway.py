@@ -91,6 +91,10 @@ FILTERS = {
 }
 
 
+# The filters of the mandates.
+MANDATES = {"side": choice("given", "held"), "current": lambda text: number(text, 0, 1)} | PAGE
+
+
 @dataclass(frozen=True)
 class Route:
     """A path, whose parts in {braces} are parameters; the query that answers it; and the readers of its parameters."""
@@ -144,6 +148,7 @@ ROUTES = [
     Route("/undecided", "undecided", {}, {}, LIMITED),
     Route("/mortgages", "mortgages", {}, {}, LIMITED),
     Route("/areas", "area", {}, {}, LIMITED),
+    Route("/mandates", "mandates", {}, {}, MANDATES),
     Route("/extracts/parcels.geojson", "geojson", {}, {}, {}),
     *(Route(f"/extracts/{path}.csv", "csv", {"of": kind}, {}, {}) for path, kind in KINDS.items()),
 ]

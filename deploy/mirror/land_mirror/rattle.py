@@ -19,6 +19,7 @@ CIRCLE = "land_select_queries/src/joins/sight.rt"
 LOOKUPS = "land_select_queries/src/lookups/texts.rt"
 DENIALS = "land_rules/src/denials/sight.rt"
 STANDING = "land_rules/src/rules/standing.rt"
+ACTS = "land_rules/src/rules/standing/act.rt"
 WORDS = "land_core/src/words.rt"
 
 # (file, function): the body that sql/standing.sql and generate.py translate.
@@ -34,7 +35,10 @@ PINNED = {
         "if !now.stands(Kind::Party, caller.party) { Verdict::Denied(1) } "
         "else if !now.holds(caller.party, caller.role) { Verdict::Denied(2) } "
         "else if past && sees_only_present(caller) { Verdict::Denied(3) } else { Verdict::Allowed }",
+    (ACTS, "is_between_others"): "!(mandate.principal == party || mandate.agent == party)",
 }
+# Rule 28, which the query of the mandates repeats: (file, function): a part of the body.
+PINNED_PARTS = {(ACTS, "verdict"): "else if is_mandate_act(act) && caller.role != Role::Citizen { Verdict::Denied(28) }"}
 # The statements behind the circle and behind `awaited`, which sql/standing.sql repeats.
 PINNED_TEXTS = {
     "MANDATES_OF_AGENT": "SELECT principal, agent, since, until FROM mandate WHERE agent = ?1 AND since <= ?2 AND ?2 < until",
@@ -189,6 +193,9 @@ class Policy:
             found = self.body(file, name)
             if found != wanted:
                 raise Unexpected(file, f"function `{name}` is `{found}`, not `{wanted}`")
+        for (file, name), wanted in PINNED_PARTS.items():
+            if self.body(file, name).count(wanted) != 1:
+                raise Unexpected(file, f"function `{name}` does not have `{wanted}`")
         text = self.source(LOOKUPS)
         for name, wanted in PINNED_TEXTS.items():
             found = re.findall(rf'pub const {name}: &str =\s*"([^"\\]*)";', text)

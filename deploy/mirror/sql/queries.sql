@@ -258,6 +258,27 @@ DECLARE it access.setting := (SELECT s FROM access.setting s); side float8 := it
       {{visible parcel r.number}}
     ORDER BY r.number LIMIT 20000) q WHERE q.geom IS NOT NULL); END $$;
 
+-- The mandates that the caller gave or holds, at the moment or before it, newest first. A name is shown if the party is visible, and an end
+-- if it is not after the moment. Only for citizens.
+CREATE FUNCTION {{schema}}.mandates(args jsonb, me bigint, t bigint, circle bigint[])
+  RETURNS jsonb LANGUAGE plpgsql STABLE SET plan_cache_mode = force_custom_plan AS $$
+#variable_conflict use_column
+DECLARE
+  most int := least(coalesce((args->>'limit')::int, 100), 1000); skip int := coalesce((args->>'skip')::int, 0);
+  a_side text := args->>'side'; a_current int := args->>'current'; found jsonb[]; BEGIN
+  found := ARRAY(SELECT jsonb_strip_nulls(jsonb_build_object('since', m.since, 'until', CASE WHEN m.until <= t THEN m.until END,
+      'principal', jsonb_build_object('number', m.principal, 'name', (
+        SELECT x.name FROM reg.party x WHERE x.number = m.principal AND x.since <= t AND t < x.until
+          {{visible party x.number}})),
+      'agent', jsonb_build_object('number', m.agent, 'name', (
+        SELECT x.name FROM reg.party x WHERE x.number = m.agent AND x.since <= t AND t < x.until
+          {{visible party x.number}}))))
+    FROM reg.mandate m WHERE m.since <= t AND (m.principal = me OR m.agent = me)
+      AND (a_side IS NULL OR a_side = 'given' AND m.principal = me OR a_side = 'held' AND m.agent = me)
+      AND (a_current IS NULL OR (t < m.until) = (a_current = 1))
+    ORDER BY m.since DESC, m.principal, m.agent LIMIT most + 1 OFFSET skip);
+  RETURN jsonb_build_object('mandates', to_jsonb(found[1:most]), 'more', cardinality(found) > most); END $$;
+
 CREATE FUNCTION {{schema}}.answer(me bigint, t bigint, circle bigint[], what text, args jsonb, OUT status int, OUT type text,
   OUT body bytea)
 LANGUAGE plpgsql STABLE AS $$
@@ -288,6 +309,9 @@ DECLARE n bigint := args->>'number'; kind text := args->>'of'; most int := coale
     WHEN 'history' THEN found := jsonb_build_object('history', {{schema}}.history(n, least(most, 1000), me, t));
     WHEN 'undecided' THEN found := jsonb_build_object('undecided', {{schema}}.undecided(n, least(most, 1000), me, t, circle));
     WHEN 'mortgages' THEN found := {{schema}}.mortgages(least(most, 1000), me, t, circle);
+    WHEN 'mandates' THEN
+      IF '{{role}}' = 'citizen' THEN found := {{schema}}.mandates(args, me, t, circle);
+      ELSE status := 403; found := '{"denied": 28}'; END IF;
     WHEN 'area' THEN found := jsonb_build_object('holders', {{schema}}.area_by_holder(least(most, 1000), me, t, circle));
     WHEN 'csv' THEN type := 'text/csv'; body := convert_to({{schema}}.csv(kind, me, t, circle), 'UTF8'); RETURN;
     WHEN 'tile' THEN type := 'application/vnd.mapbox-vector-tile';
