@@ -84,6 +84,7 @@ class Stack:
     def __init__(self, folder=None, private=True, recorder=False, gateway_port=None, edits=(), limits=True):
         need("nginx", "haproxy", "openssl", "unshare", "nsenter", "ip")
         self.program = program()
+        self.at_once = 64       # the connections that the register serves at the same time, as in land@.service
         self.owns_folder = folder is None
         self.folder = tempfile.mkdtemp(prefix="land-deploy-") if self.owns_folder else os.path.abspath(folder)
         self.private_network, self.recorder, self.limits = private, recorder, limits
@@ -228,7 +229,7 @@ class Stack:
 
     def serve(self, name="town", port=None):
         words = [self.program, "serve", "--file", self.file(name), "--port", str(port or self.register_port), "--connections", "1000000",
-                 "--at-once", "64"]
+                 "--at-once", str(self.at_once)]
         return self.start_process("register-" + name, words, inside=True)
 
     def start_recorder(self):

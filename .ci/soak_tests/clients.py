@@ -7,6 +7,16 @@ import time
 from soak_tests.server import Wrong
 
 
+def end_of_reply(received, start):
+    """Returns where the reply ends that begins at `start`, or None if not all of it was received."""
+    head = received.find(b"\r\n\r\n", start)
+    if head < 0:
+        return None
+    fields = received[start:head].lower()
+    end = head + 4 + int(fields.partition(b"content-length: ")[2].split(b"\r\n")[0])
+    return end if end <= len(received) else None
+
+
 class Line:
     """A connection, on which requests may be sent before the replies to earlier ones are read."""
 
@@ -25,12 +35,8 @@ class Line:
 
     def next_reply(self):
         """Returns the next reply of those received, or None."""
-        head = self.received.find(b"\r\n\r\n")
-        if head < 0:
-            return None
-        fields = self.received[:head].lower()
-        size = head + 4 + int(fields.partition(b"content-length: ")[2].split(b"\r\n")[0])
-        if len(self.received) < size:
+        size = end_of_reply(self.received, 0)
+        if size is None:
             return None
         reply, self.received = self.received[:size], self.received[size:]
         return reply
@@ -58,9 +64,11 @@ class Line:
         pieces = [self.received]
         while data := self.socket.recv(1 << 20):
             pieces.append(data)
-        self.received, found = b"".join(pieces), []
-        while (reply := self.next_reply()) is not None:
-            found.append(reply)
+        received, found, at = b"".join(pieces), [], 0
+        while (end := end_of_reply(received, at)) is not None:
+            found.append(received[at:end])
+            at = end
+        self.received = received[at:]
         if self.received:
             raise Wrong(f"the connection is closed within a reply: {self.received[:200]}")
         return found
