@@ -8,7 +8,8 @@ file, and to a small server in Python (asyncio), which sends the same bytes.
 A register of 100 parties; each request is a view of one. The clients are one process in C (pingpong.c), so that they take little of the CPU;
 each of them sends its next request when it has the reply. The servers take turns, and each figure is the median of the rounds. Then: one
 client of the server without `--at-once`, of one that has it, and of the latter with 900 idle connections; and one client next to four that
-send 500 pipelined requests again and again. nginx is skipped if it is not installed.
+send 500 pipelined requests again and again. Last, clients through HAProxy with different numbers of places (`maxconn`). nginx and HAProxy
+are skipped if they are not installed.
 """
 import asyncio
 import contextlib
@@ -32,6 +33,19 @@ events {{ worker_connections 2048; }}
 http {{ access_log off; client_body_temp_path {folder}/b; proxy_temp_path {folder}/p; fastcgi_temp_path {folder}/f;
     uwsgi_temp_path {folder}/u; scgi_temp_path {folder}/s; keepalive_requests 1000000000; tcp_nodelay on;
     server {{ listen 127.0.0.1:{port}; root {folder}/root; default_type application/json; server_tokens off; }} }}
+"""
+HAPROXY = """defaults
+    mode http
+    timeout connect 2s
+    timeout client 60s
+    timeout server 30s
+    timeout queue 20s
+frontend queue
+    bind 127.0.0.1:{port}
+    default_backend register
+backend register
+    http-reuse always
+    server one 127.0.0.1:{to} maxconn {places} maxqueue 1500 pool-max-conn {places}
 """
 
 
@@ -78,6 +92,14 @@ def nginx(folder, body):
     with open(path, "w", encoding="ascii") as sink:
         sink.write(NGINX.format(folder=folder, port=port))
     return Server(["nginx", "-e", f"{folder}/error.log", "-c", path, "-g", "daemon off; master_process off;"], port)
+
+
+def haproxy(folder, to, places):
+    """Returns HAProxy in front of a port, with this number of places."""
+    port, path = free_port(), os.path.join(folder, f"haproxy-{places}.cfg")
+    with open(path, "w", encoding="ascii") as sink:
+        sink.write(HAPROXY.format(port=port, to=to, places=places))
+    return Server(["haproxy", "-f", path], port)
 
 
 def python(reply):
@@ -162,6 +184,8 @@ def main():
         table(clients, servers, seconds, rounds)
         one_client(clients, start, land(copies[0]), land(copies[1], 1024), seconds, rounds)
         floods(clients, many, seconds, rounds)
+        if shutil.which("haproxy"):
+            queues(clients, {places: start(haproxy(folder, many.port, places)) for places in (1, 8, 64)}, seconds, rounds)
 
 
 def table(clients, servers, seconds, rounds):
@@ -214,6 +238,19 @@ def floods(clients, server, seconds, rounds):
     rate, median, high, _, others = medians(found)
     print(f"\nNext to four floods of 500 pipelined requests each ({others:,.0f} replies/s): {rate:,.0f} requests/s, p50 {median:,.0f} us, "
           f"p99 {high:,.0f} us")
+
+
+def queues(clients, servers, seconds, rounds):
+    """Clients through HAProxy, by its number of places."""
+    print("\n| clients through HAProxy |" + "".join(f" maxconn {places}: requests/s | p99, us |" for places in servers))
+    print("|--:|" + "--:|--:|" * len(servers))
+    for count in (1, 8, 40):
+        found = {places: [] for places in servers}
+        for _ in range(rounds):
+            for places, server in servers.items():
+                found[places].append(clients.run(server, count, seconds))
+        cells = (f" {rate:,.0f} | {high:,.0f} |" for rate, _, high, _ in map(medians, found.values()))
+        print(f"| {count} |" + "".join(cells), flush=True)
 
 
 if __name__ == "__main__":
