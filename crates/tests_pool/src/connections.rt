@@ -1,6 +1,6 @@
 //! Connections that are served at once.
 use crate::conclusion::conclude;
-use crate::one_run::{Talk, expect_one_run, inputs, scripts};
+use crate::one_run::{Talk, expect_one_run, scripts};
 use crate::requests::{BEN, CARLA, DORA, EMIL, FAULTY, FINN, LIST, TRUNCATED};
 use std::alloc::Global;
 use std::test::Fail;
@@ -8,7 +8,7 @@ use testlib_scenario::first::ENROL_ANNA_REQUEST;
 use testlib_scenario::stop::{Stop, expect};
 
 /// Many connections, some without any request.
-pub(crate) const SEVEN: &[Talk<'static>] = &[
+pub(crate) const SEVEN: &[Talk] = &[
     Talk {
         requests: &[ENROL_ANNA_REQUEST, BEN, LIST],
         last: b"",
@@ -41,9 +41,8 @@ pub(crate) const SEVEN: &[Talk<'static>] = &[
 
 /// Serves the connections three at once, in chunks of odd sizes.
 fn three_at_once(alloc: Global) -> Result<(), Stop> {
-    let inputs = inputs(alloc, SEVEN)?;
-    let scripts = scripts(alloc, &inputs, &[7, 0, 130, 0, 0, 1], &[50, 0, 3])?;
-    expect_one_run(alloc, SEVEN, &scripts, &[], 3, None)?;
+    let scripts = scripts(alloc, SEVEN, &[7, 0, 130, 0, 0, 1], &[50, 0, 3])?;
+    expect_one_run(alloc, SEVEN, scripts, &[], 3, None)?;
     Ok(())
 }
 
@@ -54,9 +53,8 @@ fn seven_connections_three_at_once(rt: HostRuntime) -> Result<(), Fail> {
 
 /// Checks that one connection at once is served before the next one is accepted.
 fn one_at_once(alloc: Global) -> Result<(), Stop> {
-    let inputs = inputs(alloc, SEVEN)?;
-    let scripts = scripts(alloc, &inputs, &[1, 0], &[1, 0])?;
-    let served = expect_one_run(alloc, SEVEN, &scripts, &[], 1, None)?;
+    let scripts = scripts(alloc, SEVEN, &[1, 0], &[1, 0])?;
+    let served = expect_one_run(alloc, SEVEN, scripts, &[], 1, None)?;
     let order = [0, 0, 0, 2, 4, 4, 4, 4, 5];
     expect(served.as_slice() == order.as_slice(), "the order", 0)
 }

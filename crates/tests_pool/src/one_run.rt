@@ -9,6 +9,8 @@ use land_keep::plain_keeper::PlainKeeper;
 use land_pool::pool::{PoolFault, serve_at_once};
 use std::alloc::{AllocError, Global};
 use std::cell::Cell;
+use std::collections::VecDeque;
+use std::rc::Rc;
 use testlib_scenario::doubles::{ChunkReader, ClockReadings, Sink};
 use testlib_scenario::run_scenario::open_sink;
 use testlib_scenario::stop::{Stop, expect};
@@ -17,9 +19,9 @@ use testlib_scenario::talk::common;
 /// The input of a connection: requests, each of which reads the clock, and at the end bytes that are no
 /// request or a truncated one, if any.
 #[derive(Clone, Copy)]
-pub(crate) struct Talk<'a> {
-    pub(crate) requests: &'a [&'a [u8]],
-    pub(crate) last: &'a [u8],
+pub(crate) struct Talk {
+    pub(crate) requests: &'static [&'static [u8]],
+    pub(crate) last: &'static [u8],
 }
 
 /// The response if out of memory, as the connection stays open or closes.
@@ -31,7 +33,7 @@ const NO_MEMORY: &[&[u8]] = &[
 /// The start of each response for a store fault.
 const STORE_FAULT: &[u8] = b"HTTP/1.1 503 ";
 
-impl<'a> Talk<'a> {
+impl Talk {
     /// Returns the bytes of the input.
     fn input(&self, alloc: Global) -> Result<Vec<u8>, AllocError> {
         let mut input = Vec::new(alloc);
@@ -43,44 +45,28 @@ impl<'a> Talk<'a> {
     }
 }
 
-/// Adds an element.
-fn add<T: Drop>(all: &mut Vec<T>, element: T) -> Result<(), AllocError> {
-    all.push(element)?;
-    Ok(())
-}
-
-/// Returns the inputs of these connections.
-pub(crate) fn inputs(alloc: Global, talks: &[Talk<'_>]) -> Result<Vec<Vec<u8>>, AllocError> {
-    let mut inputs = Vec::new(alloc);
-    for talk in talks {
-        add(&mut inputs, talk.input(alloc)?)?;
-    }
-    Ok(inputs)
-}
-
-/// Returns scripts of these inputs in which nothing fails, with these sizes of the chunks that are read and
-/// written.
-pub(crate) fn scripts<'a>(
+/// Returns scripts of these connections in which nothing fails, with these sizes of the chunks that are read
+/// and written.
+pub(crate) fn scripts(
     alloc: Global,
-    inputs: &'a [Vec<u8>],
-    reads: &'a [usize],
-    writes: &'a [usize],
-) -> Result<Vec<Script<'a>>, AllocError> {
-    let mut scripts = Vec::new(alloc);
-    for input in inputs {
-        scripts.push(Script {
-            input: input.as_slice(),
-            reads,
-            readable: usize::MAX,
-            writes,
-            writable: usize::MAX,
-        })?;
+    talks: &'static [Talk],
+    reads: &[usize],
+    writes: &[usize],
+) -> Result<VecDeque<Script>, AllocError> {
+    let mut scripts = VecDeque::new(alloc);
+    for talk in talks {
+        let input = talk.input(alloc)?;
+        scripts.push_back(Script::new(alloc, input, reads, writes)?)?;
     }
     Ok(scripts)
 }
 
 /// Serves a stream on a plain keeper, and returns the output.
-fn plain_output(alloc: Global, keeper: &mut PlainKeeper, input: &[u8]) -> Result<Sink, Stop> {
+pub(crate) fn plain_output(
+    alloc: Global,
+    keeper: &mut PlainKeeper,
+    input: &[u8],
+) -> Result<Sink, Stop> {
     let mut reader = ChunkReader {
         left: input,
         piece: 4096,
@@ -142,7 +128,7 @@ struct Checked {
 /// The check of one run.
 #[derive(Drop)]
 pub(crate) struct OneRun<'a> {
-    talks: &'a [Talk<'a>],
+    talks: &'static [Talk],
     outputs: &'a [Vec<u8>],
     plain: PlainKeeper,
     checked: Vec<Checked>,
@@ -179,7 +165,7 @@ impl<'a> OneRun<'a> {
     /// Starts the check of these connections and their outputs, with a new register.
     pub(crate) fn new(
         alloc: Global,
-        talks: &'a [Talk<'a>],
+        talks: &'static [Talk],
         outputs: &'a [Vec<u8>],
     ) -> Result<OneRun<'a>, Stop> {
         let start = Checked {
@@ -197,7 +183,7 @@ impl<'a> OneRun<'a> {
     }
 
     /// Returns a connection, as far as it is checked, and its output after that.
-    fn connection(&self, number: usize) -> Result<(Talk<'a>, Checked, &'a [u8]), Stop> {
+    fn connection(&self, number: usize) -> Result<(Talk, Checked, &'a [u8]), Stop> {
         let found = (
             self.talks.get(number),
             self.checked.get(number),
@@ -276,56 +262,52 @@ pub(crate) struct Outcome {
     pub(crate) outputs: Vec<Vec<u8>>,
 }
 
-/// Returns an output for each connection, with capacity for its replies.
-fn outputs(alloc: Global, connections: usize) -> Result<Vec<Vec<u8>>, AllocError> {
-    let mut outputs = Vec::new(alloc);
-    for _connection in 0..connections {
-        add(&mut outputs, Vec::with_capacity(alloc, 4096)?)?;
-    }
-    Ok(outputs)
+/// Returns the number that a source shares with a clock, twice.
+fn shared_number(alloc: Global) -> Result<(Rc<Cell<usize>>, Rc<Cell<usize>>), AllocError> {
+    let number = Rc::new(alloc, Cell::new(0))?;
+    let other = number.clone()?;
+    Ok((number, other))
 }
 
 /// Serves scripts at once with a keeper of a new register.
 pub(crate) fn serve_scripts<K: Keeper>(
     alloc: Global,
-    scripts: &[Script<'_>],
+    scripts: VecDeque<Script>,
     turns: &[usize],
     at_once: usize,
     keeper: &mut K,
 ) -> Result<Outcome, Stop> {
-    let serving = Cell::new(0);
-    let mut outputs = outputs(alloc, scripts.len())?;
-    let mut source = ScriptedSource::new(alloc, scripts, &mut outputs, turns, &serving)?;
-    let mut clock = RecordingClock::new(alloc, &serving, 4096)?;
     let connections = u32::try_from(scripts.len()).unwrap_or(0);
+    let (serving, served) = shared_number(alloc)?;
+    let mut source = ScriptedSource::new(alloc, scripts, turns, serving)?;
+    let mut clock = RecordingClock::new(alloc, served, 4096)?;
     let result = serve_at_once(alloc, &mut source, connections, at_once, keeper, &mut clock);
     if result == Err(PoolFault::NoMemory) {
         return Err(Stop::Memory);
     }
-    let endings = source.endings;
+    let (endings, outputs) = source.end(alloc)?;
+    let RecordingClock { served, .. } = clock;
     Ok(Outcome {
         result,
-        served: clock.served,
+        served,
         endings,
         outputs,
     })
 }
 
-/// Serves scripts at once with a new register. Checks that the outcome is that of one run, that each
-/// connection ended once, and that exactly one connection, `broken`, was not served completely, or none.
+/// Checks that the outcome of these connections is that of one run, which left the register of this keeper,
+/// that each connection ended once, and that exactly one connection, `broken`, was not served completely, or
+/// none.
 ///
 /// If a reply was that of out of memory, or another connection was not served completely, the test stops with
-/// out of memory, once all replies are checked. Returns for which connection each request was served.
-pub(crate) fn expect_one_run(
+/// out of memory, once all replies are checked.
+fn expect_outcome(
     alloc: Global,
-    talks: &[Talk<'_>],
-    scripts: &[Script<'_>],
-    turns: &[usize],
-    at_once: usize,
+    talks: &'static [Talk],
+    outcome: &Outcome,
+    keeper: &mut PlainKeeper,
     broken: Option<usize>,
-) -> Result<Vec<usize>, Stop> {
-    let mut keeper = PlainKeeper::new(alloc)?;
-    let outcome = serve_scripts(alloc, scripts, turns, at_once, &mut keeper)?;
+) -> Result<(), Stop> {
     expect(outcome.result == Ok(()), "the result", 0)?;
     expect(have_ended(&outcome.endings, talks.len()), "the endings", 0)?;
     let mut run = OneRun::new(alloc, talks, &outcome.outputs)?;
@@ -335,7 +317,7 @@ pub(crate) fn expect_one_run(
     for ending in &outcome.endings {
         run.expect_end(alloc, *ending)?;
     }
-    expect_same_register(alloc, &mut keeper, &mut run.plain)?;
+    expect_same_register(alloc, keeper, &mut run.plain)?;
     for ending in &outcome.endings {
         let is_broken = broken == Some(ending.number);
         if run.is_out_of_memory || !is_broken && !ending.complete {
@@ -347,5 +329,22 @@ pub(crate) fn expect_one_run(
             ending.number,
         )?;
     }
-    Ok(outcome.served)
+    Ok(())
+}
+
+/// Serves scripts of these connections at once with a new register, and checks the outcome. Returns for which
+/// connection each request was served.
+pub(crate) fn expect_one_run(
+    alloc: Global,
+    talks: &'static [Talk],
+    scripts: VecDeque<Script>,
+    turns: &[usize],
+    at_once: usize,
+    broken: Option<usize>,
+) -> Result<Vec<usize>, Stop> {
+    let mut keeper = PlainKeeper::new(alloc)?;
+    let outcome = serve_scripts(alloc, scripts, turns, at_once, &mut keeper)?;
+    expect_outcome(alloc, talks, &outcome, &mut keeper, broken)?;
+    let Outcome { served, .. } = outcome;
+    Ok(served)
 }

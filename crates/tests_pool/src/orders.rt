@@ -1,7 +1,7 @@
 //! Connections that are served at once, in each order of their turns.
 use crate::conclusion::conclude;
 use crate::connections::SEVEN;
-use crate::one_run::{Talk, expect_one_run, inputs, scripts};
+use crate::one_run::{Talk, expect_one_run, scripts};
 use crate::requests::{BEN, CARLA, DORA, EMIL, FAULTY, LIST, TRUNCATED};
 use std::alloc::Global;
 use std::test::Fail;
@@ -9,7 +9,7 @@ use testlib_scenario::first::ENROL_ANNA_REQUEST;
 use testlib_scenario::stop::{Stop, expect};
 
 /// Two connections with three requests each.
-const TWO: &[Talk<'static>] = &[
+const TWO: &[Talk] = &[
     Talk {
         requests: &[ENROL_ANNA_REQUEST, LIST, BEN],
         last: b"",
@@ -22,7 +22,7 @@ const TWO: &[Talk<'static>] = &[
 
 /// Three connections with two requests each. The input of the second one ends with a truncated request, that
 /// of the third one with a fault.
-const THREE: &[Talk<'static>] = &[
+const THREE: &[Talk] = &[
     Talk {
         requests: &[ENROL_ANNA_REQUEST, BEN],
         last: b"",
@@ -61,14 +61,13 @@ fn set_turns(turns: &mut [usize], number: usize, connections: usize) -> bool {
 /// Serves connections, all at once, with these turns first.
 fn expect_turns(
     alloc: Global,
-    talks: &[Talk<'_>],
+    talks: &'static [Talk],
     turns: &[usize],
     reads: &[usize],
     writes: &[usize],
 ) -> Result<(), Stop> {
-    let inputs = inputs(alloc, talks)?;
-    let scripts = scripts(alloc, &inputs, reads, writes)?;
-    let served = expect_one_run(alloc, talks, &scripts, turns, talks.len(), None)?;
+    let scripts = scripts(alloc, talks, reads, writes)?;
+    let served = expect_one_run(alloc, talks, scripts, turns, talks.len(), None)?;
     // A turn serves one request, if it can be read. So the requests are served in the order of the turns.
     expect(
         !reads.is_empty() || served.as_slice() == turns,
@@ -80,7 +79,7 @@ fn expect_turns(
 /// Checks all orders of the six turns of these connections, of which there are `orders`.
 fn expect_orders(
     alloc: Global,
-    talks: &[Talk<'_>],
+    talks: &'static [Talk],
     codes: usize,
     orders: usize,
 ) -> Result<(), Stop> {
@@ -109,12 +108,11 @@ fn three_connections_in_each_order(rt: HostRuntime) -> Result<(), Fail> {
 
 /// Serves connections with each limit of those that are open at the same time, and each pair of sizes.
 fn each_limit(alloc: Global) -> Result<(), Stop> {
-    let inputs = inputs(alloc, SEVEN)?;
     for at_once in 1..9usize {
         for reads in SIZES {
             for writes in SIZES {
-                let scripts = scripts(alloc, &inputs, reads, writes)?;
-                expect_one_run(alloc, SEVEN, &scripts, &[], at_once, None)?;
+                let scripts = scripts(alloc, SEVEN, reads, writes)?;
+                expect_one_run(alloc, SEVEN, scripts, &[], at_once, None)?;
             }
         }
     }

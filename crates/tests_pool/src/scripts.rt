@@ -4,33 +4,45 @@ use land_keep::clock::Clock;
 use land_pool::connection_source::ConnectionSource;
 use std::alloc::{AllocError, Global};
 use std::cell::Cell;
+use std::collections::VecDeque;
 use std::io;
 use std::io::{ErrorKind, Read, Write};
-use std::slice::IterMut;
+use std::rc::Rc;
 
 /// More rounds than any test needs. If there are more, waiting fails, which ends the service.
 const MAX_ROUNDS: u64 = 1_000_000;
 
-/// Sizes of chunks, repeated without end; without any, each chunk is as large as possible.
-#[derive(Clone, Copy)]
-struct Sizes<'a> {
-    all: &'a [usize],
-    left: &'a [usize],
+/// The capacity of an output, enough for the replies of most tests.
+const OUTPUT_CAPACITY: usize = 4096;
+
+/// Returns a copy of these numbers.
+pub(crate) fn copy(alloc: Global, numbers: &[usize]) -> Result<Vec<usize>, AllocError> {
+    let mut copied = Vec::new(alloc);
+    copied.extend_from_slice(numbers)?;
+    Ok(copied)
 }
 
-impl<'a> Sizes<'a> {
-    fn new(all: &'a [usize]) -> Sizes<'a> {
-        Sizes { all, left: all }
+/// Sizes of chunks, repeated without end; without any, each chunk is as large as possible.
+#[derive(Drop)]
+struct Sizes {
+    all: Vec<usize>,
+    /// The place of the next size.
+    next: usize,
+}
+
+impl Sizes {
+    fn new(all: Vec<usize>) -> Sizes {
+        Sizes { all, next: 0 }
     }
 
     /// Returns the next size.
     fn next_size(&mut self) -> usize {
-        if self.left.is_empty() {
-            self.left = self.all;
+        if self.next >= self.all.len() {
+            self.next = 0;
         }
-        match self.left.split_first() {
-            Some((size, left)) => {
-                self.left = left;
+        match self.all.get(self.next) {
+            Some(size) => {
+                self.next = self.next.saturating_add(1);
                 *size
             }
             None => usize::MAX,
@@ -39,34 +51,51 @@ impl<'a> Sizes<'a> {
 }
 
 /// A connection.
-#[derive(Clone, Copy)]
-pub(crate) struct Script<'a> {
+#[derive(Drop)]
+pub(crate) struct Script {
     /// Its input.
-    pub(crate) input: &'a [u8],
+    pub(crate) input: Vec<u8>,
     /// The sizes of the chunks that are read. At a size of 0 the read would block.
-    pub(crate) reads: &'a [usize],
+    pub(crate) reads: Vec<usize>,
     /// The number of bytes after which a read fails.
     pub(crate) readable: usize,
     /// The sizes of the chunks that are written. At a size of 0 the write would block.
-    pub(crate) writes: &'a [usize],
+    pub(crate) writes: Vec<usize>,
     /// The number of bytes after which a write fails.
     pub(crate) writable: usize,
 }
 
+impl Script {
+    /// Returns a script of this input in which nothing fails, with these sizes of the chunks that are read
+    /// and written.
+    pub(crate) fn new(
+        alloc: Global,
+        input: Vec<u8>,
+        reads: &[usize],
+        writes: &[usize],
+    ) -> Result<Script, AllocError> {
+        Ok(Script {
+            input,
+            reads: copy(alloc, reads)?,
+            readable: usize::MAX,
+            writes: copy(alloc, writes)?,
+            writable: usize::MAX,
+        })
+    }
+}
+
 /// Reads the input of a script.
 #[derive(Drop)]
-pub(crate) struct ScriptedReader<'a> {
-    left: &'a [u8],
-    sizes: Sizes<'a>,
+pub(crate) struct ScriptedReader {
+    input: Vec<u8>,
+    /// The number of bytes that were read.
+    place: usize,
+    sizes: Sizes,
     readable: usize,
     has_failed: bool,
 }
 
-impl Read for ScriptedReader<'_> {
-    ghost use Rattle.std.specs.Prelude.{Some};
-
-    ghost remaining = { λ it. Some it.left.now };
-
+impl Read for ScriptedReader {
     fn read(&mut self, buf: &mut [u8]) -> io::Result<usize> {
         let size = self.sizes.next_size();
         if size == 0 {
@@ -76,26 +105,47 @@ impl Read for ScriptedReader<'_> {
             self.has_failed = true;
             return Err(io::Error::from(ErrorKind::ConnectionReset));
         }
+        let left = self.input.get(self.place..).unwrap_or(&[]);
         let most = size.min(self.readable);
-        let count = most.min(buf.len()).min(self.left.len());
-        let (piece, left) = self.left.split_at(count);
+        let count = most.min(buf.len()).min(left.len());
+        let (piece, _) = left.split_at(count);
         buf[..count].copy_from_slice(piece);
-        self.left = left;
+        self.place = self.place.saturating_add(count);
         self.readable = self.readable.saturating_sub(count);
         Ok(count)
     }
 }
 
+/// An output, which a writer shares with the source. It is `None` only while bytes are added.
+type Output = Rc<Cell<Option<Vec<u8>>>>;
+
+/// Returns an empty output.
+fn new_output(alloc: Global) -> Result<Output, AllocError> {
+    let bytes = Vec::with_capacity(alloc, OUTPUT_CAPACITY)?;
+    Ok(Rc::new(alloc, Cell::new(Some(bytes)))?)
+}
+
+/// Adds bytes to an output.
+fn extend(output: &Cell<Option<Vec<u8>>>, added: &[u8]) -> Result<(), AllocError> {
+    let mut bytes = output.replace(None);
+    let result = match &mut bytes {
+        Some(bytes) => bytes.extend_from_slice(added),
+        None => Ok(()),
+    };
+    output.set(bytes);
+    result
+}
+
 /// Writes to the output of a script.
 #[derive(Drop)]
-pub(crate) struct ScriptedWriter<'a> {
-    output: &'a mut Vec<u8>,
-    sizes: Sizes<'a>,
+pub(crate) struct ScriptedWriter {
+    output: Output,
+    sizes: Sizes,
     writable: usize,
     has_failed: bool,
 }
 
-impl Write for ScriptedWriter<'_> {
+impl Write for ScriptedWriter {
     fn write(&mut self, buf: &[u8]) -> io::Result<usize> {
         let size = self.sizes.next_size();
         if size == 0 {
@@ -107,7 +157,7 @@ impl Write for ScriptedWriter<'_> {
         }
         let most = size.min(self.writable);
         let count = most.min(buf.len());
-        self.output.extend_from_slice(&buf[..count])?;
+        extend(&self.output, &buf[..count])?;
         self.writable = self.writable.saturating_sub(count);
         Ok(count)
     }
@@ -129,58 +179,86 @@ pub(crate) struct ScriptedEnding {
 /// In each round the next connection of `turns` has a turn, once it is accepted. After those, each open
 /// connection has a turn in each round.
 #[derive(Drop)]
-pub(crate) struct ScriptedSource<'a> {
-    pending: &'a [Script<'a>],
-    /// The outputs of the pending connections.
-    outputs: IterMut<'a, Vec<u8>>,
+pub(crate) struct ScriptedSource {
+    pending: VecDeque<Script>,
+    /// The output of each connection.
+    outputs: Vec<Output>,
     /// The numbers of the connections that have a turn, in this order.
-    turns: &'a [usize],
-    /// Whether one of `turns` had its turn in this round.
+    turns: Vec<usize>,
+    /// The number of `turns` that were had.
+    turns_had: usize,
+    /// Whether one of `turns` was had in this round.
     has_had_turn: bool,
     /// The first number that may have a turn in this round, after `turns`.
     next: usize,
     /// The key of each connection that was accepted, or `None` if it has ended.
     keys: Vec<Option<usize>>,
     /// The number of the connection that had the last turn.
-    serving: &'a Cell<usize>,
+    serving: Rc<Cell<usize>>,
     rounds_left: u64,
     /// The connections that ended.
-    pub(crate) endings: Vec<ScriptedEnding>,
+    endings: Vec<ScriptedEnding>,
 }
 
-impl<'a> ScriptedSource<'a> {
-    /// Returns a source of these connections, with an output for each. `serving` is set to the number of each
-    /// connection that has a turn.
+impl ScriptedSource {
+    /// Returns a source of these connections. `serving` is set to the number of each connection that has a
+    /// turn.
     pub(crate) fn new(
         alloc: Global,
-        scripts: &'a [Script<'a>],
-        outputs: &'a mut [Vec<u8>],
-        turns: &'a [usize],
-        serving: &'a Cell<usize>,
-    ) -> Result<ScriptedSource<'a>, AllocError> {
+        scripts: VecDeque<Script>,
+        turns: &[usize],
+        serving: Rc<Cell<usize>>,
+    ) -> Result<ScriptedSource, AllocError> {
+        let connections = scripts.len();
+        let mut outputs = Vec::new(alloc);
+        for _connection in 0..connections {
+            outputs.push(new_output(alloc)?)?;
+        }
         Ok(ScriptedSource {
             pending: scripts,
-            outputs: outputs.iter_mut(),
-            turns,
+            outputs,
+            turns: copy(alloc, turns)?,
+            turns_had: 0,
             has_had_turn: false,
             next: 0,
-            keys: Vec::with_capacity(alloc, scripts.len())?,
+            keys: Vec::with_capacity(alloc, connections)?,
             serving,
             rounds_left: MAX_ROUNDS,
-            endings: Vec::with_capacity(alloc, scripts.len())?,
+            endings: Vec::with_capacity(alloc, connections)?,
         })
     }
 
-    /// Returns the key of the first of `turns`, unless it is pending or this round has had its turn.
+    /// Returns the connections that ended, and the output of each connection.
+    pub(crate) fn end(
+        self,
+        alloc: Global,
+    ) -> Result<(Vec<ScriptedEnding>, Vec<Vec<u8>>), AllocError> {
+        let ScriptedSource {
+            outputs,
+            endings,
+            ..
+        } = self;
+        let mut written = Vec::new(alloc);
+        for output in &outputs {
+            let bytes = match output.replace(None) {
+                Some(bytes) => bytes,
+                None => Vec::new(alloc),
+            };
+            written.push(bytes)?;
+        }
+        Ok((endings, written))
+    }
+
+    /// Returns the key of the next of `turns`, unless it is pending or this round has had its turn.
     fn next_of_turns(&mut self) -> Option<usize> {
-        let (number, left) = self.turns.split_first()?;
+        let number = *self.turns.get(self.turns_had)?;
         if self.has_had_turn {
             return None;
         }
-        let key = *self.keys.get(*number)?;
-        self.turns = left;
+        let key = *self.keys.get(number)?;
+        self.turns_had = self.turns_had.saturating_add(1);
         self.has_had_turn = true;
-        self.serving.set(*number);
+        self.serving.set(number);
         key
     }
 
@@ -197,14 +275,10 @@ impl<'a> ScriptedSource<'a> {
     }
 }
 
-impl<'a> ConnectionSource for ScriptedSource<'a> {
-    ghost use Rattle.std.specs.Prelude.{Some, map};
+impl ConnectionSource for ScriptedSource {
+    type Reader = ScriptedReader;
 
-    type Reader = ScriptedReader<'a>;
-
-    type Writer = ScriptedWriter<'a>;
-
-    ghost coming = { λ it. Some (map (λ script. Some script.input.now) it.pending.now) };
+    type Writer = ScriptedWriter;
 
     fn wait(&mut self) -> io::Result<()> {
         if self.rounds_left == 0 {
@@ -216,32 +290,40 @@ impl<'a> ConnectionSource for ScriptedSource<'a> {
         Ok(())
     }
 
-    fn accept(&mut self, key: usize) -> io::Result<(ScriptedReader<'a>, ScriptedWriter<'a>)> {
-        let Some((script, pending)) = self.pending.split_first() else {
+    fn accept(&mut self, key: usize) -> io::Result<(ScriptedReader, ScriptedWriter)> {
+        let Some(shared) = self.outputs.get(self.keys.len()) else {
             return Err(io::Error::from(ErrorKind::WouldBlock));
         };
+        let output = shared.clone()?;
         self.keys.push(Some(key))?;
-        let Some(output) = self.outputs.next() else {
+        let Some(script) = self.pending.pop_front() else {
             return Err(io::Error::from(ErrorKind::ConnectionAborted));
         };
-        self.pending = pending;
+        let Script {
+            input,
+            reads,
+            readable,
+            writes,
+            writable,
+        } = script;
         let reader = ScriptedReader {
-            left: script.input,
-            sizes: Sizes::new(script.reads),
-            readable: script.readable,
+            input,
+            place: 0,
+            sizes: Sizes::new(reads),
+            readable,
             has_failed: false,
         };
         let writer = ScriptedWriter {
             output,
-            sizes: Sizes::new(script.writes),
-            writable: script.writable,
+            sizes: Sizes::new(writes),
+            writable,
             has_failed: false,
         };
         Ok((reader, writer))
     }
 
     fn next_ready(&mut self) -> Option<usize> {
-        if self.turns.is_empty() && !self.has_had_turn {
+        if self.turns_had >= self.turns.len() && !self.has_had_turn {
             return self.next_open();
         }
         self.next_of_turns()
@@ -250,8 +332,8 @@ impl<'a> ConnectionSource for ScriptedSource<'a> {
     fn close(
         &mut self,
         number: u64,
-        _reader: ScriptedReader<'a>,
-        _writer: ScriptedWriter<'a>,
+        _reader: ScriptedReader,
+        _writer: ScriptedWriter,
         complete: bool,
     ) {
         let ended = number as usize;
@@ -267,26 +349,26 @@ impl<'a> ConnectionSource for ScriptedSource<'a> {
         }
     }
 
-    fn has_failed(reader: &ScriptedReader<'a>, writer: &ScriptedWriter<'a>) -> bool {
+    fn has_failed(reader: &ScriptedReader, writer: &ScriptedWriter) -> bool {
         reader.has_failed || writer.has_failed
     }
 }
 
 /// A clock that always reads 1000. Records which connection had its turn at each reading.
 #[derive(Drop)]
-pub(crate) struct RecordingClock<'a> {
-    serving: &'a Cell<usize>,
+pub(crate) struct RecordingClock {
+    serving: Rc<Cell<usize>>,
     /// The number of the connection at each reading.
     pub(crate) served: Vec<usize>,
 }
 
-impl<'a> RecordingClock<'a> {
+impl RecordingClock {
     /// Returns a clock that can record this number of readings. `serving`: that of the source.
     pub(crate) fn new(
         alloc: Global,
-        serving: &'a Cell<usize>,
+        serving: Rc<Cell<usize>>,
         readings: usize,
-    ) -> Result<RecordingClock<'a>, AllocError> {
+    ) -> Result<RecordingClock, AllocError> {
         Ok(RecordingClock {
             serving,
             served: Vec::with_capacity(alloc, readings)?,
@@ -294,7 +376,7 @@ impl<'a> RecordingClock<'a> {
     }
 }
 
-impl Clock for RecordingClock<'_> {
+impl Clock for RecordingClock {
     ghost reads = { λ _ _ _. Unit {0} };
 
     fn read(&mut self) -> i64 {

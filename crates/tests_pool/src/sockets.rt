@@ -9,6 +9,7 @@ use std::alloc::{AllocError, Global};
 use std::cell::Cell;
 use std::io::{ErrorKind, Read, Write};
 use std::net::{Shutdown, SocketAddr, TcpStream};
+use std::rc::Rc;
 use std::rt::HostRuntime;
 use std::test::Fail;
 use std::time::{Duration, Instant};
@@ -23,12 +24,22 @@ use testlib_scenario::stop::{Stop, expect};
 #[derive(Drop)]
 struct TickingClock {
     step: u64,
-    seconds: Cell<u64>,
-    client: Cell<Option<TcpStream>>,
+    seconds: Rc<Cell<u64>>,
+    client: Rc<Cell<Option<TcpStream>>>,
     trickles: bool,
 }
 
 impl TickingClock {
+    /// Returns a clock at 0 without a client.
+    fn new(alloc: Global, step: u64, trickles: bool) -> Result<TickingClock, AllocError> {
+        Ok(TickingClock {
+            step,
+            seconds: Rc::new(alloc, Cell::new(0))?,
+            client: Rc::new(alloc, Cell::new(None))?,
+            trickles,
+        })
+    }
+
     /// Has the client send a byte, if the connection is still open.
     fn trickle(&self) {
         let mut client = self.client.replace(None);
@@ -295,24 +306,21 @@ fn a_port_in_use_is_an_error(rt: HostRuntime) -> Result<(), Fail> {
 /// in seconds. If it `trickles`, it sends another byte at each reading of the clock.
 fn overdue(rt: &HostRuntime, step: u64, trickles: bool, least: u64, most: u64) -> Result<(), Stop> {
     let alloc = rt.alloc();
-    let clock = TickingClock {
-        step,
-        seconds: Cell::new(0),
-        client: Cell::new(None),
-        trickles,
-    };
-    let mut port = Port::listen(&clock, rt, alloc, 0)?;
+    let clock = TickingClock::new(alloc, step, trickles)?;
+    let clock_seconds = clock.seconds.clone()?;
+    let clock_client = clock.client.clone()?;
+    let mut port = Port::listen(clock, rt, alloc, 0)?;
     let client = connect(rt, port.local_addr()?, BEGUN)?;
-    clock.client.set(Some(client));
+    clock_client.set(Some(client));
     serve_port(alloc, &mut port, 1, 1)?;
     drop(port);
-    let seconds = clock.seconds.get();
+    let seconds = clock_seconds.get();
     // The connection is closed earlier only if memory runs out.
     if seconds < least {
         return Err(Stop::Memory);
     }
     expect(seconds <= most, "seconds", seconds as usize)?;
-    let Some(client) = clock.client.replace(None) else {
+    let Some(client) = clock_client.replace(None) else {
         return Err(Stop::Call);
     };
     match output_of(alloc, &client)? {

@@ -1,14 +1,15 @@
 //! Connections of which one blocks or breaks at each byte, while another is served.
 use crate::conclusion::conclude;
-use crate::one_run::{Talk, expect_one_run, inputs, scripts};
+use crate::one_run::{Talk, expect_one_run, scripts};
 use crate::requests::{BEN, CARLA, DORA, LIST};
+use crate::scripts::copy;
 use std::alloc::Global;
 use std::test::Fail;
 use testlib_scenario::first::ENROL_ANNA_REQUEST;
 use testlib_scenario::stop::{Stop, expect};
 
 /// The first connection blocks or breaks. The second one has more requests.
-const TALKS: &[Talk<'static>] = &[
+const TALKS: &[Talk] = &[
     Talk {
         requests: &[ENROL_ANNA_REQUEST, LIST, BEN],
         last: b"",
@@ -32,13 +33,12 @@ fn input_length() -> usize {
 /// number of bytes, and after each byte of the second one.
 fn blocked(alloc: Global, bytes: usize) -> Result<(), Stop> {
     let sizes = [bytes.max(1), 0, 0, usize::MAX];
-    let inputs = inputs(alloc, TALKS)?;
-    let mut scripts = scripts(alloc, &inputs, &[1, 0], &[])?;
-    if let Some(first) = scripts.first_mut() {
-        first.reads = &sizes;
-        first.writes = &sizes;
+    let mut scripts = scripts(alloc, TALKS, &[1, 0], &[])?;
+    if let Some(first) = scripts.front_mut() {
+        first.reads = copy(alloc, &sizes)?;
+        first.writes = copy(alloc, &sizes)?;
     }
-    expect_one_run(alloc, TALKS, &scripts, &[], 2, None)?;
+    expect_one_run(alloc, TALKS, scripts, &[], 2, None)?;
     Ok(())
 }
 
@@ -57,11 +57,10 @@ fn reads_and_writes_block_after_each_byte(rt: HostRuntime) -> Result<(), Fail> {
 
 /// Checks writers that accept this number of bytes at a time, and then block.
 fn each_size_of_writes(alloc: Global) -> Result<(), Stop> {
-    let inputs = inputs(alloc, TALKS)?;
     for size in 1..120usize {
         let sizes = [size, 0];
-        let scripts = scripts(alloc, &inputs, &[], &sizes)?;
-        expect_one_run(alloc, TALKS, &scripts, &[], 2, None)?;
+        let scripts = scripts(alloc, TALKS, &[], &sizes)?;
+        expect_one_run(alloc, TALKS, scripts, &[], 2, None)?;
     }
     Ok(())
 }
@@ -87,12 +86,11 @@ fn requests_within(bytes: usize) -> usize {
 /// Checks that a reader which fails after this number of bytes has the requests before that served, and no
 /// other.
 fn unreadable(alloc: Global, bytes: usize, reads: &[usize]) -> Result<(), Stop> {
-    let inputs = inputs(alloc, TALKS)?;
-    let mut scripts = scripts(alloc, &inputs, reads, &[])?;
-    if let Some(first) = scripts.first_mut() {
+    let mut scripts = scripts(alloc, TALKS, reads, &[])?;
+    if let Some(first) = scripts.front_mut() {
         first.readable = bytes;
     }
-    let served = expect_one_run(alloc, TALKS, &scripts, &[], 2, Some(0))?;
+    let served = expect_one_run(alloc, TALKS, scripts, &[], 2, Some(0))?;
     let requests = served.iter().filter(|number| **number == 0).count();
     let within = requests_within(bytes);
     if requests < within {
@@ -120,12 +118,11 @@ const OUTPUT_LENGTH: usize = 107 + 88 + 107;
 
 /// Checks that a writer which fails after this number of bytes has a prefix of the replies.
 fn unwritable(alloc: Global, bytes: usize, broken: Option<usize>) -> Result<(), Stop> {
-    let inputs = inputs(alloc, TALKS)?;
-    let mut scripts = scripts(alloc, &inputs, &[], &[])?;
-    if let Some(first) = scripts.first_mut() {
+    let mut scripts = scripts(alloc, TALKS, &[], &[])?;
+    if let Some(first) = scripts.front_mut() {
         first.writable = bytes;
     }
-    expect_one_run(alloc, TALKS, &scripts, &[], 2, broken)?;
+    expect_one_run(alloc, TALKS, scripts, &[], 2, broken)?;
     Ok(())
 }
 

@@ -1,6 +1,6 @@
 //! A store that fails while several connections are open.
 use crate::conclusion::conclude;
-use crate::one_run::{OneRun, Outcome, Talk, inputs, scripts, serve_scripts};
+use crate::one_run::{OneRun, Outcome, Talk, scripts, serve_scripts};
 use crate::requests::{BEN, CARLA, DORA, EMIL, LIST};
 use land_keep::keeper::Keeper;
 use land_pool::pool::PoolFault;
@@ -19,7 +19,7 @@ type Store = FileStore<Fuse<Memory>>;
 /// A run is not stopped if the log may make this many calls.
 const MAX_CALLS: u64 = 10_000;
 
-const TALKS: &[Talk<'static>] = &[
+const TALKS: &[Talk] = &[
     Talk {
         requests: &[ENROL_ANNA_REQUEST, LIST, BEN],
         last: b"",
@@ -97,9 +97,8 @@ fn serve_failing(alloc: Global, calls: u64) -> Result<Option<bool>, Stop> {
         return Ok(None);
     };
     let mut keeper = TableKeeper::new(tables);
-    let inputs = inputs(alloc, TALKS)?;
-    let scripts = scripts(alloc, &inputs, &[], &[])?;
-    let outcome = serve_scripts(alloc, &scripts, &[], TALKS.len(), &mut keeper)?;
+    let scripts = scripts(alloc, TALKS, &[], &[])?;
+    let outcome = serve_scripts(alloc, scripts, &[], TALKS.len(), &mut keeper)?;
     if !keeper.is_closed() {
         expect(outcome.result == Ok(()), "the result", calls as usize)?;
         return Ok(Some(false));
