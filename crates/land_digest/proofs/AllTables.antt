@@ -1,5 +1,5 @@
 -- The events of all tables: a list for each table, by the tables' numbers.
-use Rattle.std.proofs.Common.{◌≡◌, ℕ, zero, suc, ◌+◌, ◌≤◌, ◌⊎◌, List, [], ◌∷◌, ◌++◌, flat_map, inl, inr, arith}
+use Rattle.std.proofs.Common.{◌≡◌, ℕ, zero, suc, ◌+◌, ◌≤◌, ◌⊎◌, List, [], ◌∷◌, flat_map, inl, inr, arith}
 use Rattle.std.specs.Prelude.{⊤}
 use Rattle.land_digest.proofs.Membership.{In, in_either, in_left, in_right}
 use Rattle.land_digest.specs.Events.{Event}
@@ -50,3 +50,7 @@ pub in_all : (k : ℕ) (ls : List (List Event)) (e : Event) → In e (list_at k 
 in_all k [] e i = i
 in_all zero (l ∷ ls) e i = in_left e l (joined ls) i
 in_all (suc k) (l ∷ ls) e i = in_right e l (joined ls) (in_all k ls e i)
+
+-- a fact on the first table, and on the others
+abbrev pub also : {A B : Type 0} → A → B → A × B
+also first others = (first, others)

@@ -1,6 +1,6 @@
 -- A change leaves the text up to each earlier stamp unchanged.
-use Rattle.std.proofs.Common.{◌≡◌, ℕ, ℤ, ◌<ℤ◌, int_le, int_eq, Bool, true, false, cond, ◌&&◌, List, [], ◌∷◌, ◌++◌}
-use Rattle.std.proofs.Common.{map as map_list, refl, sym, ap, ap₂, ◌∙◌, arith}
+use Rattle.std.proofs.Common.{◌≡◌, ℕ, ℤ, ◌<ℤ◌, int_le, int_eq, Bool, true, false, cond, ◌&&◌, List, [], ◌∷◌}
+use Rattle.std.proofs.Common.{◌++◌, map as map_list, refl, sym, ap, ap₂, ◌∙◌, arith}
 use Rattle.std.proofs.lemmas.Bool.Decides.{Decides-int_eq}
 use Rattle.std.proofs.lemmas.Int.{ints}
 use Rattle.std.proofs.lemmas.List.Elements.{filter-append}
@@ -8,7 +8,7 @@ use Rattle.std.specs.Ordering.{eq_by_cmp}
 use Rattle.std.specs.Prelude.{⊤}
 use Rattle.land_core.specs.Grants.{grant_cmp}
 use Rattle.land_core.specs.Mandates.{mandate_cmp}
-use Rattle.land_digest.proofs.AllTables.{joined}
+use Rattle.land_digest.proofs.AllTables.{also, joined}
 use Rattle.land_digest.proofs.HistoryTables.{event_lists}
 use Rattle.land_digest.specs.Events.{Event, events_text, events_upto, in_order}
 use Rattle.land_digest.specs.Laws.{AppendingKeepsText}
@@ -16,8 +16,9 @@ use Rattle.land_digest.specs.Rows.{mandate_row, member_row, mutation_row, naming
 use Rattle.land_digest.specs.Rows.{role_row, rrr_row, source_row, unit_row}
 use Rattle.land_digest.specs.Versions.{Row, end_of, moment_event, moment_events, start_of, table_events}
 use Rattle.land_digest.specs.Versions.{version_events}
-use Rattle.land_tables_history.specs.Changed.{changed, changed_part, changed_versions, closed_version, is_among}
-use Rattle.land_tables_history.specs.Changed.{is_changed, listed_members, named_by, new_mutations, opened_version}
+use Rattle.land_tables_history.specs.Changed.{changed, changed_part, changed_versions, closed_version}
+use Rattle.land_tables_history.specs.Changed.{is_among, is_changed, listed_members, named_by, new_mutations}
+use Rattle.land_tables_history.specs.Changed.{opened_version}
 use Rattle.land_tables_history.specs.Open.{never}
 use Rattle.land_tables_history.specs.declared.moment.Moment.{Moment}
 use Rattle.land_tables_history.specs.declared.version.Version.{Version}
@@ -123,20 +124,20 @@ appending_keeps_text moments h next change stamp t less early =
 
     all : AreKept t stamp less early
         (event_lists (moment ∷ moments) (changed next change stamp h)) (event_lists moments h)
-    all = (
-      kept_moments t stamp less early moment moments refl,
-      (part_kept party_row change.put.parties change.ended.parties h.parties,
-      (kept t stamp less early role_row change.put.roles
-      (λ grant. is_among (eq_by_cmp grant_cmp) (change.put.roles ++ change.ended.roles) grant) h.roles,
-      (kept t stamp less early member_row (listed_members change.put.members)
-      (λ e. is_changed change.put.members change.ended.members e.group) h.members,
-      (part_kept unit_row change.put.units change.ended.units h.units,
-      (part_kept parcel_row change.put.parcels change.ended.parcels h.parcels,
-      (part_kept rrr_row change.put.rrrs change.ended.rrrs h.rrrs,
-      (part_kept source_row change.put.sources change.ended.sources h.sources,
-      (part_kept mutation_row change.put.mutations change.ended.mutations h.mutations,
-      (kept t stamp less early naming_row (named_by (new_mutations next change.put.mutations))
-      (λ naming. false) h.namings,
-      (kept t stamp less early mandate_row change.put.mandates
-      (λ mandate. is_among (eq_by_cmp mandate_cmp) (change.put.mandates ++ change.ended.mandates) mandate)
-      h.mandates, tt)))))))))))
+    all =
+        also (kept_moments t stamp less early moment moments refl)
+        (also (part_kept party_row change.put.parties change.ended.parties h.parties)
+        (also (kept t stamp less early role_row change.put.roles
+        (λ grant. is_among (eq_by_cmp grant_cmp) (change.put.roles ++ change.ended.roles) grant) h.roles)
+        (also (kept t stamp less early member_row (listed_members change.put.members)
+        (λ e. is_changed change.put.members change.ended.members e.group) h.members)
+        (also (part_kept unit_row change.put.units change.ended.units h.units)
+        (also (part_kept parcel_row change.put.parcels change.ended.parcels h.parcels)
+        (also (part_kept rrr_row change.put.rrrs change.ended.rrrs h.rrrs)
+        (also (part_kept source_row change.put.sources change.ended.sources h.sources)
+        (also (part_kept mutation_row change.put.mutations change.ended.mutations h.mutations)
+        (also (kept t stamp less early naming_row (named_by (new_mutations next change.put.mutations))
+        (λ naming. false) h.namings)
+        (also (kept t stamp less early mandate_row change.put.mandates
+        (λ mandate. is_among (eq_by_cmp mandate_cmp) (change.put.mandates ++ change.ended.mandates) mandate)
+        h.mandates) tt))))))))))

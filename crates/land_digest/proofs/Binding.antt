@@ -1,10 +1,8 @@
 -- Equal texts have the same moments, the same versions and the same registers up to their stamp.
-use Rattle.std.proofs.Common.{◌≡◌, ℕ, ◌+◌, ℤ, pos, negsuc, ◌<ℤ◌, ◌≤ℤ◌, int_le, Bool, true, List, [], ◌∷◌, filter, inl}
-use Rattle.std.proofs.Common.{inr, refl, sym, ap, ◌∙◌, subst, arith, map as map_list, IsPermutation}
+use Rattle.std.proofs.Common.{◌≡◌, ℕ, ℤ, pos, negsuc, ◌<ℤ◌, ◌≤ℤ◌, int_le, Bool, true, List, [], ◌∷◌, inl, inr}
+use Rattle.std.proofs.Common.{refl, sym, ap, subst, arith, IsPermutation}
 use Rattle.std.proofs.lemmas.Int.{ints}
 use Rattle.std.proofs.lemmas.List.Sorted.{IsPermutation-sym, IsPermutation-trans}
-use Rattle.std.specs.List.{AllByRecursion}
-use Rattle.land_core.specs.declared.register.Register.{Register}
 use Rattle.land_digest.proofs.AllTables.{in_all, in_its_list, list_at}
 use Rattle.land_digest.proofs.Codes.{same_events}
 use Rattle.land_digest.proofs.HistoryTables.{are_numbered, event_lists}
@@ -23,14 +21,11 @@ use Rattle.land_digest.specs.Events.{Event, events_upto, in_order}
 use Rattle.land_digest.specs.Fields.{Absent, Field, Number, Text}
 use Rattle.land_digest.specs.History.{history_events}
 use Rattle.land_digest.specs.Known.{moments_upto, versions_upto}
-use Rattle.land_digest.specs.Laws.{AreSameUpto, HasContentWithin, HasExactValues, HasIntervals, HasOutline}
-use Rattle.land_digest.specs.Laws.{HaveSameVersions, TextBindsHistory, history_upto}
+use Rattle.land_digest.specs.Laws.{HasContentWithin, HasOutline, TextBindsHistory}
 use Rattle.land_digest.specs.Rows.{mandate_row, member_row, mutation_row, naming_row, parcel_row, party_row}
 use Rattle.land_digest.specs.Rows.{role_row, rrr_row, source_row, unit_row}
-use Rattle.land_digest.specs.Versions.{Row, end_of, moment_event, moment_events, start_of, table_events}
-use Rattle.land_digest.specs.Versions.{version_events}
+use Rattle.land_digest.specs.Versions.{Row, end_of, moment_event, start_of, table_events, version_events}
 use Rattle.land_shape.specs.Laws.{PrintedLaw}
-use Rattle.land_tables_history.specs.History.{IsRegisterAt}
 use Rattle.land_tables_history.specs.Intervals.{is_same_grant, is_same_mandate, is_same_member}
 use Rattle.land_tables_history.specs.Intervals.{is_same_naming, is_same_number}
 use Rattle.land_tables_history.specs.Open.{never}
@@ -97,7 +92,8 @@ module _ {X : Type 0} (row : X → Row) (vs : List (Version X)) where
 -- ---- the events of one history are those of the other
 
 module _ (ones others : List Moment) (h k : History) (s : ℤ)
-    (same : in_order (events_upto s (history_events ones h)) ≡ in_order (events_upto s (history_events others k))) where
+    (same : in_order (events_upto s (history_events ones h))
+    ≡ in_order (events_upto s (history_events others k))) where
   in_other : (e : Event) → In e (history_events ones h) → e.stamp ≤ℤ s → In e (history_events others k)
   in_other e i by =
       (from_filter (λ e. int_le e.stamp s) e (history_events others k)
@@ -215,7 +211,8 @@ text_binds_history printed_law content_law ones others h k s early valid_h valid
       };
     }
   where
-    same : in_order (events_upto s (history_events ones h)) ≡ in_order (events_upto s (history_events others k))
+    same : in_order (events_upto s (history_events ones h))
+        ≡ in_order (events_upto s (history_events others k))
     same =
         same_events (in_order (events_upto s (history_events ones h)))
         (in_order (events_upto s (history_events others k))) e
@@ -228,7 +225,8 @@ text_binds_history printed_law content_law ones others h k s early valid_h valid
         → In e (list_at n (event_lists ones h))
     back = in_other_list others ones k h s (sym same)
 
-    turned : {X : Type 0} {xs ys zs : List X} → IsPermutation xs ys → IsPermutation xs zs → IsPermutation ys zs
+    turned : {X : Type 0} {xs ys zs : List X} → IsPermutation xs ys → IsPermutation xs zs
+        → IsPermutation ys zs
     turned {X} {xs} {ys} {zs} p q = IsPermutation-trans ys xs zs (IsPermutation-sym xs ys p) q
 
     in_h : AllDisjoint h
@@ -264,7 +262,8 @@ text_binds_history printed_law content_law ones others h k s early valid_h valid
     parcels : IsSame s h.parcels k.parcels
     parcels =
         is_same is_same_number parcel_row (by_pairs is_same_number parcel_row numbers_by_pairs) 5 (λ x. refl)
-        HasExactOutline (parcels_determined printed_law) s early h.parcels k.parcels (each_in HasOutline h.parcels exact_h.parcels)
+        HasExactOutline (parcels_determined printed_law) s early h.parcels k.parcels
+        (each_in HasOutline h.parcels exact_h.parcels)
         (each_in HasOutline k.parcels exact_k.parcels) in_h.parcels in_k.parcels (forth 5) (back 5)
 
     rrrs : IsSame s h.rrrs k.rrrs
@@ -281,9 +280,12 @@ text_binds_history printed_law content_law ones others h k s early valid_h valid
 
     mutations : IsSame s h.mutations k.mutations
     mutations =
-        is_same is_same_number mutation_row (by_pairs is_same_number mutation_row numbers_by_pairs) 8 (λ x. refl)
-        HasExactContent (mutations_determined content_law) s early h.mutations k.mutations (each_in HasContentWithin h.mutations exact_h.mutations)
-        (each_in HasContentWithin k.mutations exact_k.mutations) in_h.mutations in_k.mutations (forth 8) (back 8)
+        is_same is_same_number mutation_row (by_pairs is_same_number mutation_row numbers_by_pairs) 8
+        (λ x. refl)
+        HasExactContent (mutations_determined content_law) s early h.mutations k.mutations
+        (each_in HasContentWithin h.mutations exact_h.mutations)
+        (each_in HasContentWithin k.mutations exact_k.mutations) in_h.mutations in_k.mutations (forth 8)
+        (back 8)
 
     namings : IsSame s h.namings k.namings
     namings =
@@ -293,6 +295,7 @@ text_binds_history printed_law content_law ones others h k s early valid_h valid
 
     mandates : IsSame s h.mandates k.mandates
     mandates =
-        is_same is_same_mandate mandate_row (by_pairs is_same_mandate mandate_row mandates_by_pairs) 10 (λ x. refl)
+        is_same is_same_mandate mandate_row (by_pairs is_same_mandate mandate_row mandates_by_pairs) 10
+        (λ x. refl)
         Any mandates_determined s early h.mandates k.mandates (all_pass h.mandates)
         (all_pass k.mandates) in_h.mandates in_k.mandates (forth 10) (back 10)

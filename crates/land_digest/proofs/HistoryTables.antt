@@ -1,6 +1,6 @@
 -- The events of a history, table by table.
-use Rattle.std.proofs.Common.{◌≡◌, ℕ, List, [], ◌∷◌, map as map_list, inl, inr, refl, sym, ap, ◌∙◌}
-use Rattle.land_digest.proofs.AllTables.{AreNumbered, OfTable}
+use Rattle.std.proofs.Common.{◌≡◌, ℕ, List, ◌∷◌, inl, inr, refl, sym, ap, ◌∙◌}
+use Rattle.land_digest.proofs.AllTables.{AreNumbered, OfTable, also}
 use Rattle.land_digest.proofs.Membership.{In, from_flat_map, from_map}
 use Rattle.land_digest.specs.Events.{Event}
 use Rattle.land_digest.specs.History.{events_by_table}
@@ -31,15 +31,15 @@ abbrev pub event_lists : List Moment → History → List (List Event)
 event_lists moments h = moment_events moments ∷ events_by_table h
 
 pub are_numbered : (moments : List Moment) (h : History) → AreNumbered 0 (event_lists moments h)
-are_numbered moments h = (
-  of_moments moments,
-  (of_table party_row 1 (λ x. refl) h.parties,
-  (of_table role_row 2 (λ x. refl) h.roles,
-  (of_table member_row 3 (λ x. refl) h.members,
-  (of_table unit_row 4 (λ x. refl) h.units,
-  (of_table parcel_row 5 (λ x. refl) h.parcels,
-  (of_table rrr_row 6 (λ x. refl) h.rrrs,
-  (of_table source_row 7 (λ x. refl) h.sources,
-  (of_table mutation_row 8 (λ x. refl) h.mutations,
-  (of_table naming_row 9 (λ x. refl) h.namings,
-  (of_table mandate_row 10 (λ x. refl) h.mandates, tt)))))))))))
+are_numbered moments h =
+    also (of_moments moments)
+    (also (of_table party_row 1 (λ x. refl) h.parties)
+    (also (of_table role_row 2 (λ x. refl) h.roles)
+    (also (of_table member_row 3 (λ x. refl) h.members)
+    (also (of_table unit_row 4 (λ x. refl) h.units)
+    (also (of_table parcel_row 5 (λ x. refl) h.parcels)
+    (also (of_table rrr_row 6 (λ x. refl) h.rrrs)
+    (also (of_table source_row 7 (λ x. refl) h.sources)
+    (also (of_table mutation_row 8 (λ x. refl) h.mutations)
+    (also (of_table naming_row 9 (λ x. refl) h.namings)
+    (also (of_table mandate_row 10 (λ x. refl) h.mandates) tt))))))))))

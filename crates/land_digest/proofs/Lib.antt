@@ -3,6 +3,8 @@ pub mod AllTables
 pub mod Appending
 pub mod Binding
 pub mod Codes
+pub mod Collected
+pub mod Decimals
 pub mod HistoryTables
 pub mod Lifespans
 pub mod Membership
@@ -13,3 +15,5 @@ pub mod Places
 pub mod Prefixes
 pub mod RowOrder
 pub mod RowsReadBack
+pub mod SortedEntries
+pub mod WrittenLines

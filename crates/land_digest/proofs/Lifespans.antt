@@ -1,6 +1,6 @@
 -- Valid lifespans are disjoint for each key, and valid stamps are distinct.
-use Rattle.std.proofs.Common.{◌≡◌, ℕ, ℤ, ◌<ℤ◌, int_lt, int_eq, Bool, true, false, not, ◌&&◌, ◌||◌, List, [], ◌∷◌, inl}
-use Rattle.std.proofs.Common.{inr, refl, sym, ap, ◌∙◌, arith, subst}
+use Rattle.std.proofs.Common.{◌≡◌, ℕ, ℤ, ◌<ℤ◌, int_lt, int_eq, Bool, true, false, not, ◌&&◌, ◌||◌, List, []}
+use Rattle.std.proofs.Common.{◌∷◌, inl, inr, refl, sym, ap, ◌∙◌, arith, subst}
 use Rattle.std.proofs.lemmas.Bool.{false≢true, and_parts, not-true}
 use Rattle.std.proofs.lemmas.Bool.Decides.{nat_tests}
 use Rattle.std.proofs.lemmas.Int.{ints}
@@ -60,8 +60,8 @@ disjoint {X} same moments vs valid = record {
     positive : (v : Version X) → is_interval moments v ≡ true → v.since <ℤ v.until
     positive v h =
         let two =
-            and_parts (int_lt v.since v.until && is_stamp moments v.since)
-            (int_eq v.until never || is_stamp moments v.until) h in
+        and_parts (int_lt v.since v.until && is_stamp moments v.since)
+        (int_eq v.until never || is_stamp moments v.until) h in
         lt_from v.since v.until (and_parts (int_lt v.since v.until) (is_stamp moments v.since) two.0).0
 
 pub record AllDisjoint (h : History) : Type 0 where
@@ -139,9 +139,9 @@ no_repeat_moments [] h = tt
 no_repeat_moments (m ∷ ms) h =
     let parts = and_parts (not (list_any (is_same_stamp m) ms)) (are_distinct is_same_stamp ms) h in (
       λ i. false≢true (
-        sym (none_in (is_same_stamp m) m ms (not-true (list_any (is_same_stamp m) ms) parts.0) i)
-        ∙ equal_stamps m.stamp m.stamp refl
-      ),
+          sym (none_in (is_same_stamp m) m ms (not-true (list_any (is_same_stamp m) ms) parts.0) i)
+          ∙ equal_stamps m.stamp m.stamp refl
+          ),
       no_repeat_moments ms parts.1,
     )
 

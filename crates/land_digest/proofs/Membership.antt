@@ -1,6 +1,6 @@
 -- Membership of lists: through map, filter, flat_map, concatenation and ordering, in both directions.
-use Rattle.std.proofs.Common.{◌≡◌, ◌≢◌, ℕ, Bool, true, false, cond, ◌⊎◌, List, [], ◌∷◌, ◌++◌, filter, flat_map, map as map_list, inl, inr, refl, sym, ap, ap₂, ◌∙◌, subst}
-use Rattle.std.proofs.lemmas.Bool.{false≢true}
+use Rattle.std.proofs.Common.{◌≡◌, Bool, true, false, cond, ◌⊎◌, List, [], ◌∷◌, ◌++◌, filter, flat_map}
+use Rattle.std.proofs.Common.{map as map_list, inl, inr, refl, sym, ap, ◌∙◌, subst}
 use Rattle.land_digest.specs.Events.{Event, comes_before, insert_event, in_order}
 
 -- an element occurs in a list
@@ -13,7 +13,8 @@ in_map f x [] h = elim h [ ]
 in_map f x (y ∷ ys) (inl e) = inl (ap f e)
 in_map f x (y ∷ ys) (inr h) = inr (in_map f x ys h)
 
-pub from_map : {X Y : Type 0} (f : X → Y) (y : Y) (xs : List X) → In y (map_list f xs) → (x : X) × In x xs × (f x ≡ y)
+pub from_map : {X Y : Type 0} (f : X → Y) (y : Y) (xs : List X) → In y (map_list f xs) → (x : X) × In x xs
+    × (f x ≡ y)
 from_map f y [] h = elim h [ ]
 from_map f y (x ∷ xs) (inl e) = (x, inl refl, e)
 from_map f y (x ∷ xs) (inr h) = let r = from_map f y xs h in (r.0, inr r.1, r.2)
@@ -34,16 +35,19 @@ in_either x (y ∷ xs) ys (inr h) = elim (in_either x xs ys h) [ inl a ↦ inl (
 
 pub in_filter : {X : Type 0} (p : X → Bool) (x : X) (xs : List X) → In x xs → p x ≡ true → In x (filter p xs)
 in_filter p x [] h holds = h
-in_filter p x (y ∷ ys) (inl e) holds = subst (λ b. In x (cond b (y ∷ filter p ys) (filter p ys))) (sym (ap p e ∙ holds)) (inl e)
+in_filter p x (y ∷ ys) (inl e) holds =
+    subst (λ b. In x (cond b (y ∷ filter p ys) (filter p ys))) (sym (ap p e ∙ holds)) (inl e)
 in_filter p x (y ∷ ys) (inr h) holds =
     let k = in_filter p x ys h holds in
     elim (p y) as (λ b. In x (cond b (y ∷ filter p ys) (filter p ys))) [ true ↦ inr k | false ↦ k ]
 
-pub from_filter : {X : Type 0} (p : X → Bool) (x : X) (xs : List X) → In x (filter p xs) → In x xs × (p x ≡ true)
+pub from_filter : {X : Type 0} (p : X → Bool) (x : X) (xs : List X) → In x (filter p xs) → In x xs
+    × (p x ≡ true)
 from_filter p x [] h = elim h [ ]
 from_filter {X} p x (y ∷ ys) h = go (p y) refl h (λ k. from_filter p x ys k)
   where
-    go : (b : Bool) → p y ≡ b → In x (cond b (y ∷ filter p ys) (filter p ys)) → (In x (filter p ys) → In x ys × (p x ≡ true)) → In x (y ∷ ys) × (p x ≡ true)
+    go : (b : Bool) → p y ≡ b → In x (cond b (y ∷ filter p ys) (filter p ys))
+        → (In x (filter p ys) → In x ys × (p x ≡ true)) → In x (y ∷ ys) × (p x ≡ true)
     go true is (inl e) rest = (inl e, ap p (sym e) ∙ is)
     go true is (inr k) rest = let r = rest k in (inr r.0, r.1)
     go false is k rest = let r = rest k in (inr r.0, r.1)
@@ -53,7 +57,8 @@ from_filter {X} p x (y ∷ ys) h = go (p y) refl h (λ k. from_filter p x ys k)
 pub in_insert : (z x : Event) (ys : List Event) → In z (x ∷ ys) → In z (insert_event x ys)
 in_insert z x [] h = h
 in_insert z x (y ∷ ys) h =
-    elim (comes_before x y) as (λ b. In z (cond b (x ∷ y ∷ ys) (y ∷ insert_event x ys))) [ true ↦ h | false ↦ go h (λ k. in_insert z x ys k) ]
+    elim (comes_before x y) as (λ b. In z
+    (cond b (x ∷ y ∷ ys) (y ∷ insert_event x ys))) [ true ↦ h | false ↦ go h (λ k. in_insert z x ys k) ]
   where
     go : In z (x ∷ y ∷ ys) → (In z (x ∷ ys) → In z (insert_event x ys)) → In z (y ∷ insert_event x ys)
     go (inl e) rest = inr (rest (inl e))
@@ -68,7 +73,8 @@ from_insert z x (y ∷ ys) h = go (comes_before x y) h (λ k. from_insert z x ys
     turn (inl e) = inl e
     turn (inr k) = inr (inr k)
 
-    go : (b : Bool) → In z (cond b (x ∷ y ∷ ys) (y ∷ insert_event x ys)) → (In z (insert_event x ys) → In z (x ∷ ys)) → In z (x ∷ y ∷ ys)
+    go : (b : Bool) → In z (cond b (x ∷ y ∷ ys) (y ∷ insert_event x ys))
+        → (In z (insert_event x ys) → In z (x ∷ ys)) → In z (x ∷ y ∷ ys)
     go true k rest = k
     go false (inl e) rest = inr (inl e)
     go false (inr k) rest = turn (rest k)
@@ -88,12 +94,18 @@ from_in_order z (x ∷ xs) h = go (from_insert z x (in_order xs) h) (λ k. from_
 
 -- ---- flat_map
 
-pub in_flat_map : {X Y : Type 0} (f : X → List Y) (x : X) (y : Y) (xs : List X) → In x xs → In y (f x) → In y (flat_map f xs)
+pub in_flat_map : {X Y : Type 0} (f : X → List Y) (x : X) (y : Y) (xs : List X) → In x xs → In y (f x)
+    → In y (flat_map f xs)
 in_flat_map f x y [] h i = elim h [ ]
 in_flat_map f x y (z ∷ xs) (inl e) i = in_left y (f z) (flat_map f xs) (subst (λ u. In y (f u)) (sym e) i)
 in_flat_map f x y (z ∷ xs) (inr h) i = in_right y (f z) (flat_map f xs) (in_flat_map f x y xs h i)
 
-pub from_flat_map : {X Y : Type 0} (f : X → List Y) (y : Y) (xs : List X) → In y (flat_map f xs) → (x : X) × In x xs × In y (f x)
+pub from_flat_map : {X Y : Type 0} (f : X → List Y) (y : Y) (xs : List X) → In y (flat_map f xs) → (x : X)
+    × In x xs × In y (f x)
 from_flat_map f y [] h = elim h [ ]
 from_flat_map f y (z ∷ xs) h =
-    elim (in_either y (f z) (flat_map f xs) h) [ inl a ↦ (z, inl refl, a) | inr b ↦ let r = from_flat_map f y xs b in (r.0, inr r.1, r.2) ]
+    elim (in_either y (f z) (flat_map f xs) h) [
+      | inl a ↦ (z, inl refl, a)
+      | inr b ↦ let r =
+          from_flat_map f y xs b in (r.0, inr r.1, r.2)
+    ]

@@ -1,8 +1,8 @@
 -- The text of a history does not depend on the order of its moments and versions.
-use Rattle.std.proofs.Common.{◌≡◌, ℤ, int_le, ◌⊎◌, List, [], ◌∷◌, ◌++◌, inl, inr, ap, subst, IsPermutation}
+use Rattle.std.proofs.Common.{ℤ, int_le, ◌⊎◌, List, [], ◌∷◌, ◌++◌, inl, inr, ap, subst, IsPermutation}
 use Rattle.std.proofs.lemmas.List.Sorted.{IsPermutation-sym}
 use Rattle.std.specs.Prelude.{⊤}
-use Rattle.land_digest.proofs.AllTables.{joined}
+use Rattle.land_digest.proofs.AllTables.{also, joined}
 use Rattle.land_digest.proofs.HistoryTables.{event_lists}
 use Rattle.land_digest.proofs.Membership.{In, from_filter, from_flat_map, from_in_order, from_map, in_either}
 use Rattle.land_digest.proofs.Membership.{in_filter, in_flat_map, in_in_order, in_left, in_map, in_right}
@@ -61,18 +61,18 @@ joined_within (l ∷ ls) (m ∷ ms) all z i = go (in_either z l (joined ls) i) (
 history_within : (ones others : List Moment) (h k : History) → IsPermutation ones others
     → HaveSameVersions h k → IsWithin (history_events ones h) (history_events others k)
 history_within ones others h k moments same =
-    joined_within (event_lists ones h) (event_lists others k) (
-      within_moments ones others moments,
-      (within_versions party_row h.parties k.parties same.parties,
-      (within_versions role_row h.roles k.roles same.roles,
-      (within_versions member_row h.members k.members same.members,
-      (within_versions unit_row h.units k.units same.units,
-      (within_versions parcel_row h.parcels k.parcels same.parcels,
-      (within_versions rrr_row h.rrrs k.rrrs same.rrrs,
-      (within_versions source_row h.sources k.sources same.sources,
-      (within_versions mutation_row h.mutations k.mutations same.mutations,
-      (within_versions naming_row h.namings k.namings same.namings,
-      (within_versions mandate_row h.mandates k.mandates same.mandates, tt)))))))))))
+    joined_within (event_lists ones h) (event_lists others k)
+    (also (within_moments ones others moments)
+    (also (within_versions party_row h.parties k.parties same.parties)
+    (also (within_versions role_row h.roles k.roles same.roles)
+    (also (within_versions member_row h.members k.members same.members)
+    (also (within_versions unit_row h.units k.units same.units)
+    (also (within_versions parcel_row h.parcels k.parcels same.parcels)
+    (also (within_versions rrr_row h.rrrs k.rrrs same.rrrs)
+    (also (within_versions source_row h.sources k.sources same.sources)
+    (also (within_versions mutation_row h.mutations k.mutations same.mutations)
+    (also (within_versions naming_row h.namings k.namings same.namings)
+    (also (within_versions mandate_row h.mandates k.mandates same.mandates) tt)))))))))))
 
 in_order_within : (s : ℤ) (xs ys : List Event) → IsWithin xs ys
     → IsWithin (in_order (events_upto s xs)) (in_order (events_upto s ys))
@@ -97,7 +97,8 @@ turned h k same = record {
 pub text_ignores_row_order : TextIgnoresRowOrder
 text_ignores_row_order ones others h k s valid_h valid_k moments same =
     ap events_text
-    (same_up (in_order (events_upto s (history_events ones h))) (in_order (events_upto s (history_events others k)))
+    (same_up (in_order (events_upto s (history_events ones h)))
+    (in_order (events_upto s (history_events others k)))
     (up_in_order (events_upto s (history_events ones h)) (events_have_distinct_places ones h s valid_h))
     (up_in_order (events_upto s (history_events others k)) (events_have_distinct_places others k s valid_k))
     (in_order_within s (history_events ones h) (history_events others k)

@@ -1,9 +1,9 @@
 -- A row determines its value. Outlines and contents have to be within the limits of their types.
-use Rattle.std.proofs.Common.{◌≡◌, ℕ, zero, suc, ℤ, pos, negsuc, Bool, true, false, List, [], ◌∷◌, refl, sym, ap}
-use Rattle.std.proofs.Common.{ap₂, ◌∙◌, subst, nat_eq}
+use Rattle.std.proofs.Common.{◌≡◌, ℕ, zero, suc, ℤ, pos, negsuc, Bool, true, false, List, [], ◌∷◌, refl, sym}
+use Rattle.std.proofs.Common.{ap, ap₂, ◌∙◌, subst, nat_eq}
 use Rattle.std.specs.Prelude.{bytes_eq, codes, if◌then◌else◌}
-use Rattle.land_core.specs.Role.{place_of, role_at, role_at_place}
-use Rattle.land_core.specs.Words.{class_word, party_word, source_word, state_word}
+use Rattle.land_core.specs.Role.{role_at, role_at_place}
+use Rattle.land_core.specs.Words.{party_word, source_word, state_word}
 use Rattle.land_core.specs.declared.content.Content.{Content}
 use Rattle.land_core.specs.declared.kind.PartyKind.{PartyKind}
 use Rattle.land_core.specs.declared.kind.PartyKind.TheVariants as kind
@@ -24,8 +24,8 @@ use Rattle.land_core.specs.declared.source.SourceKind.TheVariants as source
 use Rattle.land_core.specs.declared.source.SourceRecord.{SourceRecord}
 use Rattle.land_core.specs.declared.unit.UnitRecord.{UnitRecord}
 use Rattle.land_digest.specs.Fields.{Absent, Field, Number, Text, number}
-use Rattle.land_digest.specs.Rows.{class_values, mandate_row, member_row, mutation_row, naming_row, parcel_row}
-use Rattle.land_digest.specs.Rows.{party_row, role_row, rrr_row, source_row, unit_row}
+use Rattle.land_digest.specs.Rows.{mandate_row, member_row, mutation_row, naming_row, parcel_row, party_row}
+use Rattle.land_digest.specs.Rows.{role_row, rrr_row, source_row, unit_row}
 use Rattle.land_digest.specs.Versions.{Row}
 use Rattle.land_fraction.specs.Ratio.{over}
 use Rattle.land_shape.specs.Faults.{Denotes}

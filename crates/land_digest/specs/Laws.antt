@@ -9,7 +9,7 @@ use Rattle.land_core.specs.declared.parcel.ParcelRecord.{ParcelRecord}
 use Rattle.land_core.specs.declared.register.Register.{Register}
 use Rattle.land_digest.specs.Events.{events_upto, have_distinct_places}
 use Rattle.land_digest.specs.History.{history_events, history_text}
-use Rattle.land_digest.specs.Known.{moments_upto, versions_upto}
+use Rattle.land_digest.specs.Known.{history_upto, moments_upto}
 use Rattle.land_shape.specs.Outline.{IsOutline}
 use Rattle.land_tables_history.specs.Changed.{changed}
 use Rattle.land_tables_history.specs.History.{IsRegisterAt}
@@ -54,21 +54,6 @@ pub record HaveSameVersions (h k : History) : Type 0 where
   pub namings : IsPermutation h.namings k.namings
   pub mandates : IsPermutation h.mandates k.mandates
 
--- the history as it is known at a moment
-abbrev pub history_upto : ℤ → History → History
-history_upto t h = record {
-  parties = versions_upto t h.parties;
-  roles = versions_upto t h.roles;
-  members = versions_upto t h.members;
-  units = versions_upto t h.units;
-  parcels = versions_upto t h.parcels;
-  rrrs = versions_upto t h.rrrs;
-  sources = versions_upto t h.sources;
-  mutations = versions_upto t h.mutations;
-  namings = versions_upto t h.namings;
-  mandates = versions_upto t h.mandates;
-}
-
 -- ---- laws
 
 -- a change and its moment leave the text up to each earlier stamp unchanged
@@ -78,14 +63,14 @@ AppendingKeepsText =
     → history_text (record { stamp = stamp; next = change.next } ∷ moments) (changed next change stamp h) t
     ≡ history_text moments h t
 
--- two histories with the same text have the same moments and the same versions up to its stamp
+-- the moments and the versions up to a stamp are the same, and so is the register at each moment up to it
 pub record AreSameUpto (s : ℤ) (ones others : List Moment) (h k : History) : Type 0 where
   pub moments : IsPermutation (moments_upto s ones) (moments_upto s others)
   pub versions : HaveSameVersions (history_upto s h) (history_upto s k)
   pub registers : (t : ℤ) (register : Register) → t ≤ℤ s → IsRegisterAt t h register
       → IsRegisterAt t k register
 
--- hence the same register at each moment up to it
+-- the text binds the history: if two histories have the same text up to a stamp, they are the same up to it
 abbrev pub TextBindsHistory : Type 0
 TextBindsHistory =
     (ones others : List Moment) (h k : History) (s : ℤ) → s <ℤ never
@@ -98,7 +83,7 @@ EarlierTextIsPrefix =
     (moments : List Moment) (h : History) (s t : ℤ) → s ≤ℤ t
     → (rest : List ℕ) × (history_text moments h t ≡ history_text moments h s ++ rest)
 
--- the text does not depend on the order of moments and versions
+-- the text does not depend on the order of the moments and the versions
 abbrev pub TextIgnoresRowOrder : Type 0
 TextIgnoresRowOrder =
     (ones others : List Moment) (h k : History) (s : ℤ) → HasIntervals ones h → HasIntervals others k

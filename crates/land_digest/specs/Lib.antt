@@ -1,4 +1,5 @@
 -- Definitions of the text and the digest of a history.
+pub mod Entries
 pub mod Events
 pub mod Fields
 pub mod History

@@ -1,5 +1,5 @@
 -- The rows of the register's tables, with the values that their columns hold.
-use Rattle.std.specs.Prelude.{ℕ, Bool, List, [], ◌∷◌, ◌++◌, if◌then◌else◌}
+use Rattle.std.specs.Prelude.{ℕ, List, [], ◌∷◌, ◌++◌, if◌then◌else◌}
 use Rattle.land_core.specs.Role.{place_of}
 use Rattle.land_core.specs.Words.{act_word, class_word, party_word, source_word, state_word}
 use Rattle.land_core.specs.declared.mandates.Mandate.{Mandate}

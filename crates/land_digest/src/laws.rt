@@ -7,8 +7,8 @@ pub fn appending_keeps_text()
     ensures { AppendingKeepsText }
 {}
 
-/// Two histories with the same text up to a stamp have the same moments, the same versions and, at each
-/// moment, the same register up to it.
+/// The text binds the history: if two histories have the same text up to a stamp, they have the same moments
+/// and the same versions up to it, and the same register at each moment up to it.
 pub fn text_binds_history()
     ensures { TextBindsHistory }
 {
@@ -21,7 +21,7 @@ pub fn earlier_text_is_prefix()
     ensures { EarlierTextIsPrefix }
 {}
 
-/// The text does not depend on the order of moments and versions.
+/// The text does not depend on the order of the moments and the versions.
 pub fn text_ignores_row_order()
     ensures { TextIgnoresRowOrder }
 {}
