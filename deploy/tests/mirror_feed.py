@@ -19,6 +19,14 @@ def state(server, name):
         return cursor.fetchone()
 
 
+def is_locked(server, name):
+    """Returns whether a feed is connected to the mirror and has its lock."""
+    with server.connect("postgres", name) as db, db.cursor() as cursor:
+        cursor.execute("SELECT count(*) FROM pg_locks WHERE locktype = 'advisory' AND granted AND database = "
+                       "(SELECT oid FROM pg_database WHERE datname = current_database())")
+        return cursor.fetchone()[0] == 1
+
+
 def copy(file, other):
     """Copies a register that nothing writes."""
     for end in ("", "-wal"):
@@ -120,7 +128,7 @@ def test_one_feed(folder, server):
     file = make(folder, server, "twice")
     first = start_feed(folder, server, "twice", file)
     try:
-        wait_for(lambda: state(server, "twice"))        # the first feed has the lock
+        check("the first feed takes the lock", wait_for(lambda: is_locked(server, "twice")))
         check("a second feed is refused", wait_for(lambda: "another feed" in feed_once(folder, server, "twice", file).stderr, 20))
     finally:
         first.kill()
