@@ -34,7 +34,10 @@ http {{ access_log off; client_body_temp_path {folder}/b; proxy_temp_path {folde
     uwsgi_temp_path {folder}/u; scgi_temp_path {folder}/s; keepalive_requests 1000000000; tcp_nodelay on;
     server {{ listen 127.0.0.1:{port}; root {folder}/root; default_type application/json; server_tokens off; }} }}
 """
-HAPROXY = """defaults
+HAPROXY = """global
+    maxconn 4000
+    nbthread 1
+defaults
     mode http
     timeout connect 2s
     timeout client 60s
@@ -45,7 +48,7 @@ frontend queue
     default_backend register
 backend register
     http-reuse always
-    server one 127.0.0.1:{to} maxconn {places} maxqueue 1500 pool-max-conn {places}
+    server one 127.0.0.1:{to} maxconn {places} maxqueue 1500 pool-max-conn {places} pool-purge-delay 10s
 """
 
 
