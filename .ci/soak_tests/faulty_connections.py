@@ -15,9 +15,10 @@ refuses           closes each connection beyond the fourth
 unlimited         passes ten times as many places on
 exits-early       exits as soon as the last connection was accepted
 exits-with-0      exits with 0 if the program exits
+hides-503         replies to an enrolment as if it was executed, if the program replies with 503
+exits-at-503      exits if the program replies with 503
 """
 import os
-import re
 import resource
 import selectors
 import signal
@@ -36,7 +37,7 @@ class Pair:
     def __init__(self, near, far):
         self.near, self.far = near, far
         self.to_near, self.to_far = b"", b""
-        self.has_end = self.asks_list = False
+        self.has_end = self.asks_list = self.enrols = False
 
 
 class Proxy:
@@ -124,8 +125,8 @@ class Proxy:
     def read(self, pair, ready):
         data = ready.recv(1 << 16)
         if ready is pair.near:
-            pair.asks_list = b"GET /parties " in data
-            if data and self.invents(pair, data):
+            pair.asks_list, pair.enrols = b"GET /parties " in data, data.startswith(b"POST /acts/enrol ")
+            if data and self.invents(pair):
                 return
             pair.to_far += data
             if not data:
@@ -140,19 +141,22 @@ class Proxy:
         else:
             self.drop(pair)
 
-    def invents(self, pair, data):
-        found = re.match(rb"POST /acts/enrol ", data)
-        if self.fault != "invents" or not found:
+    def invents(self, pair):
+        if self.fault != "invents" or not pair.enrols:
             return False
         self.invented += 1
         if self.invented < 50:
             return False
-        body = b'{"made":[%d],"number":%d,"stamp":%d}' % (self.invented, self.invented, self.invented)
-        pair.to_near += b"HTTP/1.1 200 OK\r\nContent-Type: application/json\r\nContent-Length: %d\r\n\r\n" % len(body) + body
+        pair.to_near += receipt(self.invented)
         return True
 
     def reply(self, pair, data):
         self.replies += 1
+        if data.startswith(b"HTTP/1.1 503 "):
+            if self.fault == "exits-at-503":
+                os._exit(3)
+            if self.fault == "hides-503" and pair.enrols:
+                data = receipt(1000)
         if self.fault == "stale" and pair.asks_list:
             if self.replies % 3 or not self.lists:
                 self.lists = data
@@ -199,6 +203,12 @@ class Proxy:
                 if it in self.loop.get_map():
                     self.loop.unregister(it)
                 it.close()
+
+
+def receipt(number):
+    """Returns a reply to an enrolment that was executed."""
+    body = b'{"made":[%d],"number":%d,"stamp":%d}' % (number, number, number)
+    return b"HTTP/1.1 200 OK\r\nContent-Type: application/json\r\nContent-Length: %d\r\n\r\n" % len(body) + body
 
 
 def die_with_parent():

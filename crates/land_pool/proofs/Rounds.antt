@@ -47,30 +47,30 @@ none_open {T} s empty i = none_at (get s i) refl
     none_at None is = refl
     none_at (Some x) is = absurd (no_entry (entries s) x (nil_from_length (entries s) (length-entries s ∙ empty)) ((Contains-entries s i x).1 is))
 
-module _ {R W : Type 0} (remaining : R → Option (List ℕ)) (contents : W → Option (List ℕ)) {C : Type 0} (reads : C → ℤ → C → Type 0) where
+module _ {R W : Type 0} (remaining : R → Option (List ℕ)) (contents : W → Option (List ℕ)) (fresh : Option (List ℕ)) {C : Type 0} (reads : C → ℤ → C → Type 0) where
   -- no turn, and a turn after others
-  pub serves_on : (stands : State C → Type 0) (at : ℕ → Option (OpenConnection R W)) (ended : Option (List Ending)) → ServesOn remaining contents reads stands stands at at ended ended
+  pub serves_on : (stands : State C → Type 0) (at : ℕ → Option (OpenConnection R W)) (ended : Option (List Ending)) → ServesOn remaining contents fresh reads stands stands at at ended ended
   serves_on stands at ended from accepted endings so =
-      ([], records_none ended, subst (λ (es : List Ending). ServesUntilNow remaining contents reads from stands at accepted es) (sym (append-nil endings)) so)
+      ([], records_none ended, subst (λ (es : List Ending). ServesUntilNow remaining contents fresh reads from stands at accepted es) (sym (append-nil endings)) so)
 
   pub serves_on_more : (a b d : State C → Type 0) (at next last : ℕ → Option (OpenConnection R W)) (ended ended_was ended_now ended_after : Option (List Ending))
       → ended_now ≡ ended_was
-      → ServesOn remaining contents reads a b at next ended ended_was → ServesOn remaining contents reads b d next last ended_now ended_after
-      → ServesOn remaining contents reads a d at last ended ended_after
+      → ServesOn remaining contents fresh reads a b at next ended ended_was → ServesOn remaining contents fresh reads b d next last ended_now ended_after
+      → ServesOn remaining contents fresh reads a d at last ended ended_after
   serves_on_more a b d at next last ended ended_was ended_now ended_after same one two from accepted endings so =
       let first = one from accepted endings so in
       let last_turns = two from accepted (endings ++ first.0) first.2 in (
         first.0 ++ last_turns.0,
         records_both ended ended_was ended_after first.0 last_turns.0 first.1 (subst (λ (o : Option (List Ending)). RecordsAll o ended_after last_turns.0) same last_turns.1),
-        subst (λ (es : List Ending). ServesUntilNow remaining contents reads from d last accepted es) (append_assoc endings first.0 last_turns.0) last_turns.2,
+        subst (λ (es : List Ending). ServesUntilNow remaining contents fresh reads from d last accepted es) (append_assoc endings first.0 last_turns.0) last_turns.2,
       )
 
-module _ {R W : Type 0} (remaining : R → Option (List ℕ)) (contents : W → Option (List ℕ)) {C : Type 0} (reads : C → ℤ → C → Type 0) (from : State C) where
+module _ {R W : Type 0} (remaining : R → Option (List ℕ)) (contents : W → Option (List ℕ)) (fresh : Option (List ℕ)) {C : Type 0} (reads : C → ℤ → C → Type 0) (from : State C) where
   -- this number of connections was accepted until now, and they were served
   abbrev pub IsRound : (stands : State C → Type 0) → (ℕ → Option (OpenConnection R W)) → (coming now : Option (List (Option (List ℕ)))) → (ended ended_now : Option (List Ending)) → ℕ → Type 0
   IsRound stands at coming now ended ended_now count =
       (accepted : List Accepted) × (endings : List Ending) × (length accepted ≡ count) × AreFirstPending accepted coming now × RecordsAll ended ended_now endings
-      × ServesUntilNow remaining contents reads from stands at accepted endings
+      × ServesUntilNow remaining contents fresh reads from stands at accepted endings
 
   pub first_round : (stands : State C → Type 0) (at : ℕ → Option (OpenConnection R W)) (coming : Option (List (Option (List ℕ)))) (ended : Option (List Ending)) → stands from
       → ((i : ℕ) → at i ≡ None) → IsRound stands at coming coming ended ended 0
@@ -105,7 +105,7 @@ module _ {R W : Type 0} (remaining : R → Option (List ℕ)) (contents : W → 
   pub next_round : (stood stands : State C → Type 0) (at mid next : ℕ → Option (OpenConnection R W)) (coming was now after : Option (List (Option (List ℕ))))
       (ended ended_was ended_now ended_mid ended_after : Option (List Ending)) (before more : ℕ)
       → was ≡ now → ended_was ≡ ended_now → IsRound stood at coming was ended ended_was before
-      → AcceptsMore remaining contents at mid now after ended_now ended_mid before more → ServesOn remaining contents reads stood stands mid next ended_mid ended_after
+      → AcceptsMore remaining contents fresh at mid now after ended_now ended_mid before more → ServesOn remaining contents fresh reads stood stands mid next ended_mid ended_after
       → IsRound stands next coming after ended ended_after (before + more)
   next_round stood stands at mid next coming was now after ended ended_was ended_now ended_mid ended_after before more same same_ended so accepts goes =
       let accepted = so.0 in
@@ -143,7 +143,7 @@ module _ {R W : Type 0} (remaining : R → Option (List ℕ)) (contents : W → 
 
   -- if no connection is open, each has ended
   pub all_ended : (stands : State C → Type 0) (at : ℕ → Option (OpenConnection R W)) (accepted : List Accepted) (endings : List Ending)
-      → ServesUntilNow remaining contents reads from stands at accepted endings → ((i : ℕ) → at i ≡ None) → (k : ℕ) → k < length accepted → endings_of k endings ≢ []
+      → ServesUntilNow remaining contents fresh reads from stands at accepted endings → ((i : ℕ) → at i ≡ None) → (k : ℕ) → k < length accepted → endings_of k endings ≢ []
   all_ended stands at accepted endings so empty k within none =
       let it = so.4.others k within none in
       none-some it.1 (sym (empty it.0) ∙ it.2)

@@ -39,7 +39,7 @@ each_more accepted log endings k added more of none mine within each = record {
     far : (j : ℕ) → length accepted ≤ j → k ≢ j
     far j past e = too_far j (length accepted) e within past
 
-module _ {R W : Type 0} (remaining : R → Option (List ℕ)) (contents : W → Option (List ℕ)) where
+module _ {R W : Type 0} (remaining : R → Option (List ℕ)) (contents : W → Option (List ℕ)) (fresh : Option (List ℕ)) where
   -- the connection at a key had a turn: it stays open and has no ending, or it is gone and has one
   open_more : (at next : ℕ → Option (OpenConnection R W)) (accepted : List Accepted) (log : List Numbered) (endings : List Ending)
       (i : ℕ) (s t : OpenConnection R W) (added : List Exchange) (more : List Ending)
@@ -47,11 +47,11 @@ module _ {R W : Type 0} (remaining : R → Option (List ℕ)) (contents : W → 
       → ((u : OpenConnection R W) → next i ≡ Some u → (u ≡ t) × (more ≡ []))
       → (more ≡ [] → next i ≡ Some t)
       → AreOf s.number more
-      → ((c : Accepted) → more ≡ [] → IsOpenWith remaining contents c.bytes c.old (exchanges_of s.number log) s
-      → IsOpenWith remaining contents c.bytes c.old (exchanges_of s.number log ++ added) t)
-      → ((c : Accepted) → IsOpenWith remaining contents c.bytes c.old (exchanges_of s.number log) s
+      → ((c : Accepted) → more ≡ [] → IsOpenWith remaining contents c.bytes fresh (exchanges_of s.number log) s
+      → IsOpenWith remaining contents c.bytes fresh (exchanges_of s.number log ++ added) t)
+      → ((c : Accepted) → IsOpenWith remaining contents c.bytes fresh (exchanges_of s.number log) s
       → IsServedAs c (exchanges_of s.number log ++ added) more)
-      → AreOpen remaining contents at accepted log endings → AreOpen remaining contents next accepted (log ++ all_of s.number added) (endings ++ more)
+      → AreOpen remaining contents fresh at accepted log endings → AreOpen remaining contents fresh next accepted (log ++ all_of s.number added) (endings ++ more)
   open_more at next accepted log endings i s t added more here number others mine stays of goes serves now =
       let own = now.held i s here in
       let c = own.0 in
@@ -67,16 +67,16 @@ module _ {R W : Type 0} (remaining : R → Option (List ℕ)) (contents : W → 
       record {
         held = λ j u is.
             elim (same_or_other j i) as (λ _. (d : Accepted) × (slice_get accepted u.number ≡ Some d) × (endings_of u.number (endings ++ more) ≡ [])
-            × IsOpenWith remaining contents d.bytes d.old (exchanges_of u.number (log ++ all_of s.number added)) u) [
+            × IsOpenWith remaining contents d.bytes fresh (exchanges_of u.number (log ++ all_of s.number added)) u) [
               | inl e ↦
                   let what = mine u (subst (λ (n : ℕ). next n ≡ Some u) e is) in
                   subst (λ (w : OpenConnection R W). (d : Accepted) × (slice_get accepted w.number ≡ Some d) × (endings_of w.number (endings ++ more) ≡ [])
-                  × IsOpenWith remaining contents d.bytes d.old (exchanges_of w.number (log ++ all_of s.number added)) w) (sym what.0) (
+                  × IsOpenWith remaining contents d.bytes fresh (exchanges_of w.number (log ++ all_of s.number added)) w) (sym what.0) (
                     c,
                     subst (λ (n : ℕ). slice_get accepted n ≡ Some c) (sym number) own.1,
                     ap (λ (n : ℕ). endings_of n (endings ++ more)) number ∙ own_endings s.number endings more of own.2 ∙ what.1,
-                    subst (λ (n : ℕ). IsOpenWith remaining contents c.bytes c.old (exchanges_of n (log ++ all_of s.number added)) t) (sym number)
-                        (subst (λ (l : List Exchange). IsOpenWith remaining contents c.bytes c.old l t) (sym (own_more s.number log added))
+                    subst (λ (n : ℕ). IsOpenWith remaining contents c.bytes fresh (exchanges_of n (log ++ all_of s.number added)) t) (sym number)
+                        (subst (λ (l : List Exchange). IsOpenWith remaining contents c.bytes fresh l t) (sym (own_more s.number log added))
                         (goes c what.1 own.3)),
                   )
               | inr ne ↦
@@ -86,7 +86,7 @@ module _ {R W : Type 0} (remaining : R → Option (List ℕ)) (contents : W → 
                     it.0,
                     it.1,
                     other_endings u.number s.number endings more of apart ∙ it.2,
-                    subst (λ (l : List Exchange). IsOpenWith remaining contents it.0.bytes it.0.old l u) (sym (other_same u.number s.number log added apart)) it.3,
+                    subst (λ (l : List Exchange). IsOpenWith remaining contents it.0.bytes fresh l u) (sym (other_same u.number s.number log added apart)) it.3,
                   )
             ];
         apart = λ j k u v is it same.
@@ -105,7 +105,7 @@ module _ {R W : Type 0} (remaining : R → Option (List ℕ)) (contents : W → 
                   (it.0, it.1, others it.0 elsewhere ∙ it.2, it.3)
             ];
         each = each_more accepted log endings s.number added more of own.2
-            (λ d is. serves d (subst (λ (e : Accepted). IsOpenWith remaining contents e.bytes e.old (exchanges_of s.number log) s) (same_some c d (sym own.1 ∙ is)) own.3))
+            (λ d is. serves d (subst (λ (e : Accepted). IsOpenWith remaining contents e.bytes fresh (exchanges_of s.number log) s) (same_some c d (sym own.1 ∙ is)) own.3))
             (slice_get_within accepted s.number c own.1) now.each;
       }
 
@@ -118,7 +118,7 @@ module _ {R W : Type 0} (remaining : R → Option (List ℕ)) (contents : W → 
     -- it stays open
     pub turn_open : (old mid new : Slab (OpenConnection R W)) (key back : ℕ) (s t : OpenConnection R W) (ended : Option (List Ending))
         → Some s ≡ get old key → t.number ≡ s.number → Updates old mid key None → back ≡ key → Updates mid new back (Some t)
-        → HasTurn Open s t → ServesOn remaining contents reads stood stands (get old) (get new) ended ended
+        → HasTurn Open s t → ServesOn remaining contents fresh reads stood stands (get old) (get new) ended ended
     turn_open old mid new key back s t ended here number gone same put brings from accepted endings so =
         let it = brings so.1 so.3 in
         let added = it.1.0 in
@@ -135,9 +135,9 @@ module _ {R W : Type 0} (remaining : R → Option (List ℕ)) (contents : W → 
                 (λ u is. (same_some u t (sym is ∙ placed), refl))
                 (λ none. placed)
                 (none_of s.number)
-                (λ c none fits. it.1.3 c.bytes c.old (exchanges_of s.number so.0) fits)
-                (λ c fits. (let after = it.1.3 c.bytes c.old (exchanges_of s.number so.0) fits in
-                (contents t.writer, broken t.finished c.bytes (rest_of remaining contents t) c.old (contents t.writer) (exchanges_of s.number so.0 ++ added) t.output.items after.0 after.1)))
+                (λ c none fits. it.1.3 c.bytes fresh (exchanges_of s.number so.0) fits)
+                (λ c fits. (let after = it.1.3 c.bytes fresh (exchanges_of s.number so.0) fits in
+                (broken t.finished c.bytes (rest_of remaining contents t) fresh (contents t.writer) (exchanges_of s.number so.0 ++ added) t.output.items after.0 after.1).0))
                 so.4,
           ),
         )
@@ -146,12 +146,12 @@ module _ {R W : Type 0} (remaining : R → Option (List ℕ)) (contents : W → 
     turn_ended : (complete : Bool) (old mid : Slab (OpenConnection R W)) (key : ℕ) (s t : OpenConnection R W) (progress : Progress) (ended ended_after : Option (List Ending))
         → ((bytes old : Option (List ℕ)) (xs : List Exchange) → IsThen remaining contents progress bytes old xs t → IsServed complete bytes old (contents t.writer) xs)
         → Some s ≡ get old key → t.number ≡ s.number → Updates old mid key None
-        → RecordsAll ended ended_after (record { number = t.number; complete = complete; written = contents t.writer } ∷ [])
-        → HasTurn progress s t → ServesOn remaining contents reads stood stands (get old) (get mid) ended ended_after
+        → RecordsAll ended ended_after (record { number = t.number; complete = complete; fresh = fresh; written = contents t.writer } ∷ [])
+        → HasTurn progress s t → ServesOn remaining contents fresh reads stood stands (get old) (get mid) ended ended_after
     turn_ended complete old mid key s t progress ended ended_after means here number gone records brings from accepted endings so =
         let it = brings so.1 so.3 in
         let added = it.1.0 in
-        let e : Ending = record { number = t.number; complete = complete; written = contents t.writer } in (
+        let e : Ending = record { number = t.number; complete = complete; fresh = fresh; written = contents t.writer } in (
           e ∷ [],
           records,
           (
@@ -164,7 +164,7 @@ module _ {R W : Type 0} (remaining : R → Option (List ℕ)) (contents : W → 
                 (λ none. absurd (not_none e none))
                 (subst (λ (n : ℕ). AreOf n (e ∷ [])) number (one_of e))
                 (λ c none fits. absurd (not_none e none))
-                (λ c fits. means c.bytes c.old (exchanges_of s.number so.0 ++ added) (it.1.3 c.bytes c.old (exchanges_of s.number so.0) fits))
+                (λ c fits. means c.bytes fresh (exchanges_of s.number so.0 ++ added) (it.1.3 c.bytes fresh (exchanges_of s.number so.0) fits))
                 so.4,
           ),
         )
@@ -174,24 +174,24 @@ module _ {R W : Type 0} (remaining : R → Option (List ℕ)) (contents : W → 
 
     pub turn_complete : (old mid : Slab (OpenConnection R W)) (key : ℕ) (s t : OpenConnection R W) (ended ended_after : Option (List Ending))
         → Some s ≡ get old key → t.number ≡ s.number → Updates old mid key None
-        → RecordsAll ended ended_after (record { number = t.number; complete = true; written = contents t.writer } ∷ [])
-        → HasTurn Complete s t → ServesOn remaining contents reads stood stands (get old) (get mid) ended ended_after
+        → RecordsAll ended ended_after (record { number = t.number; complete = true; fresh = fresh; written = contents t.writer } ∷ [])
+        → HasTurn Complete s t → ServesOn remaining contents fresh reads stood stands (get old) (get mid) ended ended_after
     turn_complete old mid key s t ended ended_after here number gone records brings =
         turn_ended true old mid key s t Complete ended ended_after (λ bytes before xs is. is) here number gone records brings
 
     pub turn_broken : (old mid : Slab (OpenConnection R W)) (key : ℕ) (s t : OpenConnection R W) (ended ended_after : Option (List Ending))
         → Some s ≡ get old key → t.number ≡ s.number → Updates old mid key None
-        → RecordsAll ended ended_after (record { number = t.number; complete = false; written = contents t.writer } ∷ [])
-        → HasTurn Broken s t → ServesOn remaining contents reads stood stands (get old) (get mid) ended ended_after
+        → RecordsAll ended ended_after (record { number = t.number; complete = false; fresh = fresh; written = contents t.writer } ∷ [])
+        → HasTurn Broken s t → ServesOn remaining contents fresh reads stood stands (get old) (get mid) ended ended_after
     turn_broken old mid key s t ended ended_after here number gone records brings =
         turn_ended false old mid key s t Broken ended ended_after (λ bytes before xs is. is) here number gone records brings
 
   -- no connection had a turn
   pub no_turn : {C : Type 0} (reads : C → ℤ → C → Type 0) (stands : State C → Type 0) (old mid : Slab (OpenConnection R W)) (ended : Option (List Ending)) → mid ≡ old
-      → ServesOn remaining contents reads stands stands (get old) (get mid) ended ended
+      → ServesOn remaining contents fresh reads stands stands (get old) (get mid) ended ended
   no_turn reads stands old mid ended same from accepted endings so = (
     [],
     records_none ended,
-    subst (λ (es : List Ending). ServesUntilNow remaining contents reads from stands (get mid) accepted es) (sym (append-nil endings))
-        (subst (λ (f : ℕ → Option (OpenConnection R W)). ServesUntilNow remaining contents reads from stands f accepted endings) (sym (ap (λ (t : Slab (OpenConnection R W)). get t) same)) so),
+    subst (λ (es : List Ending). ServesUntilNow remaining contents fresh reads from stands (get mid) accepted es) (sym (append-nil endings))
+        (subst (λ (f : ℕ → Option (OpenConnection R W)). ServesUntilNow remaining contents fresh reads from stands f accepted endings) (sym (ap (λ (t : Slab (OpenConnection R W)). get t) same)) so),
   )

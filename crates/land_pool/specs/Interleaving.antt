@@ -57,16 +57,15 @@ IsServed true bytes old new xs = IfSome bytes (λ all. AreAllItems all xs) × Ap
 IsServed false bytes old new xs =
     IfSome bytes (λ all. AreFirstItems all xs) × ((unsent : List ℕ) × WritesPrefix old new xs unsent)
 
--- A connection that was accepted: its input, and the bytes written to it before.
+-- A connection that was accepted: its input.
 pub record Accepted : Type 0 where
   pub bytes : Option (List ℕ)
-  pub old : Option (List ℕ)
 
--- A connection with these exchanges ended at most once, and was served as its ending reports. One that has not
--- ended is open.
+-- A connection with these exchanges ended at most once, and was served as its ending reports. Of one that has not
+-- ended, the first items were answered.
 abbrev pub IsServedAs : Accepted → List Exchange → List Ending → Type 0
-IsServedAs c xs [] = (new : Option (List ℕ)) × IsServed false c.bytes c.old new xs
-IsServedAs c xs (e ∷ []) = IsServed e.complete c.bytes c.old e.written xs
+IsServedAs c xs [] = IfSome c.bytes (λ all. AreFirstItems all xs)
+IsServedAs c xs (e ∷ []) = IsServed e.complete c.bytes e.fresh e.written xs
 IsServedAs c xs (e ∷ f ∷ es) = ⊥
 
 -- Each accepted connection is served, and no exchange and no ending is of another one.

@@ -55,11 +55,12 @@ module _ {R W : Type 0} (remaining : R → Option (List ℕ)) (contents : W → 
       (bytes old : Option (List ℕ)) (xs : List Exchange) → IsOpenWith bytes old xs before
       → IsThen progress bytes old (xs ++ added) after
 
-  -- The open connections at their keys.
+module _ {R W : Type 0} (remaining : R → Option (List ℕ)) (contents : W → Option (List ℕ)) (fresh : Option (List ℕ)) where
+  -- The open connections at their keys. Their writers held `fresh` when they were accepted.
   pub record AreOpen (at : ℕ → Option (OpenConnection R W)) (accepted : List Accepted) (log : List Numbered) (endings : List Ending) : Type 0 where
     pub held : (i : ℕ) (o : OpenConnection R W) → at i ≡ Some o
         → (c : Accepted) × (slice_get accepted o.number ≡ Some c) × (endings_of o.number endings ≡ [])
-        × IsOpenWith c.bytes c.old (exchanges_of o.number log) o
+        × IsOpenWith remaining contents c.bytes fresh (exchanges_of o.number log) o
     pub apart : (i j : ℕ) (o p : OpenConnection R W) → at i ≡ Some o → at j ≡ Some p → o.number ≡ p.number → i ≡ j
     pub others : (k : ℕ) → k < length accepted → endings_of k endings ≡ []
         → (i : ℕ) × (o : OpenConnection R W) × (at i ≡ Some o) × (o.number ≡ k)

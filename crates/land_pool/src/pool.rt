@@ -123,7 +123,7 @@ fn accept_if_room<L: ConnectionSource>(
     requires { accepted ≤ wanted }
     ensures wanted { result ≤ wanted }
     ensures accepts { (more : ℕ) × (result ≡ accepted + more)
-        × AcceptsMore L.Reader.remaining L.Writer.contents (get pool.old) (get pool.new)
+        × AcceptsMore L.Reader.remaining L.Writer.contents L.fresh (get pool.old) (get pool.new)
         (L.coming source.old) (L.coming source.new) (L.ended source.old) (L.ended source.new) accepted more }
 {
     if accepted == wanted || pool.len() >= at_once {
@@ -141,7 +141,7 @@ fn accept_one<L: ConnectionSource>(
     accepted: u32,
 ) -> u32
     ensures one { result ≤ 1 }
-    ensures accepts { AcceptsMore L.Reader.remaining L.Writer.contents (get pool.old) (get pool.new)
+    ensures accepts { AcceptsMore L.Reader.remaining L.Writer.contents L.fresh (get pool.old) (get pool.new)
         (L.coming source.old) (L.coming source.new) (L.ended source.old) (L.ended source.new)
         accepted result }
 {
@@ -182,7 +182,7 @@ fn serve_ready<L: ConnectionSource, K: Keeper, C: Clock>(
     requires room { field_room ≤ length headers.old }
     requires is_open { K.closed keeper.old ≡ false }
     ensures room { length headers.new ≡ length headers.old }
-    ensures served { K.honest keeper.new → ServesOn L.Reader.remaining L.Writer.contents C.reads
+    ensures served { K.honest keeper.new → ServesOn L.Reader.remaining L.Writer.contents L.fresh C.reads
         (Represents K.Keeper keeper.old clock.old) (Represents K.Keeper keeper.new clock.new)
         (get pool.old) (get pool.new) (L.ended source.old) (L.ended source.new) }
     ensures was { WasHonest K.Keeper keeper.old keeper.new }
@@ -214,7 +214,7 @@ fn serve_key<L: ConnectionSource, K: Keeper, C: Clock>(
     requires room { field_room ≤ length headers.old }
     requires is_open { K.closed keeper.old ≡ false }
     ensures room { length headers.new ≡ length headers.old }
-    ensures served { K.honest keeper.new → ServesOn L.Reader.remaining L.Writer.contents C.reads
+    ensures served { K.honest keeper.new → ServesOn L.Reader.remaining L.Writer.contents L.fresh C.reads
         (Represents K.Keeper keeper.old clock.old) (Represents K.Keeper keeper.new clock.new)
         (get pool.old) (get pool.new) (L.ended source.old) (L.ended source.new) }
     ensures was { WasHonest K.Keeper keeper.old keeper.new }
@@ -240,7 +240,7 @@ fn close<L: ConnectionSource>(
     complete: bool,
 )
     ensures coming { L.coming source.new ≡ L.coming source.old }
-    ensures ended { Records (L.ended source.old) (L.ended source.new) connection.number complete
+    ensures ended { Records (L.ended source.old) (L.ended source.new) connection.number complete L.fresh
         (L.Writer.contents connection.writer) }
 {
     let OpenConnection {

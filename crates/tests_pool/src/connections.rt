@@ -55,7 +55,7 @@ fn seven_connections_three_at_once(rt: HostRuntime) -> Result<(), Fail> {
 fn one_at_once(alloc: Global) -> Result<(), Stop> {
     let scripts = scripts(alloc, SEVEN, &[1, 0], &[1, 0])?;
     let served = expect_one_run(alloc, SEVEN, scripts, &[], 1, None)?;
-    let order = [0, 0, 0, 2, 4, 4, 4, 4, 5];
+    let order = [0, 0, 0, 2, 2, 3, 4, 4, 4, 4, 5, 5, 6];
     expect(served.as_slice() == order.as_slice(), "the order", 0)
 }
 

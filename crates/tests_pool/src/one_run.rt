@@ -1,6 +1,6 @@
 //! Checks that connections which were served at once had the replies of one run: those of a plain keeper that
-//! gets the requests in the order in which they were served.
-use crate::scripts::{RecordingClock, Script, ScriptedEnding, ScriptedSource};
+//! gets the items in the order in which they were served.
+use crate::scripts::{Record, RecordingClock, Script, ScriptedEnding, ScriptedSource};
 use land_core::kind::Kind;
 use land_core::object::Object;
 use land_desk::serve::serve;
@@ -8,27 +8,26 @@ use land_keep::keeper::Keeper;
 use land_keep::plain_keeper::PlainKeeper;
 use land_pool::pool::{PoolFault, serve_at_once};
 use std::alloc::{AllocError, Global};
-use std::cell::Cell;
 use std::collections::VecDeque;
-use std::rc::Rc;
 use testlib_scenario::doubles::{ChunkReader, ClockReadings, Sink};
 use testlib_scenario::run_scenario::open_sink;
 use testlib_scenario::stop::{Stop, expect};
 use testlib_scenario::talk::common;
 
-/// The input of a connection: requests, each of which reads the clock, and at the end bytes that are no
-/// request or a truncated one, if any.
+/// The input of a connection: requests, and at the end bytes that are no request or a truncated one, if any.
 #[derive(Clone, Copy)]
 pub(crate) struct Talk {
     pub(crate) requests: &'static [&'static [u8]],
     pub(crate) last: &'static [u8],
 }
 
-/// The response if out of memory, as the connection stays open or closes.
-const NO_MEMORY: &[&[u8]] = &[
-    b"HTTP/1.1 503 Service Unavailable\r\nContent-Type: application/json\r\nContent-Length: 13\r\n\r\n{\"store\":501}",
-    b"HTTP/1.1 503 Service Unavailable\r\nContent-Type: application/json\r\nContent-Length: 13\r\nConnection: close\r\n\r\n{\"store\":501}",
-];
+/// The response to a request if out of memory. The connection stays open.
+const NO_MEMORY: &[u8] =
+    b"HTTP/1.1 503 Service Unavailable\r\nContent-Type: application/json\r\nContent-Length: 13\r\n\r\n{\"store\":501}";
+
+/// The same to the bytes after the requests. The connection closes.
+const LAST_NO_MEMORY: &[u8] =
+    b"HTTP/1.1 503 Service Unavailable\r\nContent-Type: application/json\r\nContent-Length: 13\r\nConnection: close\r\n\r\n{\"store\":501}";
 
 /// The start of each response for a store fault.
 const STORE_FAULT: &[u8] = b"HTTP/1.1 503 ";
@@ -42,6 +41,23 @@ impl Talk {
         }
         input.extend_from_slice(self.last)?;
         Ok(input)
+    }
+
+    /// Returns the number of items: its requests, and the bytes after them if there are any.
+    fn items(&self) -> usize {
+        let last = usize::from(!self.last.is_empty());
+        self.requests.len().saturating_add(last)
+    }
+
+    /// Returns the item at a place, and its response if out of memory.
+    fn item(&self, place: usize) -> Option<(&'static [u8], &'static [u8])> {
+        if place >= self.items() {
+            return None;
+        }
+        match self.requests.get(place) {
+            Some(request) => Some((*request, NO_MEMORY)),
+            None => Some((self.last, LAST_NO_MEMORY)),
+        }
     }
 }
 
@@ -117,8 +133,8 @@ fn expect_same_register(
 /// A connection as far as it is checked.
 #[derive(Clone, Copy)]
 struct Checked {
-    /// The number of its requests that were served.
-    requests: usize,
+    /// The number of its items that were served.
+    items: usize,
     /// The number of bytes of its output that were expected.
     bytes: usize,
     /// Whether its output ended within a reply.
@@ -151,16 +167,6 @@ fn have_ended(endings: &[ScriptedEnding], connections: usize) -> bool {
     endings.len() == connections
 }
 
-/// Returns the length of the response for out of memory at the start of these bytes, or 0.
-fn no_memory_length(output: &[u8]) -> usize {
-    for response in NO_MEMORY {
-        if output.starts_with(response) {
-            return response.len();
-        }
-    }
-    0
-}
-
 impl<'a> OneRun<'a> {
     /// Starts the check of these connections and their outputs, with a new register.
     pub(crate) fn new(
@@ -169,7 +175,7 @@ impl<'a> OneRun<'a> {
         outputs: &'a [Vec<u8>],
     ) -> Result<OneRun<'a>, Stop> {
         let start = Checked {
-            requests: 0,
+            items: 0,
             bytes: 0,
             is_truncated: false,
         };
@@ -198,26 +204,26 @@ impl<'a> OneRun<'a> {
         }
     }
 
-    /// Serves the next request of a connection on the plain keeper, and checks that its reply follows in the
-    /// output of the connection, or a prefix of it at the end. A request for which there was no memory
-    /// changes nothing.
-    pub(crate) fn expect_request(&mut self, alloc: Global, number: usize) -> Result<(), Stop> {
+    /// Serves the next item of a connection on the plain keeper, and checks that its reply follows in the
+    /// output of the connection, or a prefix of it at the end. An item for which there was no memory changes
+    /// nothing.
+    pub(crate) fn expect_item(&mut self, alloc: Global, number: usize) -> Result<(), Stop> {
         let (talk, checked, output) = self.connection(number)?;
-        let Some(request) = talk.requests.get(checked.requests) else {
-            return Err(Stop::Mismatch("more requests than were sent", number));
+        let Some((item, no_memory)) = talk.item(checked.items) else {
+            return Err(Stop::Mismatch("more items than were sent", number));
         };
-        let mut bytes = no_memory_length(output);
+        let mut bytes = no_memory.len();
         let mut is_truncated = checked.is_truncated;
-        if bytes > 0 {
+        if output.starts_with(no_memory) {
             self.is_out_of_memory = true;
         } else {
-            let reply = plain_output(alloc, &mut self.plain, request)?;
+            let reply = plain_output(alloc, &mut self.plain, item)?;
             bytes = reply.taken.len().min(output.len());
             expect(common(&reply.taken, output) == bytes, "a reply", number)?;
             is_truncated = is_truncated || bytes < reply.taken.len();
         }
         if let Some(checked) = self.checked.get_mut(number) {
-            checked.requests = checked.requests.saturating_add(1);
+            checked.items = checked.items.saturating_add(1);
             checked.bytes = checked.bytes.saturating_add(bytes);
             checked.is_truncated = is_truncated;
         }
@@ -231,28 +237,20 @@ impl<'a> OneRun<'a> {
         expect(output == wanted, "the output after the replies", number)
     }
 
-    /// Checks the end of a connection: if it was served completely, each request had its reply, and the bytes
-    /// after the requests had theirs. No other byte was written to it.
-    fn expect_end(&mut self, alloc: Global, ending: ScriptedEnding) -> Result<(), Stop> {
+    /// Checks the end of a connection: if it was served completely, each item had its reply. No other byte
+    /// was written to it.
+    fn expect_end(&self, ending: ScriptedEnding) -> Result<(), Stop> {
         let number = ending.number;
         let (talk, checked, output) = self.connection(number)?;
         if !ending.complete {
             return expect(output.is_empty(), "the output after the replies", number);
         }
-        expect(
-            checked.requests == talk.requests.len(),
-            "the requests",
-            number,
-        )?;
-        if !output.is_empty() && no_memory_length(output) == output.len() {
-            return Err(Stop::Memory);
-        }
-        let reply = plain_output(alloc, &mut self.plain, talk.last)?;
-        self.expect_rest(number, &reply.taken)
+        expect(checked.items == talk.items(), "the items", number)?;
+        self.expect_rest(number, b"")
     }
 }
 
-/// A run of a source: its result, which connection each request was served for, the connections that ended,
+/// A run of a source: its result, the connection of each item that was served, the connections that ended,
 /// and the output of each.
 #[derive(Drop)]
 pub(crate) struct Outcome {
@@ -260,13 +258,6 @@ pub(crate) struct Outcome {
     pub(crate) served: Vec<usize>,
     pub(crate) endings: Vec<ScriptedEnding>,
     pub(crate) outputs: Vec<Vec<u8>>,
-}
-
-/// Returns the number that a source shares with a clock, twice.
-fn shared_number(alloc: Global) -> Result<(Rc<Cell<usize>>, Rc<Cell<usize>>), AllocError> {
-    let number = Rc::new(alloc, Cell::new(0))?;
-    let other = number.clone()?;
-    Ok((number, other))
 }
 
 /// Serves scripts at once with a keeper of a new register.
@@ -278,18 +269,17 @@ pub(crate) fn serve_scripts<K: Keeper>(
     keeper: &mut K,
 ) -> Result<Outcome, Stop> {
     let connections = u32::try_from(scripts.len()).unwrap_or(0);
-    let (serving, served) = shared_number(alloc)?;
-    let mut source = ScriptedSource::new(alloc, scripts, turns, serving)?;
-    let mut clock = RecordingClock::new(alloc, served, 4096)?;
+    let record = Record::new(alloc)?;
+    let mut source = ScriptedSource::new(alloc, scripts, turns, record.clone()?)?;
+    let mut clock = RecordingClock { record };
     let result = serve_at_once(alloc, &mut source, connections, at_once, keeper, &mut clock);
     if result == Err(PoolFault::NoMemory) {
         return Err(Stop::Memory);
     }
     let (endings, outputs) = source.end(alloc)?;
-    let RecordingClock { served, .. } = clock;
     Ok(Outcome {
         result,
-        served,
+        served: clock.record.end(alloc),
         endings,
         outputs,
     })
@@ -312,10 +302,10 @@ fn expect_outcome(
     expect(have_ended(&outcome.endings, talks.len()), "the endings", 0)?;
     let mut run = OneRun::new(alloc, talks, &outcome.outputs)?;
     for number in &outcome.served {
-        run.expect_request(alloc, *number)?;
+        run.expect_item(alloc, *number)?;
     }
     for ending in &outcome.endings {
-        run.expect_end(alloc, *ending)?;
+        run.expect_end(*ending)?;
     }
     expect_same_register(alloc, keeper, &mut run.plain)?;
     for ending in &outcome.endings {
@@ -332,8 +322,8 @@ fn expect_outcome(
     Ok(())
 }
 
-/// Serves scripts of these connections at once with a new register, and checks the outcome. Returns for which
-/// connection each request was served.
+/// Serves scripts of these connections at once with a new register, and checks the outcome. Returns the
+/// connection of each item that was served.
 pub(crate) fn expect_one_run(
     alloc: Global,
     talks: &'static [Talk],

@@ -68,9 +68,9 @@ fn expect_turns(
 ) -> Result<(), Stop> {
     let scripts = scripts(alloc, talks, reads, writes)?;
     let served = expect_one_run(alloc, talks, scripts, turns, talks.len(), None)?;
-    // A turn serves one request, if it can be read. So the requests are served in the order of the turns.
+    // A turn serves one item, if it can be read. So the requests are served in the order of the turns.
     expect(
-        !reads.is_empty() || served.as_slice() == turns,
+        !reads.is_empty() || served.starts_with(turns),
         "the order",
         0,
     )

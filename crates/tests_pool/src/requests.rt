@@ -1,4 +1,4 @@
-//! Requests to a new register. Each one reads the clock, except the last two.
+//! Requests to a new register, and bytes that are none.
 
 /// Enrols Ben, Carla, Dora, Emil and Finn.
 pub(crate) const BEN: &[u8] =

@@ -15,6 +15,9 @@ const MAX_ROUNDS: u64 = 1_000_000;
 /// The capacity of an output, enough for the replies of most tests.
 const OUTPUT_CAPACITY: usize = 4096;
 
+/// The capacity of a record, enough for the items of each test.
+const RECORD_CAPACITY: usize = 4096;
+
 /// Returns a copy of these numbers.
 pub(crate) fn copy(alloc: Global, numbers: &[usize]) -> Result<Vec<usize>, AllocError> {
     let mut copied = Vec::new(alloc);
@@ -136,10 +139,70 @@ fn extend(output: &Cell<Option<Vec<u8>>>, added: &[u8]) -> Result<(), AllocError
     result
 }
 
+/// A record of the items that were served, in their order. A source, its writers and a clock share it.
+///
+/// A turn serves at most one item. It is recorded if the clock is read, or if the output grows. An item for
+/// which there is no memory may have a reply without a reading, or a reading without a reply.
+#[derive(Drop)]
+pub(crate) struct Record {
+    /// The number of the connection that has its turn.
+    turn: Cell<usize>,
+    /// Whether the item of this turn is recorded.
+    is_recorded: Cell<bool>,
+    /// The number of the connection of each item. It is `None` only while one is added.
+    served: Cell<Option<Vec<usize>>>,
+}
+
+impl Record {
+    /// Returns an empty record.
+    pub(crate) fn new(alloc: Global) -> Result<Rc<Record>, AllocError> {
+        let served = Vec::with_capacity(alloc, RECORD_CAPACITY)?;
+        let record = Record {
+            turn: Cell::new(0),
+            is_recorded: Cell::new(true),
+            served: Cell::new(Some(served)),
+        };
+        Ok(Rc::new(alloc, record)?)
+    }
+
+    /// Starts a turn of a connection.
+    fn start_turn(&self, number: usize) {
+        self.turn.set(number);
+        self.is_recorded.set(false);
+    }
+
+    /// Records the item of this turn, once.
+    fn add_item(&self) {
+        if self.is_recorded.replace(true) {
+            return;
+        }
+        let mut served = self.served.replace(None);
+        if let Some(numbers) = &mut served {
+            match numbers.push(self.turn.get()) {
+                Ok(()) | Err(_) => {}
+            }
+        }
+        self.served.set(served);
+    }
+
+    /// Returns the number of the connection of each item.
+    pub(crate) fn end(&self, alloc: Global) -> Vec<usize> {
+        match self.served.replace(None) {
+            Some(served) => served,
+            None => Vec::new(alloc),
+        }
+    }
+}
+
 /// Writes to the output of a script.
 #[derive(Drop)]
 pub(crate) struct ScriptedWriter {
     output: Output,
+    record: Rc<Record>,
+    /// The number of bytes that were written.
+    written: usize,
+    /// The same and the unsent bytes of the last write. Each write passes all unsent bytes.
+    replied: usize,
     sizes: Sizes,
     writable: usize,
     has_failed: bool,
@@ -147,6 +210,11 @@ pub(crate) struct ScriptedWriter {
 
 impl Write for ScriptedWriter {
     fn write(&mut self, buf: &[u8]) -> io::Result<usize> {
+        let replied = self.written.saturating_add(buf.len());
+        if replied > self.replied {
+            self.replied = replied;
+            self.record.add_item();
+        }
         let size = self.sizes.next_size();
         if size == 0 {
             return Err(io::Error::from(ErrorKind::WouldBlock));
@@ -158,6 +226,7 @@ impl Write for ScriptedWriter {
         let most = size.min(self.writable);
         let count = most.min(buf.len());
         extend(&self.output, &buf[..count])?;
+        self.written = self.written.saturating_add(count);
         self.writable = self.writable.saturating_sub(count);
         Ok(count)
     }
@@ -193,21 +262,19 @@ pub(crate) struct ScriptedSource {
     next: usize,
     /// The key of each connection that was accepted, or `None` if it has ended.
     keys: Vec<Option<usize>>,
-    /// The number of the connection that had the last turn.
-    serving: Rc<Cell<usize>>,
+    record: Rc<Record>,
     rounds_left: u64,
     /// The connections that ended.
     endings: Vec<ScriptedEnding>,
 }
 
 impl ScriptedSource {
-    /// Returns a source of these connections. `serving` is set to the number of each connection that has a
-    /// turn.
+    /// Returns a source of these connections, whose turns and replies are recorded.
     pub(crate) fn new(
         alloc: Global,
         scripts: VecDeque<Script>,
         turns: &[usize],
-        serving: Rc<Cell<usize>>,
+        record: Rc<Record>,
     ) -> Result<ScriptedSource, AllocError> {
         let connections = scripts.len();
         let mut outputs = Vec::new(alloc);
@@ -222,7 +289,7 @@ impl ScriptedSource {
             has_had_turn: false,
             next: 0,
             keys: Vec::with_capacity(alloc, connections)?,
-            serving,
+            record,
             rounds_left: MAX_ROUNDS,
             endings: Vec::with_capacity(alloc, connections)?,
         })
@@ -258,7 +325,7 @@ impl ScriptedSource {
         let key = *self.keys.get(number)?;
         self.turns_had = self.turns_had.saturating_add(1);
         self.has_had_turn = true;
-        self.serving.set(number);
+        self.record.start_turn(number);
         key
     }
 
@@ -267,7 +334,7 @@ impl ScriptedSource {
         for number in self.next..self.keys.len() {
             if let Some(Some(key)) = self.keys.get(number) {
                 self.next = number.saturating_add(1);
-                self.serving.set(number);
+                self.record.start_turn(number);
                 return Some(*key);
             }
         }
@@ -295,6 +362,7 @@ impl ConnectionSource for ScriptedSource {
             return Err(io::Error::from(ErrorKind::WouldBlock));
         };
         let output = shared.clone()?;
+        let record = self.record.clone()?;
         self.keys.push(Some(key))?;
         let Some(script) = self.pending.pop_front() else {
             return Err(io::Error::from(ErrorKind::ConnectionAborted));
@@ -315,6 +383,9 @@ impl ConnectionSource for ScriptedSource {
         };
         let writer = ScriptedWriter {
             output,
+            record,
+            written: 0,
+            replied: 0,
             sizes: Sizes::new(writes),
             writable,
             has_failed: false,
@@ -354,35 +425,18 @@ impl ConnectionSource for ScriptedSource {
     }
 }
 
-/// A clock that always reads 1000. Records which connection had its turn at each reading.
+/// A clock that always reads 1000. Records the item of the turn in which it is read.
 #[derive(Drop)]
 pub(crate) struct RecordingClock {
-    serving: Rc<Cell<usize>>,
-    /// The number of the connection at each reading.
-    pub(crate) served: Vec<usize>,
-}
-
-impl RecordingClock {
-    /// Returns a clock that can record this number of readings. `serving`: that of the source.
-    pub(crate) fn new(
-        alloc: Global,
-        serving: Rc<Cell<usize>>,
-        readings: usize,
-    ) -> Result<RecordingClock, AllocError> {
-        Ok(RecordingClock {
-            serving,
-            served: Vec::with_capacity(alloc, readings)?,
-        })
-    }
+    /// The record of the source.
+    pub(crate) record: Rc<Record>,
 }
 
 impl Clock for RecordingClock {
     ghost reads = { λ _ _ _. Unit {0} };
 
     fn read(&mut self) -> i64 {
-        match self.served.push(self.serving.get()) {
-            Ok(()) | Err(_) => {}
-        }
+        self.record.add_item();
         1000
     }
 }

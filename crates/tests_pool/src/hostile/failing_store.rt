@@ -73,7 +73,7 @@ fn expect_failed(alloc: Global, outcome: &Outcome) -> Result<(), Stop> {
     };
     let mut run = OneRun::new(alloc, TALKS, &outcome.outputs)?;
     for number in before {
-        run.expect_request(alloc, *number)?;
+        run.expect_item(alloc, *number)?;
     }
     for number in 0..TALKS.len() {
         let rest = if number == *last { FAILED } else { NOTHING };

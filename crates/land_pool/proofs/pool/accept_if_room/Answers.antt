@@ -7,6 +7,6 @@ pub returns-then-accepted-wanted-clause-accepts : goal.returns-then-accepted-wan
 returns-then-accepted-wanted-clause-accepts g c = (
   0,
   omega arith,
-  none_accepted g.L.Reader.Read.remaining g.L.Writer.Write.contents (get c.args.pool.now) (g.L.ConnectionSource.coming c.args.source.now)
+  none_accepted g.L.Reader.Read.remaining g.L.Writer.Write.contents g.L.ConnectionSource.fresh (get c.args.pool.now) (g.L.ConnectionSource.coming c.args.source.now)
       (g.L.ConnectionSource.ended c.args.source.now) c.args.accepted,
 )

@@ -10,7 +10,7 @@ abbrev pub invariant-loop-round : goal.invariant-loop-round
 invariant-loop-round g l =
     (field_room ≤ length l.headers)
     × (g.K.Keeper.closed l.keeper ≡ false)
-    × (g.K.Keeper.honest l.keeper → IsRound g.L.Reader.Read.remaining g.L.Writer.Write.contents g.C.Clock.reads
+    × (g.K.Keeper.honest l.keeper → IsRound g.L.Reader.Read.remaining g.L.Writer.Write.contents g.L.ConnectionSource.fresh g.C.Clock.reads
     (state_of g.K.Keeper l.initial.keeper l.initial.clock) (Represents g.K.Keeper l.keeper l.clock) (get l.pool)
     (g.L.ConnectionSource.coming l.initial.source) (g.L.ConnectionSource.coming l.source)
     (g.L.ConnectionSource.ended l.initial.source) (g.L.ConnectionSource.ended l.source) l.accepted)

@@ -8,7 +8,7 @@ use Rattle.land_pool.proofs.pool.serve_ready.Given as goal
 abbrev pub invariant-loop-turn : goal.invariant-loop-turn
 invariant-loop-turn g l =
     (length l.headers ≡ length l.initial.headers)
-    × (g.K.Keeper.honest l.keeper → ServesOn g.L.Reader.Read.remaining g.L.Writer.Write.contents g.C.Clock.reads
+    × (g.K.Keeper.honest l.keeper → ServesOn g.L.Reader.Read.remaining g.L.Writer.Write.contents g.L.ConnectionSource.fresh g.C.Clock.reads
     (Represents g.K.Keeper l.initial.keeper l.initial.clock) (Represents g.K.Keeper l.keeper l.clock) (get l.initial.pool) (get l.pool)
     (g.L.ConnectionSource.ended l.initial.source) (g.L.ConnectionSource.ended l.source))
     × (g.K.Keeper.honest l.keeper → g.K.Keeper.honest l.initial.keeper)
