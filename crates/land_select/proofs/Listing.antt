@@ -1,8 +1,9 @@
 -- A register with only the objects of a range lists them like the whole register.
-use Rattle.std.proofs.Common.{◌≡◌, ◌↔◌, ◌&&◌, ◌++◌, ◌+◌, ◌<◌, ◌≤◌, arith, get_or, length, take, inl, inr, ℕ, Bool, true, false, nat_eq, cond, List, [], ◌∷◌, Option, Some, None, refl, sym, ap, ap₂, subst, ◌∙◌}
+use Rattle.std.proofs.Common.{◌≡◌, ◌⊎◌, ◌↔◌, ◌&&◌, ◌++◌, ◌+◌, ◌-◌, ◌^◌, ◌<◌, ◌≤◌, arith, get_or, length, take, inl, inr, ℕ, Bool, true, false, nat_eq, cond, List, [], ◌∷◌, Option, Some, None, refl, sym, ap, ap₂, subst, ◌∙◌}
 use Rattle.std.proofs.lemmas.Bool.{and_parts, false≢true, le-leb, leb-true}
 use Rattle.std.proofs.lemmas.Bool.Decides.{Decides-eqb}
 use Rattle.std.proofs.lemmas.List.{take_more}
+use Rattle.std.proofs.lemmas.List.Elements.{Contains-append_left, Contains-append_right}
 use Rattle.std.specs.Cmp.{nat_cmp_total}
 use Rattle.std.specs.FinMap as map
 use Rattle.std.specs.FinMap.{FinMap, nat_cmp-IsAntisymmetric}
@@ -28,8 +29,8 @@ use Rattle.land_core.specs.declared.unit.UnitRecord.{UnitRecord}
 use Rattle.land_keep.specs.Named.{named, objects_at}
 use Rattle.land_keep.specs.Sheets.{name_at}
 use Rattle.land_keep.specs.declared.named.NamedObject.{NamedObject}
-use Rattle.land_select.specs.Listing.{ListsAlike}
-use Rattle.land_select_queries.proofs.Containing.{first, first_or_later, in_nothing, later}
+use Rattle.land_select.specs.Listing.{IsTightRange, ListsAlike}
+use Rattle.land_select_queries.proofs.Containing.{first, first as first_in, first_or_later, in_nothing, later}
 use Rattle.land_select_queries.specs.Lookups.Parties.{has_entry_among, of_range}
 use Rattle.land_select_queries.specs.Lookups.Ranges.{is_within}
 use Rattle.sqlite_trees.proofs.ListLemmas.{all-append}
@@ -63,6 +64,56 @@ one_more_within numbers i first last least most inside low high above below all 
     let n = get_or numbers i 0 in
     subst (λ (ns : List ℕ). AllByRecursion (λ n. is_within least most n ≡ true) ns) (sym (take_more numbers i 0 inside))
     (all-append (λ n. is_within least most n ≡ true) (take i numbers) (n ∷ []) (all_widened first last least most low high (take i numbers) all) (in_range least most n above below, tt))
+
+-- the range of the numbers that were seen: at the start, it is the empty range with which the search begins
+abbrev pub IsTightUntil : List ℕ → (first last : ℕ) → Type 0
+IsTightUntil seen first last =
+    ((length seen ≡ 0) × (first ≡ 2 ^ 64 - 1) × (last ≡ 0)) ⊎ (Contains seen first × Contains seen last)
+
+-- one more number keeps it tight
+pub one_more_tight : (numbers : List ℕ) (i first last least most : ℕ) → i < length numbers → get_or numbers i 0 < 2 ^ 64
+    → least ≤ first → least ≤ get_or numbers i 0 → (least ≡ first) ⊎ (least ≡ get_or numbers i 0)
+    → last ≤ most → get_or numbers i 0 ≤ most → (most ≡ last) ⊎ (most ≡ get_or numbers i 0)
+    → IsTightUntil (take i numbers) first last → IsTightUntil (take (i + 1) numbers) least most
+one_more_tight numbers i first last least most inside fits low_first low least_is high_last high most_is tight =
+    subst (λ (ns : List ℕ). IsTightUntil ns least most) (sym (take_more numbers i 0 inside)) (inr (elim tight [
+      | inl none ↦ (
+          let start = none.1 in
+          let end = none.2 in
+          let is_least : n ≡ least = elim least_is [ inl it ↦ omega (arith, it, start, low, fits) | inr it ↦ sym it ] in
+          let is_most : n ≡ most = elim most_is [ inl it ↦ omega (arith, it, end, high) | inr it ↦ sym it ] in
+          (subst (λ x. Contains seen x) is_least here, subst (λ x. Contains seen x) is_most here))
+      | inr some ↦ (
+        elim least_is [
+          | inl it ↦ subst (λ x. Contains seen x) (sym it) (Contains-append_left (take i numbers) (n ∷ []) first some.0)
+          | inr it ↦ subst (λ x. Contains seen x) (sym it) here
+        ],
+        elim most_is [
+          | inl it ↦ subst (λ x. Contains seen x) (sym it) (Contains-append_left (take i numbers) (n ∷ []) last some.1)
+          | inr it ↦ subst (λ x. Contains seen x) (sym it) here
+        ],
+      )
+    ]))
+  where
+    n : ℕ
+    n = get_or numbers i 0
+
+    seen : List ℕ
+    seen = take i numbers ++ n ∷ []
+
+    here : Contains seen n
+    here = Contains-append_right (take i numbers) (n ∷ []) n (first_in n [])
+
+-- when all numbers were seen, it is their range
+pub all_tight : (numbers : List ℕ) (first last : ℕ) → IsTightUntil numbers first last → IsTightRange numbers first last
+all_tight [] first last tight = elim tight [
+  | inl none ↦ (let start = none.1 in let end = none.2 in omega (arith, start, end))
+  | inr some ↦ absurd (in_nothing first some.0)
+]
+all_tight (n ∷ ns) first last tight = elim tight [
+  | inl none ↦ absurd (let it = none.0 in omega (arith, it))
+  | inr some ↦ some
+]
 
 -- the contents of a map in the range are in the filtered map
 found_within : {V : Type 0} (found m : FinMap nat_cmp V) (first last n : ℕ) → found ≡ entries_where (λ k v. is_within first last k) m → is_within first last n ≡ true → map.get found n ≡ map.get m n

@@ -8,7 +8,7 @@ ghost use Rattle.land_core.specs.Register.{nothing};
 ghost use Rattle.land_core.specs.declared.kind.Kind.TheVariants as kinds;
 ghost use Rattle.land_core.specs.declared.register.Register.{Register as Whole};
 ghost use Rattle.land_keep.specs.Named.{objects_at};
-ghost use Rattle.land_select.specs.Listing.{ListsAlike, ListsRange};
+ghost use Rattle.land_select.specs.Listing.{IsTightRange, ListsAlike, ListsRange};
 ghost use Rattle.land_select_queries.specs.Lookups.Parts.{ReadsPart};
 ghost use Rattle.land_select_queries.specs.Lookups.Ranges.{is_within};
 ghost use Rattle.land_select_queries.specs.TableReads.{ReadsTables};
@@ -205,9 +205,10 @@ fn register_of<S: Alter>(
     }
 }
 
-/// Returns the range from the least to the greatest of some numbers.
+/// Returns the range from the least to the greatest of some numbers. Without any it is empty.
 fn range_of(numbers: &[u64]) -> (u64, u64)
-    ensures { AllByRecursion (λ n. is_within result.0 result.1 n ≡ true) numbers.now }
+    ensures within { AllByRecursion (λ n. is_within result.0 result.1 n ≡ true) numbers.now }
+    ensures tight { IsTightRange numbers.now result.0 result.1 }
 {
     let mut first = u64::MAX;
     let mut last = 0u64;

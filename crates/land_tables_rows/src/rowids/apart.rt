@@ -1,22 +1,22 @@
 //! Checks that rowids are unique.
-ghost use Rattle.std.specs.Prelude.{◌≡◌, ◌≢◌, ◌↔◌, true, IfErr, IfOk, OnOk};
+ghost use Rattle.std.specs.Prelude.{◌≡◌, ◌≢◌, ◌↔◌, true, false, IfErr, IfOk, OnOk};
 ghost use Rattle.std.specs.List.{IsDistinct};
 ghost use Rattle.std.specs.List.Sorted.{IsStrictlySortedBy};
 ghost use Rattle.std.specs.Ordering.{int_cmp, int_eq};
 ghost use Rattle.land_tables_schema.specs.Rows.Forms.{AreNumbered};
 ghost use Rattle.sqlite.specs.declared.error.Error.TheVariants.{SqliteFailure};
-ghost use Rattle.sqlite.specs.declared.error.ErrorCode.TheVariants.{DatabaseCorrupt};
+ghost use Rattle.sqlite.specs.declared.error.ErrorCode.TheVariants.{OutOfMemory};
 ghost use Rattle.sqlite_rules.specs.Calls.{ids_of};
 ghost use Rattle.sqlite_rules.specs.Edit.{have_rowids};
 
 use sqlite::{Error, ErrorCode, Row};
 use std::alloc::{AllocError, Global};
 
-/// Checks that all rows have a rowid and no two have the same. Errors: `Store` if they do not, since the file
-/// is then corrupted; `NoMemory`. Each row begins with its rowid.
+/// Checks that all rows have a rowid and no two have the same. Errors: out of memory; any other error only if
+/// they do not, since the file is then corrupted. Each row begins with its rowid.
 pub(crate) fn are_numbered(alloc: Global, rows: &[Row]) -> Result<(), Error>
     ensures numbered { OnOk result (AreNumbered rows.now) }
-    ensures damaged { IfErr result (λ e. e ≡ SqliteFailure DatabaseCorrupt → ¬ AreNumbered rows.now) }
+    ensures damaged { IfErr result (λ e. e ≢ SqliteFailure OutOfMemory → ¬ AreNumbered rows.now) }
 {
     let ids = rowids(alloc, rows)?;
     if are_apart(alloc, ids.as_slice())? {
@@ -26,11 +26,11 @@ pub(crate) fn are_numbered(alloc: Global, rows: &[Row]) -> Result<(), Error>
     }
 }
 
-/// Returns the rowids of rows. Errors: `Store` if one is not an integer.
+/// Returns the rowids of rows. Errors: out of memory; any other error only if a row has no rowid.
 fn rowids(alloc: Global, rows: &[Row]) -> Result<Vec<i64>, Error>
     ensures ids { IfOk result (λ ids. ids.items ≡ ids_of rows.now) }
     ensures whole { OnOk result (have_rowids rows.now ≡ true) }
-    ensures other { IfErr result (λ e. e ≢ SqliteFailure DatabaseCorrupt) }
+    ensures unreadable { IfErr result (λ e. e ≢ SqliteFailure OutOfMemory → have_rowids rows.now ≡ false) }
 {
     let mut ids = Vec::new(alloc);
     for row in rows {

@@ -14,4 +14,4 @@ returns-clause-reads_only g c =
     let reads_only = rw when at c.in_ok-register.ensures.reads_only in
     look_told (state g.S.Store c.args.conn.now) (state g.S.Store c.register_of.new.conn) _ reads_only
     (λ clean lists moments h held r have stands.
-    c.in_ok-objects_of.ensures ∙ objects_alike c.args.kind c.range_of-range.result.0 c.range_of-range.result.1 c.in_ok-register.register r (lists moments h held r have stands) c.args.numbers.now c.range_of-range.ensures)
+    c.in_ok-objects_of.ensures ∙ objects_alike c.args.kind c.range_of-range.result.0 c.range_of-range.result.1 c.in_ok-register.register r (lists moments h held r have stands) c.args.numbers.now c.range_of-range.ensures.within)
