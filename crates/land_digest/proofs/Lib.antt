@@ -6,6 +6,7 @@ pub mod Codes
 pub mod Collected
 pub mod Decimals
 pub mod HistoryTables
+pub mod LastStamps
 pub mod Lifespans
 pub mod Membership
 pub mod NoRepeats

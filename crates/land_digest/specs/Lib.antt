@@ -6,4 +6,5 @@ pub mod History
 pub mod Known
 pub mod Laws
 pub mod Rows
+pub mod Stamps
 pub mod Versions

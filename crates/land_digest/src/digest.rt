@@ -5,12 +5,14 @@ ghost use Rattle.land_digest.specs.Entries.{event_of};
 ghost use Rattle.land_digest.specs.Events.{events_text, have_distinct_places, in_order};
 ghost use Rattle.land_digest.specs.History.{history_digest};
 ghost use Rattle.land_digest.specs.Laws.{HasIntervals};
+ghost use Rattle.land_digest.specs.Stamps.{last_stamp_at};
 
 use crate::entries::{add_all_versions, add_moments};
 use crate::entry::Entry;
 use crate::lines::put_entries;
 use land_tables_history::history::History;
 use land_tables_history::moment::Moment;
+use land_tables_history::moments::latest_at;
 use sha2::{Digest, Sha256};
 use std::alloc::{AllocError, Global};
 
@@ -40,4 +42,15 @@ pub fn history_digest(
     add_moments(&mut entries, moments, upto)?;
     add_all_versions(&mut entries, history, upto)?;
     digest_of(alloc, &mut entries)
+}
+
+/// Returns the last stamp at or before a time, in Unix milliseconds, or 0 if there is none. Moments may be in
+/// any order.
+pub fn last_stamp_at(moments: &[Moment], at: i64) -> i64
+    ensures { result ≡ last_stamp_at moments.now at }
+{
+    match latest_at(moments, at) {
+        Some(moment) => moment.stamp,
+        None => 0,
+    }
 }

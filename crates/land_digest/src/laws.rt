@@ -1,6 +1,7 @@
 //! Laws of the text of a history, each on definitions only.
 ghost use Rattle.land_digest.specs.Laws.{AppendingKeepsText, EarlierTextIsPrefix, EventsHaveDistinctPlaces};
 ghost use Rattle.land_digest.specs.Laws.{TextBindsHistory, TextIgnoresRowOrder};
+ghost use Rattle.land_digest.specs.Stamps.{LastStampIgnoresOrder};
 
 /// A change and its moment leave the text up to each earlier stamp unchanged.
 pub fn appending_keeps_text()
@@ -29,4 +30,9 @@ pub fn text_ignores_row_order()
 /// No two events of a history have the same place in the order of the text.
 pub fn events_have_distinct_places()
     ensures { EventsHaveDistinctPlaces }
+{}
+
+/// The last stamp at or before a time does not depend on the order of the moments.
+pub fn last_stamp_ignores_order()
+    ensures { LastStampIgnoresOrder }
 {}

@@ -30,7 +30,7 @@ module _ (shapes : SchemaVersion) (a b : State) (settled : IsTrue a.is_open → 
           record { is_open = u.is_open; now = u.now_is; committed = u.committed_is ∙ sym (settled u.was_open) ∙ sym u.now_is }
 
   -- and after a failed read whose fault was returned
-  pub judged_err : (c : State) (why told : AdoptFault) → IsStoreRead {X = Moment} (Err why) (IsRegisterTo shapes a.now) a b → (HasCleanDisk b → IsRefused shapes why a.now) → (told ≡ why) ⊎ (told ≡ Store)
+  pub judged_err : {X : Type 0} {Given : X → Type 0} (c : State) (why told : AdoptFault) → IsStoreRead {X = X} (Err why) Given a b → (HasCleanDisk b → IsRefused shapes why a.now) → (told ≡ why) ⊎ (told ≡ Store)
       → (HasCleanDisk c → told ≢ Store → IsUnchanged b c) → (HasCleanDisk c → IsTrue c.is_open → IsLeft b c) → Survives b c (λ _. ⊥) → IsValidation shapes (Err told) a c
   judged_err c why told reads_only refused is same left survives = record {
     register = λ _. tt;

@@ -11,6 +11,7 @@ pub mod Judged
 pub mod Judgements
 pub mod Keeping
 pub mod KeptIntervals
+pub mod KeptTexts
 pub mod Latest
 pub mod Lawfulness
 pub mod LookedAt

@@ -1,5 +1,5 @@
 -- Which stores are opened as registers, and why others are refused.
-use Rattle.std.specs.Prelude.{◌≡◌, ◌≢◌, ℕ, true, false, IfErr, IfOk, IsTrue, Result, Err, ⊤}
+use Rattle.std.specs.Prelude.{◌≡◌, ◌≢◌, ℕ, true, false, IfErr, IfOk, IsTrue, Result, Ok, Err, ⊤}
 use Rattle.land_keep.specs.Timeline.{IsSoundTimeline, Timeline, last_register, last_stamp}
 use Rattle.land_tables.specs.Calls.{StaysOpenAndSame}
 use Rattle.land_tables.specs.TableContents.{Finds, ReadsTablesV1, is_one_edition, is_version}
@@ -75,6 +75,16 @@ pub record IsRegisterTo (shapes : SchemaVersion) (db : Database) (latest : Momen
   pub register : IsRegister shapes db
   pub last : latest.stamp ≡ last_stamp (decoded_timeline (shapes.rows db.trees))
   pub next : latest.next ≡ (last_register (decoded_timeline (shapes.rows db.trees))).next
+
+-- the contents of a store with a register, and the moment of its last change
+pub record AreRegisterContents (db : Database) (it : TableContents × Moment) : Type 0 where
+  pub register : IsRegisterTo version_2 db it.1
+  pub finds : Finds db.trees it.0
+
+-- the moment of the last change, without the contents
+abbrev pub latest_of : Result (TableContents × Moment) AdoptFault → Result Moment AdoptFault
+latest_of (Ok it) = Ok it.1
+latest_of (Err why) = Err why
 
 -- A store is validated: it has a register, or is refused. A store that is open is unchanged, and it is open
 -- unless the fault is 502. In either case nothing is committed, and a crash leaves the same states as before.

@@ -3,13 +3,14 @@
 
 mod committing;
 mod creating;
+pub mod digest_laws;
 pub mod failed_reads;
 pub mod fault;
 mod migrating;
 mod opening;
 mod register;
 mod store_versions;
-mod table_contents;
+pub mod table_contents;
 pub mod table_keeper;
 pub mod tables;
 pub mod timelines;

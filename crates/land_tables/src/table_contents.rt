@@ -23,13 +23,13 @@ use std::alloc::Global;
 
 /// The decoded rows of all tables.
 #[derive(Debug, Drop)]
-pub(crate) struct TableContents {
+pub struct TableContents {
     /// The schema version of the tables.
-    pub(crate) editions: Sequence<Edition>,
+    pub editions: Sequence<Edition>,
     /// The moments at which the register changed.
-    pub(crate) moments: Sequence<Moment>,
+    pub moments: Sequence<Moment>,
     /// All versions of its records.
-    pub(crate) history: History,
+    pub history: History,
 }
 
 /// Reads all rows of the tables of schema version 1, which has no mandates.

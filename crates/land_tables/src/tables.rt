@@ -8,10 +8,12 @@ ghost use Rattle.land_keep.specs.Timeline.{register_at};
 ghost use Rattle.land_keep.specs.declared.store_fault.StoreFault.TheVariants as store;
 ghost use Rattle.land_tables.specs.Adopting.{HoldsNoRegister, IsAdopted, IsRefused};
 ghost use Rattle.land_tables.specs.Calls.{StaysOpenAndSame};
+ghost use Rattle.land_tables.specs.Digests.{KeepsEarlierText};
 ghost use Rattle.land_tables.specs.Migrating.{IsMigratedFrom, IsMigrated, CrashLeavesOldOrMigrated};
 ghost use Rattle.land_tables.specs.Migrating.{StaysSameAfterCrash};
 ghost use Rattle.land_tables.specs.Registers.{IsRegister, version_1, version_2};
 ghost use Rattle.land_tables.specs.Standing.{HoldsTimeline};
+ghost use Rattle.land_tables.specs.TableContents.{Finds, PassesTests};
 ghost use Rattle.land_tables.specs.declared.fault.AdoptFault.TheVariants as why;
 ghost use Rattle.land_tables_schema.specs.Schemas.{no_schema};
 ghost use Rattle.sqlite.specs.Held.{state};
@@ -23,10 +25,12 @@ use crate::fault::AdoptFault;
 use crate::migrating::migrate_store;
 use crate::opening::open_v2_store;
 use crate::register::register_in;
+use crate::table_contents::TableContents;
 use crate::timelines::laws::{histories_represent_one_timeline, order_does_not_matter};
 use crate::timelines::writing_laws::writes_represent_timelines;
 use land_core::change::Change;
 use land_core::register::Register;
+use land_digest::laws::appending_keeps_text;
 use land_keep::laws::writing_keeps_soundness;
 use land_keep::store_fault::StoreFault;
 use land_tables_schema::schema::is_empty;
@@ -133,17 +137,48 @@ impl<S: Alter> Tables<S> {
             (λ t. Survives (state S.Store conn) (state S.Store t.conn) (λ _. ⊥)) }
         ensures crash { IfErr result (λ e. Survives (state S.Store conn) (state S.Store e.0) (λ _. ⊥)) }
     {
+        match Tables::adopt_with_contents(alloc, conn) {
+            Ok((tables, _contents)) => Ok(tables),
+            Err(refusal) => Err(refusal),
+        }
+    }
+
+    /// Opens a store as a register file as `adopt` does, with the same errors. Also returns the contents of its
+    /// tables.
+    pub fn adopt_with_contents(
+        alloc: Global,
+        conn: Connection<S>,
+    ) -> Result<(Tables<S>, TableContents), (Connection<S>, AdoptFault)>
+        ensures begun { conn.in_transaction ≡ true → result ≡ Err (conn, why.Store) }
+        ensures adopted { IfOk result (λ it. IsAdopted S.Store conn it.0) }
+        ensures finds { IfOk result
+            (λ it. IsHonest S.Store it.0 → Finds (state S.Store it.0.conn).now.trees it.1) }
+        ensures passes { IfOk result (λ it. PassesTests it.1) }
+        ensures refused { IfErr result
+            (λ e. HasCleanDisk (state S.Store e.0) → IsRefused version_2 e.1 (state S.Store conn).now) }
+        ensures none { IfErr result
+            (λ e. HasCleanDisk (state S.Store e.0) → HoldsNoRegister version_2 e.1 (state S.Store conn).now) }
+        ensures same { IfErr result
+            (λ e. HasCleanDisk (state S.Store e.0) → e.1 ≢ why.Store
+            → StaysOpenAndSame (state S.Store conn) (state S.Store e.0)) }
+        ensures crash_after { IfOk result
+            (λ it. Survives (state S.Store conn) (state S.Store it.0.conn) (λ _. ⊥)) }
+        ensures crash { IfErr result (λ e. Survives (state S.Store conn) (state S.Store e.0) (λ _. ⊥)) }
+    {
         let mut conn = conn;
         if !conn.is_autocommit() {
             return Err((conn, AdoptFault::Store));
         }
         match open_v2_store(alloc, &mut conn) {
-            Ok(latest) => Ok(Tables {
-                conn,
-                last: latest.stamp,
-                next: latest.next,
-                is_closed: false,
-            }),
+            Ok((contents, latest)) => Ok((
+                Tables {
+                    conn,
+                    last: latest.stamp,
+                    next: latest.next,
+                    is_closed: false,
+                },
+                contents,
+            )),
             Err(fault) => Err((conn, fault)),
         }
     }
@@ -281,6 +316,9 @@ impl<S: Alter> Tables<S> {
         requires { IsWorking S.Store self.old → CanWrite (held S.Store self.old) change.now stamp }
         ensures ok { IsWorking S.Store self.new
             → OnOk result (held S.Store self.new ≡ written (held S.Store self.old) change.now stamp) }
+        ensures text { IsWorking S.Store self.new
+            → OnOk result (KeepsEarlierText stamp (state S.Store self.old.conn).now.trees
+            (state S.Store self.new.conn).now.trees) }
         ensures err { IsWorking S.Store self.new
             → OnErr result (held S.Store self.new ≡ held S.Store self.old) }
         ensures was { IsHonest S.Store self.new → IsHonest S.Store self.old }
@@ -299,6 +337,7 @@ impl<S: Alter> Tables<S> {
         order_does_not_matter();
         writes_represent_timelines();
         writing_keeps_soundness();
+        appending_keeps_text();
         match record(alloc, &mut self.conn, change, self.next, stamp) {
             Ok(()) => {
                 self.last = stamp;

@@ -28,8 +28,8 @@ pub fn next_at(moments: &[Moment], at: i64) -> u64
     }
 }
 
-/// Returns the latest commit at or before a moment.
-fn latest_at(moments: &[Moment], at: i64) -> Option<Moment>
+/// Returns the latest of the commits at or before a moment, which may be in any order, or `None` without any.
+pub fn latest_at(moments: &[Moment], at: i64) -> Option<Moment>
     ensures { result ≡ latest (λ m. int_le m.stamp at) moments.now }
 {
     let mut found = None;
