@@ -1,6 +1,7 @@
 #!/usr/bin/env python3
-"""The time and the peak memory of `land check`, which validates a whole file, compared with Python's sqlite3 reading all rows and with
-SQLite's integrity_check.
+"""The time and the peak memory of `land check`, which validates a whole file, and of `land digest`, which also computes the digest of its
+history, compared with Python's sqlite3 reading all rows and with SQLite's integrity_check. Stops if deploy/tests/digest_text.py computes
+another digest.
 
     bench/check.py [CHANGES..]           (1000 10000 100000)
     LAND=PROGRAM bench/check.py ..       another program than crates/land/out/land
@@ -52,15 +53,31 @@ def minimum(work, runs=3):
     return min(times)
 
 
-def check(file):
-    """Runs the program's check. Returns its peak memory, in kB."""
-    with subprocess.Popen([PROGRAM, "check", "--file", file], stdout=subprocess.PIPE, stderr=subprocess.PIPE, text=True) as ran:
+def run(command, file, expected):
+    """Runs a command of the program, whose output begins as expected. Returns its output and its peak memory, in kB."""
+    with subprocess.Popen([PROGRAM, command, "--file", file], stdout=subprocess.PIPE, stderr=subprocess.PIPE, text=True) as ran:
         output, error = ran.stdout.read(), ran.stderr.read()
         _, status, usage = os.wait4(ran.pid, 0)
         ran.returncode = os.waitstatus_to_exitcode(status)
-    if not output.startswith("sound: "):
-        raise SystemExit(f"{file}: check: status {ran.returncode}: {output}{error}")
-    return usage.ru_maxrss
+    if not output.startswith(expected):
+        raise SystemExit(f"{file}: {command}: status {ran.returncode}: {output}{error}")
+    return output, usage.ru_maxrss
+
+
+def check(file):
+    """Runs the program's check. Returns its peak memory, in kB."""
+    return run("check", file, "sound: ")[1]
+
+
+def digest(file):
+    """Computes the digest of a history by the program. Returns it with the peak memory, in kB."""
+    return run("digest", file, "digest: ")
+
+
+def digest_by_sql(file):
+    """Returns the digest that Python computes by SQL."""
+    script = os.path.join(os.path.dirname(os.path.abspath(__file__)), "..", "deploy", "tests", "digest_text.py")
+    return subprocess.run([sys.executable, script, file], check=True, capture_output=True, text=True).stdout
 
 
 def listing():
@@ -95,17 +112,20 @@ def counts(file):
 def main():
     sizes = [int(word) for word in sys.argv[1:]] or [1000, 10000, 100000]
     statements = listing()
-    print("| history | changes | versions | file, MB | `land check`, s | peak memory, MB | rows by Python, s | integrity_check, s |")
-    print("|---|---|---|---|---|---|---|---|", flush=True)
+    print("| history | changes | versions | file, MB | check, s | peak, MB | digest, s | peak, MB | Python, s | integrity_check, s |")
+    print("|---|---|---|---|---|---|---|---|---|---|", flush=True)
     with tempfile.TemporaryDirectory() as folder:
         for name, write in HISTORIES.items():
             for size in sizes:
                 file = os.path.join(folder, f"{size}.{write.__name__}.{len(os.listdir(folder))}.land")
                 in_child(lambda: write(file, size))
                 changes, versions = counts(file)
-                memory = check(file) / 1024
+                line, most = digest(file)
+                if line != digest_by_sql(file):
+                    raise SystemExit(f"{file}: the digest differs from that of deploy/tests/digest_text.py")
                 cells = [name, f"{changes:,}", f"{versions:,}", f"{os.path.getsize(file) / 1e6:.1f}", f"{minimum(lambda: check(file)):.2f}",
-                         f"{memory:.0f}", f"{minimum(lambda: in_child(lambda: read_all(file, statements))):.2f}",
+                         f"{check(file) / 1024:.0f}", f"{minimum(lambda: digest(file)):.2f}", f"{most / 1024:.0f}",
+                         f"{minimum(lambda: in_child(lambda: read_all(file, statements))):.2f}",
                          f"{minimum(lambda: in_child(lambda: integrity_check(file))):.2f}"]
                 print("| " + " | ".join(cells) + " |", flush=True)
                 os.remove(file)

@@ -19,12 +19,13 @@ _land() {
     esac
     local words=
     case $COMP_CWORD-${COMP_WORDS[1]} in
-        1-*) words='talk new serve check migrate extract help --help --version' ;;
-        2-help) words='talk new serve check migrate extract' ;;
+        1-*) words='talk new serve check migrate extract digest help --help --version' ;;
+        2-help) words='talk new serve check migrate extract digest' ;;
         *-talk) words='--clock --help' ;;
         *-new | *-check | *-migrate) words='--file --help' ;;
         *-serve) words='--file --port --connections --at-once --help' ;;
         *-extract) words='--file --clock --party --role --kind --at --help' ;;
+        *-digest) words='--file --at --help' ;;
     esac
     mapfile -t COMPREPLY < <(compgen -W "$words" -- "$cur")
 }

@@ -1,5 +1,5 @@
 # fish completion for land
-set -l commands talk new serve check migrate extract help
+set -l commands talk new serve check migrate extract digest help
 complete -c land -f
 complete -c land -n "not __fish_seen_subcommand_from $commands" -a talk -d 'answer the requests on standard input'
 complete -c land -n "not __fish_seen_subcommand_from $commands" -a new -d 'create a register'
@@ -7,10 +7,11 @@ complete -c land -n "not __fish_seen_subcommand_from $commands" -a serve -d 'ans
 complete -c land -n "not __fish_seen_subcommand_from $commands" -a check -d 'validate a file'
 complete -c land -n "not __fish_seen_subcommand_from $commands" -a migrate -d 'upgrade a file of schema version 1'
 complete -c land -n "not __fish_seen_subcommand_from $commands" -a extract -d 'print objects as CSV'
+complete -c land -n "not __fish_seen_subcommand_from $commands" -a digest -d 'print the digest of the history'
 complete -c land -n "not __fish_seen_subcommand_from $commands" -a help -d 'print the help'
 complete -c land -n "not __fish_seen_subcommand_from $commands" -l version -d 'print the version'
-complete -c land -n '__fish_seen_subcommand_from help' -a 'talk new serve check migrate extract'
-complete -c land -n '__fish_seen_subcommand_from new serve check migrate extract' -l file -r -F -d 'the file of the register'
+complete -c land -n '__fish_seen_subcommand_from help' -a 'talk new serve check migrate extract digest'
+complete -c land -n '__fish_seen_subcommand_from new serve check migrate extract digest' -l file -r -F -d 'the file of the register'
 complete -c land -n '__fish_seen_subcommand_from talk extract' -l clock -x -d 'the clock reading, in milliseconds'
 complete -c land -n '__fish_seen_subcommand_from serve' -l port -x -d '1 to 65535'
 complete -c land -n '__fish_seen_subcommand_from serve' -l connections -x -d '1 to 1000000'
@@ -19,3 +20,4 @@ complete -c land -n '__fish_seen_subcommand_from extract' -l party -x -d 'the nu
 complete -c land -n '__fish_seen_subcommand_from extract' -l role -x -a 'citizen conveyancer notary bank certifiedSurveyor stateAdministrator'
 complete -c land -n '__fish_seen_subcommand_from extract' -l kind -x -a 'party unit parcel rrr source mutation'
 complete -c land -n '__fish_seen_subcommand_from extract' -l at -x -d 'a past moment, in milliseconds'
+complete -c land -n '__fish_seen_subcommand_from digest' -l at -x -d 'the end of the history, in milliseconds'

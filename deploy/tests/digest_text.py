@@ -49,7 +49,7 @@ def main(arguments):
     name, *stamps = arguments[shows_text:]
     file = sqlite3.connect(f"file:{name}?mode=ro", uri=True)
     limit = int(stamps[0]) if stamps else 4102444799999
-    stamp = file.execute("SELECT max(stamp) FROM moments WHERE stamp <= ?", (limit,)).fetchone()[0]
+    stamp = file.execute("SELECT max(stamp) FROM moments WHERE stamp <= ?", (limit,)).fetchone()[0] or 0
     it = text(file, stamp)
     if shows_text:
         sys.stdout.buffer.write(it)

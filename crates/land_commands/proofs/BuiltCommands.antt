@@ -27,3 +27,6 @@ abbrev pub extract_built : Choices → Shape
 extract_built choices =
     built_of (codes "extract")
     (file_rule ∷ moment_rule (codes "clock") true ∷ party_rule ∷ role_rule choices.roles ∷ kind_rule choices.kinds ∷ moment_rule (codes "at") false ∷ [])
+
+abbrev pub digest_built : Shape
+digest_built = built_of (codes "digest") (file_rule ∷ moment_rule (codes "at") false ∷ [])

@@ -130,11 +130,11 @@ role_shape roles = told (codes "role") true (parser.Names roles)
 abbrev kind_shape : Places → OptionShape
 kind_shape kinds = told (codes "kind") true (parser.Names kinds)
 
-abbrev at_told : OptionShape
+abbrev pub at_told : OptionShape
 at_told = told (codes "at") false moments
 
 -- an optional option has a moment, or is absent
-moment_if_any : (rows : List Row) → (first_of (codes "at") rows ≡ None) ⊎ ((text : Text) × (first_of (codes "at") rows ≡ Some text) × Accepts false moments text)
+pub moment_if_any : (rows : List Row) → (first_of (codes "at") rows ≡ None) ⊎ ((text : Text) × (first_of (codes "at") rows ≡ Some text) × Accepts false moments text)
     → (at : Option ℤ) × HasOptionalNumber rows (codes "at") (pos 0) (pos 4102444799999) at
 moment_if_any rows (inl none) = (None, none)
 moment_if_any rows (inr (text, found, accepted)) =

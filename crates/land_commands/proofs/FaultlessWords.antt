@@ -7,15 +7,15 @@ use Rattle.clap.specs.Simple.{Shape, argument_words, built, entered, label_of, n
 use Rattle.clap.specs.Values.{Accepts}
 use Rattle.clap.specs.Walk.{Row, Text, answers_to, finished, first_of, nothing_held, rows_after, settled, stop_after, walk, walk_from}
 use Rattle.clap.specs.declared.builder.value_parser.ValueParser.TheVariants as parser
-use Rattle.land_commands.proofs.BuiltCommands.{extract_built, file_built, serve_built, talk_built}
-use Rattle.land_commands.proofs.FaultlessExtract.{OptionShape, count_of, extract_named, file_shape, one_keeps, told}
+use Rattle.land_commands.proofs.BuiltCommands.{digest_built, extract_built, file_built, serve_built, talk_built}
+use Rattle.land_commands.proofs.FaultlessExtract.{OptionShape, at_told, count_of, extract_named, file_shape, moment_if_any, one_keeps, told}
 use Rattle.land_commands.proofs.GivenOptions.{Each, HasNoDefault, given_passes, help_keeps, option_keeps, passes_if_any, required_given}
 use Rattle.land_commands.proofs.WalkKeeps.{both_none}
 use Rattle.land_commands.specs.Words.Choices.{AreChoiceWords}
 use Rattle.land_commands.specs.Words.Commands.{land_app}
 use Rattle.land_commands.specs.Words.Names.{HasNumberOr, IsCommandIn, NamesBy}
 use Rattle.land_commands.specs.Words.Options.{counts, limits, moments, ports}
-use Rattle.land_commands.specs.Words.PlainCommands.{PlainCommand, to_talk, to_make, to_serve, to_check, to_migrate}
+use Rattle.land_commands.specs.Words.PlainCommands.{PlainCommand, to_talk, to_make, to_serve, to_check, to_migrate, to_digest}
 use Rattle.land_commands.specs.declared.words.choices.Choices.{Choices}
 
 -- arguments of `talk` without a fault have a moment for the clock
@@ -87,6 +87,19 @@ serve_named words e =
       ),
     )
 
+-- arguments of `digest` without a fault have a file, and a moment if `--at` is given
+digest_named : (words : List Text) → level_fault digest_built [] nothing_held words false [] ≡ []
+    → (order : PlainCommand) × IsCommandIn (Some (rows_at digest_built words)) order
+digest_named words e =
+    let none : Each HasNoDefault digest_built.rules = (refl, (refl, (refl, tt))) in
+    let given = required_given digest_built none words e in
+    let file = given_passes digest_built none words e (codes "file") (Accepts false parser.String)
+    (one_keeps (codes "file") (Accepts false parser.String) [] file_shape (at_told ∷ []) refl refl (λ text h. h)) (given.0 refl) in
+    let at = moment_if_any (rows_after digest_built.rules [] words)
+    (passes_if_any digest_built none words e (codes "at") (Accepts false moments)
+    (one_keeps (codes "at") (Accepts false moments) (file_shape ∷ []) at_told [] refl refl (λ text h. h))) in
+    (to_digest file.0 at.0, (rows_after digest_built.rules [] words, refl, (file.1, at.1)))
+
 module _ (choices : Choices) (spelled : AreChoiceWords choices) where
   -- if a command is required, there is one
   command_wanted : (rows : List Row) (has : Bool) → check_fault (built (land_app choices)).top rows has ≡ [] → has ≡ true
@@ -94,30 +107,32 @@ module _ (choices : Choices) (spelled : AreChoiceWords choices) where
   command_wanted rows false e = cc
 
   -- the command with this name
-  abbrev shape_of : (talk make serve check migrate extract : Bool) → Option Shape
-  shape_of talk make serve check migrate extract =
+  abbrev shape_of : (talk make serve check migrate extract digest : Bool) → Option Shape
+  shape_of talk make serve check migrate extract digest =
       cond talk (Some talk_built)
       (cond make (Some (file_built (codes "new")))
       (cond serve (Some serve_built)
-      (cond check (Some (file_built (codes "check"))) (cond migrate (Some (file_built (codes "migrate"))) (cond extract (Some (extract_built choices)) None)))))
+      (cond check (Some (file_built (codes "check")))
+      (cond migrate (Some (file_built (codes "migrate"))) (cond extract (Some (extract_built choices)) (cond digest (Some digest_built) None))))))
 
-  picked_named : (words : List Text) (talk make serve check migrate extract : Bool)
-      → is_some (option_map (λ s. rows_at s words) (shape_of talk make serve check migrate extract)) ≡ true
-      → option_map_or (λ s. level_fault s [] nothing_held words false []) (shape_of talk make serve check migrate extract) [] ≡ []
-      → (order : PlainCommand) × IsCommandIn (option_map (λ s. rows_at s words) (shape_of talk make serve check migrate extract)) order
-  picked_named words true make serve check migrate extract has e = talk_named words e
-  picked_named words false true serve check migrate extract has e =
+  picked_named : (words : List Text) (talk make serve check migrate extract digest : Bool)
+      → is_some (option_map (λ s. rows_at s words) (shape_of talk make serve check migrate extract digest)) ≡ true
+      → option_map_or (λ s. level_fault s [] nothing_held words false []) (shape_of talk make serve check migrate extract digest) [] ≡ []
+      → (order : PlainCommand) × IsCommandIn (option_map (λ s. rows_at s words) (shape_of talk make serve check migrate extract digest)) order
+  picked_named words true make serve check migrate extract digest has e = talk_named words e
+  picked_named words false true serve check migrate extract digest has e =
       let file = file_named (codes "new") words e in
       (to_make file.0, (rows_after (file_built (codes "new")).rules [] words, refl, file.1))
-  picked_named words false false true check migrate extract has e = serve_named words e
-  picked_named words false false false true migrate extract has e =
+  picked_named words false false true check migrate extract digest has e = serve_named words e
+  picked_named words false false false true migrate extract digest has e =
       let file = file_named (codes "check") words e in
       (to_check file.0, (rows_after (file_built (codes "check")).rules [] words, refl, file.1))
-  picked_named words false false false false true extract has e =
+  picked_named words false false false false true extract digest has e =
       let file = file_named (codes "migrate") words e in
       (to_migrate file.0, (rows_after (file_built (codes "migrate")).rules [] words, refl, file.1))
-  picked_named words false false false false false true has e = extract_named choices spelled words e
-  picked_named words false false false false false false has e = cc
+  picked_named words false false false false false true digest has e = extract_named choices spelled words e
+  picked_named words false false false false false false true has e = digest_named words e
+  picked_named words false false false false false false false has e = cc
 
   -- the command at which the walk over the arguments stops
   command_named : (stop : Option (Text × List Text)) → is_some (entered (built (land_app choices)) stop) ≡ true
@@ -126,7 +141,8 @@ module _ (choices : Choices) (spelled : AreChoiceWords choices) where
   command_named (Some q) has e =
       picked_named q.1 (answers_to q.0 (label_of talk_built)) (answers_to q.0 (label_of (file_built (codes "new"))))
       (answers_to q.0 (label_of serve_built)) (answers_to q.0 (label_of (file_built (codes "check"))))
-      (answers_to q.0 (label_of (file_built (codes "migrate")))) (answers_to q.0 (label_of (extract_built choices))) has e
+      (answers_to q.0 (label_of (file_built (codes "migrate")))) (answers_to q.0 (label_of (extract_built choices)))
+      (answers_to q.0 (label_of digest_built)) has e
 
   -- arguments without a fault name a command
   pub named_by_words : (words : List Text) → fault_of (land_app choices) words ≡ [] → (order : PlainCommand) × NamesBy choices words order

@@ -35,7 +35,7 @@ role_row = row_with (codes "role") reading.AsWritten
 abbrev kind_row : Text → Row
 kind_row = row_with (codes "kind") reading.AsWritten
 
-abbrev at_row : Text → Row
+abbrev pub at_row : Text → Row
 at_row = row_with (codes "at") reading.WithoutMinus
 
 -- ---- options with a fixed set of words

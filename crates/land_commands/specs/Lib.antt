@@ -1,5 +1,6 @@
 -- Definitions of the program.
 pub mod Closing
+pub mod Digesting
 pub mod Extracting
 pub mod Filed
 pub mod Migrating

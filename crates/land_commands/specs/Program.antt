@@ -1,7 +1,8 @@
 -- The program: its arguments, its streams and the host.
 use Rattle.std.specs.Prelude.{◌≡◌, ◌⊎◌, ℕ, ℤ, false, List, [], take, string_bytes, Option, Result, Ok, Err}
-use Rattle.std.specs.Prelude.{IfSome}
+use Rattle.std.specs.Prelude.{IfSome, unwrap_or}
 use Rattle.std.specs.Io.KnownBytes.{Appends}
+use Rattle.land_commands.specs.Digesting.{DigestsRegister}
 use Rattle.land_commands.specs.Extracting.{ExtractsRegister, extract_request_of}
 use Rattle.land_commands.specs.Filed.{ChecksRegister, CreatesRegister, ServesRegister}
 use Rattle.land_commands.specs.Migrating.{IsMigrating}
@@ -9,7 +10,7 @@ use Rattle.land_commands.specs.ProgramFaults.{fault_of, line_of, status_of}
 use Rattle.land_commands.specs.CommandErrors.{denied_text}
 use Rattle.land_commands.specs.Words.Names.{IsReading}
 use Rattle.land_commands.specs.Words.PlainCommands.{PlainCommand, to_talk, to_make, to_serve, to_check}
-use Rattle.land_commands.specs.Words.PlainCommands.{to_migrate, to_extract, order_of}
+use Rattle.land_commands.specs.Words.PlainCommands.{to_migrate, to_extract, to_digest, order_of}
 use Rattle.land_commands.specs.declared.program_fault.ProgramFault.{ProgramFault}
 use Rattle.land_commands.specs.declared.program_fault.ProgramFault.TheVariants.{NoMemory}
 use Rattle.land_commands.specs.declared.command_error.CommandError.{CommandError}
@@ -22,6 +23,7 @@ use Rattle.land_desk.specs.Serving.{ServesByRun}
 use Rattle.land_desk.specs.declared.serve.DeskFault.{DeskFault}
 use Rattle.land_desk.specs.declared.serve.Served.{Served}
 use Rattle.land_keep.specs.Machine as machine
+use Rattle.land_keep.specs.Moments.{last_moment}
 use Rattle.land_keep.specs.Timeline.{new_timeline}
 use Rattle.land_pool.specs.Endings.{Ending}
 use Rattle.sqlite.specs.Held.{Held}
@@ -130,6 +132,10 @@ module _ {S C : Type 0} (g : Ghosts S) (h : Files S) (reads : C → ℤ → C �
       (done : Result (Unit {0}) CommandError)
       × ExtractsRegister g (h.holds file) (extract_request_of reading party role kind at) old new done
       × ReportsExtracted done old_errors new_errors status
+  RunsCommand (to_digest file at) input clock clock_after old new old_errors new_errors status =
+      (done : Result (Unit {0}) ProgramFault)
+      × DigestsRegister g (h.holds file) (unwrap_or at last_moment) old new done
+      × ReportsDone done old_errors new_errors status
 
   -- The command that was read is run. If `clap` rejects the arguments, only its message is written, and the
   -- status is 2.

@@ -3,6 +3,7 @@
 
 pub mod at_once_command;
 pub mod command_error;
+pub mod digest_command;
 pub mod extract_command;
 pub mod file_commands;
 pub mod fixed_clock;

@@ -11,6 +11,7 @@ ghost use Rattle.land_tables.specs.TablesState.{IsCreated};
 ghost use Rattle.sqlite.specs.Steps.{over_memory};
 
 use crate::command_error::CommandError;
+use crate::digest_command::digest;
 use crate::extract_command::{ExtractRequest, extract};
 use crate::file_commands::{check, create_register, serve_register};
 use crate::fixed_clock::FixedClock;
@@ -77,6 +78,7 @@ pub fn run_command<H: Host, I: Read, O: Write, E: Write, C: Clock>(
             let done = extract(host, file, wanted, output);
             report_extracted(host.alloc(), errors, done)
         }
+        Command::Digest { file, at } => report_done(errors, digest(host, file, at, output)),
     }
 }
 

@@ -72,6 +72,27 @@ const WORDS: &[Words] = &[
         command: Command::Migrate { file: "old.land" },
     },
     Words {
+        words: &["land", "digest", "--file", "town.land"],
+        command: Command::Digest {
+            file: "town.land",
+            at: None,
+        },
+    },
+    Words {
+        words: &["land", "digest", "--at=0", "--file=x"],
+        command: Command::Digest {
+            file: "x",
+            at: Some(0),
+        },
+    },
+    Words {
+        words: &["land", "digest", "--file", "x", "--at", "4102444799999"],
+        command: Command::Digest {
+            file: "x",
+            at: Some(4_102_444_799_999),
+        },
+    },
+    Words {
         words: &[
             "land",
             "serve",
@@ -296,6 +317,26 @@ const REFUSED: &[Refused] = &[
     Refused {
         words: &["land", "migrate"],
         text: "error: the following required arguments were not provided:\n  --file <FILE>\n",
+    },
+    Refused {
+        words: &["land", "digest", "--at", "0"],
+        text: "error: the following required arguments were not provided:\n  --file <FILE>\n",
+    },
+    Refused {
+        words: &["land", "digest", "--file", "x", "--at"],
+        text: "error: a value is required for '--at <MS>' but none was supplied\n",
+    },
+    Refused {
+        words: &["land", "digest", "--file", "x", "--at=-1"],
+        text: "error: invalid value '-1' for '--at <MS>': -1 is not in 0..=4102444799999\n",
+    },
+    Refused {
+        words: &["land", "digest", "--file", "x", "--at", "4102444800000"],
+        text: "error: invalid value '4102444800000' for '--at <MS>': 4102444800000 is not in 0..=4102444799999\n",
+    },
+    Refused {
+        words: &["land", "digest", "--file", "x", "--clock", "1000"],
+        text: "error: unexpected argument '--clock' found\n",
     },
     Refused {
         words: &["land", "serve", "--file", "x"],
@@ -531,6 +572,18 @@ const HELP: &[Refused] = &[
     Refused {
         words: &["land", "--help"],
         text: "  migrate  --file <FILE>\n",
+    },
+    Refused {
+        words: &["land", "digest", "--help"],
+        text: "Usage: land digest [OPTIONS] --file <FILE>\n",
+    },
+    Refused {
+        words: &["land", "digest", "--help"],
+        text: "--at <MS>      The moment up to which the history counts, in milliseconds since 1970 UTC, 0 to 4102444799999; if it is left out, all of it\n",
+    },
+    Refused {
+        words: &["land", "--help"],
+        text: "  digest   --file <FILE> [--at <MS>]\n",
     },
 ];
 

@@ -51,7 +51,11 @@ extract_app choices =
     (with_rule (with_caller choices.roles (with_clock (new_app (codes "extract")))) (kind_rule choices.kinds))
     at_rule
 
--- The program with all commands except `extract`.
+-- `digest --file FILE [--at MS]`
+abbrev pub digest_app : App
+digest_app = with_rule (with_rule (new_app (codes "digest")) file_rule) at_rule
+
+-- The program with all commands except `extract` and `digest`.
 abbrev pub plain_app : App
 plain_app =
     with_subcommand
@@ -64,7 +68,7 @@ plain_app =
 
 -- The program with all its commands. `choices`: the words for roles and kinds.
 abbrev pub land_app : Choices → App
-land_app choices = with_subcommand plain_app (extract_app choices).top
+land_app choices = with_subcommand (with_subcommand plain_app (extract_app choices).top) digest_app.top
 
 -- A command parses arguments like this one, and has no option that its subcommands share.
 pub record IsCommand (app : App) (command : Command) : Type 0 where

@@ -6,7 +6,7 @@ use Rattle.land_commands.specs.Words.Choices.{AreChoiceWords, kind_word, role_wo
 use Rattle.land_commands.specs.Words.Commands.{land_app}
 use Rattle.land_commands.specs.Words.Names.{NamesBy}
 use Rattle.land_commands.specs.Words.PlainCommands.{PlainCommand, to_talk, to_make, to_serve, to_check}
-use Rattle.land_commands.specs.Words.PlainCommands.{to_migrate, to_extract}
+use Rattle.land_commands.specs.Words.PlainCommands.{to_migrate, to_extract, to_digest}
 use Rattle.land_commands.specs.declared.words.choices.Choices.{Choices}
 use Rattle.land_core.specs.declared.kind.Kind.{Kind}
 use Rattle.land_core.specs.declared.role.Role.{Role}
@@ -85,3 +85,13 @@ PlainExtractLaw =
     → NamesBy choices (program ∷ codes "extract"
     ∷ (extract_words file clock_digits party_digits role kind ++ codes "--at" ∷ at_digits ∷ []))
     (to_extract file (pos clock) party role kind (Some (pos at))))
+
+-- `digest --file FILE` names `digest` for all of the history, and with `--at MS` for the history up to that
+-- time, if MS is a moment in decimal digits.
+abbrev pub PlainDigestLaw : Type 0
+PlainDigestLaw =
+    (choices : Choices) (program file : Text) → IsPlainText file
+    → NamesBy choices (program ∷ codes "digest" ∷ codes "--file" ∷ file ∷ []) (to_digest file None)
+    × ((at_digits : Text) (at : ℕ) → IsNumeralIn at_digits 0 4102444799999 at
+    → NamesBy choices (program ∷ codes "digest" ∷ codes "--file" ∷ file ∷ codes "--at" ∷ at_digits ∷ [])
+    (to_digest file (Some (pos at))))

@@ -7,7 +7,7 @@ use Rattle.clap.specs.declared.error.kind.ErrorKind.TheVariants as kind
 use Rattle.land_commands.specs.Words.Choices.{AreChoiceWords, kind_word, role_word}
 use Rattle.land_commands.specs.Words.Commands.{land_app}
 use Rattle.land_commands.specs.Words.PlainCommands.{PlainCommand, to_talk, to_make, to_serve, to_check}
-use Rattle.land_commands.specs.Words.PlainCommands.{to_migrate, to_extract, order_of}
+use Rattle.land_commands.specs.Words.PlainCommands.{to_migrate, to_extract, to_digest, order_of}
 use Rattle.land_commands.specs.declared.words.choices.Choices.{Choices}
 use Rattle.land_commands.specs.declared.words.command.Command.{Command}
 use Rattle.land_commands.specs.declared.words.words_fault.WordsFault.{WordsFault}
@@ -75,6 +75,7 @@ word_of (to_serve file port connections at_once) = codes "serve"
 word_of (to_check file) = codes "check"
 word_of (to_migrate file) = codes "migrate"
 word_of (to_extract file clock party role kind at) = codes "extract"
+word_of (to_digest file at) = codes "digest"
 
 -- The options of a command are those that `clap` found, each number in its range: moments from 0 to the end
 -- of the year 2099, ports from 1 to 65535, parties from 1 to 1,000,000,000, connections from 1 to 1,000,000,
@@ -93,6 +94,8 @@ HasOptions rows (to_extract file clock party role kind at) =
     × HasNumber rows (codes "clock") (pos 0) last_moment clock × HasCaller rows party role
     × (first_of (codes "kind") rows ≡ Some (kind_word kind))
     × HasOptionalNumber rows (codes "at") (pos 0) last_moment at
+HasOptions rows (to_digest file at) =
+    (first_of (codes "file") rows ≡ Some file) × HasOptionalNumber rows (codes "at") (pos 0) last_moment at
 
 -- `clap` found this command with its options.
 abbrev pub IsCommandIn : Option (Text × List Row) → PlainCommand → Type 0

@@ -50,4 +50,11 @@ pub enum Command<'a> {
         /// The requested time, in Unix milliseconds; `None`: the time of the clock.
         at: Option<i64>,
     },
+    /// `digest`: prints the digest of the history in the register in a file.
+    Digest {
+        /// The file's name.
+        file: &'a str,
+        /// The time up to which the history counts, in Unix milliseconds; `None`: all of it.
+        at: Option<i64>,
+    },
 }

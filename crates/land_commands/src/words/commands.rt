@@ -2,8 +2,8 @@
 //! so that each proof is about one of them.
 ghost use Rattle.std.specs.Prelude.{IfOk};
 ghost use Rattle.clap.specs.Words.{App, Rule, new_app, with_rule, with_subcommand};
-ghost use Rattle.land_commands.specs.Words.Commands.{IsCommand, check_app, extract_app, land_app, make_app};
-ghost use Rattle.land_commands.specs.Words.Commands.{migrate_app};
+ghost use Rattle.land_commands.specs.Words.Commands.{IsCommand, check_app, digest_app, extract_app, land_app};
+ghost use Rattle.land_commands.specs.Words.Commands.{make_app, migrate_app};
 ghost use Rattle.land_commands.specs.Words.Commands.{of_commands, serve_app, talk_app, with_caller};
 ghost use Rattle.land_commands.specs.Words.Commands.{with_clock};
 ghost use Rattle.land_commands.specs.Words.Options.{IsOption};
@@ -11,7 +11,7 @@ ghost use Rattle.land_commands.specs.Words.Options.{IsOption};
 use crate::words::choices::Choices;
 use crate::words::options::{
     at_once_option, at_option, clock_option, connections_option, file_option, kind_option,
-    party_option, port_option, role_option,
+    party_option, port_option, role_option, upto_option,
 };
 use clap::{Arg, Command};
 use std::alloc::{AllocError, Global};
@@ -24,6 +24,7 @@ const MORE: &str = "Options of the commands, of which those in brackets may be l
   check    --file <FILE>
   migrate  --file <FILE>
   extract  --file <FILE> --clock <MS> --party <NUMBER> --role <ROLE> --kind <KIND> [--at <MS>]
+  digest   --file <FILE> [--at <MS>]
 
 MS counts milliseconds since 1970 UTC, 0 to 4102444799999. A fault is told on standard error, with status 1; so are this
 help and what is wrong with the words, with status 2.
@@ -175,6 +176,18 @@ fn extract<'a>(alloc: Global, choices: Choices<'a>) -> Result<Command<'a>, Alloc
     with_option(with_kind, at_option(alloc))
 }
 
+/// Declares `digest`.
+fn digest<'a>(alloc: Global) -> Result<Command<'a>, AllocError>
+    ensures { IfOk result (IsCommand digest_app) }
+{
+    let about =
+        "Prints the digest of the history in the register in a file: SHA-256 of a text that lists all its events";
+    let example = "Example: land digest --file town.land";
+    let digest = described_command(alloc, "digest", about, example);
+    let with_file = with_option(digest, file_option(alloc, "The file of the register"))?;
+    with_option(with_file, upto_option(alloc))
+}
+
 /// Declares the program with all its commands. `choices`: the words for roles and kinds.
 pub fn land<'a>(alloc: Global, choices: Choices<'a>) -> Result<Command<'a>, AllocError>
     ensures { IfOk result (IsCommand (land_app choices.entry)) }
@@ -187,5 +200,6 @@ pub fn land<'a>(alloc: Global, choices: Choices<'a>) -> Result<Command<'a>, Allo
     let with_serve = with_command(with_new, serve(alloc)?)?;
     let with_check = with_command(with_serve, check(alloc)?)?;
     let with_migrate = with_command(with_check, migrate(alloc)?)?;
-    with_command(with_migrate, extract(alloc, choices)?)
+    let with_extract = with_command(with_migrate, extract(alloc, choices)?)?;
+    with_command(with_extract, digest(alloc)?)
 }

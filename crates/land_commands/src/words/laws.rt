@@ -1,6 +1,6 @@
 //! Theorems about the definitions, without reference to code.
-ghost use Rattle.land_commands.specs.Words.Laws.{FaultlessWordsLaw, OneCommandLaw, PlainExtractLaw};
-ghost use Rattle.land_commands.specs.Words.Laws.{PlainFileLaw};
+ghost use Rattle.land_commands.specs.Words.Laws.{FaultlessWordsLaw, OneCommandLaw, PlainDigestLaw};
+ghost use Rattle.land_commands.specs.Words.Laws.{PlainExtractLaw, PlainFileLaw};
 ghost use Rattle.land_commands.specs.Words.Laws.{PlainServiceLaw, PlainTalkLaw};
 
 /// Arguments name at most one command.
@@ -33,4 +33,9 @@ pub fn plain_services_are_read()
 /// `extract`, if the numbers are decimal digits.
 pub fn plain_extracts_are_read()
     ensures { PlainExtractLaw }
+{}
+
+/// `digest --file FILE`, optionally with `--at MS`, names `digest`, if MS is a moment in decimal digits.
+pub fn plain_digests_are_read()
+    ensures { PlainDigestLaw }
 {}

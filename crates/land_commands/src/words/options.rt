@@ -58,13 +58,22 @@ pub fn clock_option<'a>(alloc: Global) -> Arg<'a>
     moment_option(alloc, "clock", help, true)
 }
 
-/// Declares `--at MS`, which is optional.
+/// Declares `--at MS` of `extract`, which is optional.
 pub fn at_option<'a>(alloc: Global) -> Arg<'a>
     ensures { IsOption at_rule result }
 {
     let help =
         "The moment to look at, in milliseconds since 1970 UTC, 0 to 4102444799999; if it is left out, that of the clock";
     moment_option(alloc, "at", help, false)
+}
+
+/// Declares `--at MS` of `digest`: the option of `extract` with another help text.
+pub fn upto_option<'a>(alloc: Global) -> Arg<'a>
+    ensures { IsOption at_rule result }
+{
+    let help =
+        "The moment up to which the history counts, in milliseconds since 1970 UTC, 0 to 4102444799999; if it is left out, all of it";
+    at_option(alloc).help(help)
 }
 
 /// Declares `--file FILE`: any text.

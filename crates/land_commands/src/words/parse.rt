@@ -60,6 +60,7 @@ fn named_command<'a>(found: &ArgMatches<'a>) -> Option<Command<'a>>
         ("check", options) => check_of(options),
         ("migrate", options) => migrate_of(options),
         ("extract", options) => extract_of(options),
+        ("digest", options) => digest_of(options),
         _ => None,
     }
 }
@@ -128,6 +129,15 @@ fn extract_of<'a>(found: &ArgMatches<'a>) -> Option<Command<'a>>
         kind,
         at,
     })
+}
+
+/// Reads the options of `digest`.
+fn digest_of<'a>(found: &ArgMatches<'a>) -> Option<Command<'a>>
+    ensures { HasOptionsOf (codes "digest") (rows_of (found_of found.now)) (option_map order_of result) }
+{
+    let file = text_of(found, "file")?;
+    let at = at_of(found)?;
+    Some(Command::Digest { file, at })
 }
 
 /// Reads `--clock`, in Unix milliseconds.

@@ -7,4 +7,5 @@ returns c =
     let with_serve = c.in_ok-with_serve.ensures _ _ with_new c.in_ok-serve.ensures in
     let with_check = c.in_ok-with_check.ensures _ _ with_serve c.in_ok-check.ensures in
     let with_migrate = c.in_ok-with_migrate.ensures _ _ with_check c.in_ok-migrate.ensures in
-    c.with_command-6.ensures _ _ with_migrate c.in_ok-extract.ensures
+    let with_extract = c.in_ok-with_extract.ensures _ _ with_migrate c.in_ok-extract.ensures in
+    c.with_command-7.ensures _ _ with_extract c.in_ok-digest.ensures

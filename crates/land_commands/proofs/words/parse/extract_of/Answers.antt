@@ -1,7 +1,7 @@
 use Rattle.std.proofs.Common.{◌≡◌, ap, arith, refl, ℕ, ℤ, pos, List, [], ◌∷◌, Option, Some, None, codes, option_map, rules}
 use Rattle.clap.specs.Words.{Row, Text}
 use Rattle.land_commands.specs.Words.Names.{HasOptions, IsCallerOption, IsOptionNumber, HasOptionsOf}
-use Rattle.land_commands.specs.Words.PlainCommands.{to_talk, to_make, to_serve, to_check, to_migrate, to_extract, order_of}
+use Rattle.land_commands.specs.Words.PlainCommands.{to_talk, to_make, to_serve, to_check, to_migrate, to_extract, to_digest, order_of}
 use Rattle.land_commands.specs.declared.words.command.Command.{Command}
 use Rattle.land_core.specs.declared.caller.Caller.{Caller}
 use Rattle.land_core.specs.declared.kind.Kind.{Kind}
@@ -27,6 +27,7 @@ none_lacking rows lacks (to_serve file port connections at_once) word has = cc
 none_lacking rows lacks (to_check file) word has = cc
 none_lacking rows lacks (to_migrate file) word has = codes_differ 109 refl (ap first_code word)
 none_lacking rows lacks (to_extract file clock party role kind at) word has = lacks file clock party role kind at has
+none_lacking rows lacks (to_digest file at) word has = cc
 
 without_clock : (rows : List Row) (clock : Option ℤ) → IsOptionNumber rows (codes "clock") (pos 0) (pos 4102444799999) clock → clock ≡ None → Lacks rows
 without_clock rows None none e file clock party role kind at has = none clock has.1

@@ -1,7 +1,7 @@
 use Rattle.std.proofs.Common.{◌≡◌, ap, arith, refl, ℕ, pos, List, [], ◌∷◌, Option, Some, None, codes, option_map, rules}
 use Rattle.clap.specs.Words.{Row, Text}
 use Rattle.land_commands.specs.Words.Names.{IsNumberOr, IsOptionNumber, HasOptionsOf}
-use Rattle.land_commands.specs.Words.PlainCommands.{to_talk, to_make, to_serve, to_check, to_migrate, to_extract, order_of}
+use Rattle.land_commands.specs.Words.PlainCommands.{to_talk, to_make, to_serve, to_check, to_migrate, to_extract, to_digest, order_of}
 use Rattle.land_commands.specs.declared.words.command.Command.{Command}
 use Rattle.land_commands.proofs.words.parse.serve_of.Goals as goal
 
@@ -21,6 +21,7 @@ without_port rows None none e (to_make file) word has = cc
 without_port rows None none e (to_check file) word has = codes_differ 99 refl (ap first_code word)
 without_port rows None none e (to_migrate file) word has = cc
 without_port rows None none e (to_extract file clock party role kind at) word has = cc
+without_port rows None none e (to_digest file at) word has = cc
 without_port rows (Some port) some e order word has = cc
 
 -- nor without a number of connections
@@ -32,6 +33,7 @@ without_count rows None none e (to_make file) word has = cc
 without_count rows None none e (to_check file) word has = codes_differ 99 refl (ap first_code word)
 without_count rows None none e (to_migrate file) word has = cc
 without_count rows None none e (to_extract file clock party role kind at) word has = cc
+without_count rows None none e (to_digest file at) word has = cc
 without_count rows (Some count) some e order word has = cc
 
 -- nor with an invalid limit
@@ -43,6 +45,7 @@ without_limit rows None none e (to_make file) word has = cc
 without_limit rows None none e (to_check file) word has = codes_differ 99 refl (ap first_code word)
 without_limit rows None none e (to_migrate file) word has = cc
 without_limit rows None none e (to_extract file clock party role kind at) word has = cc
+without_limit rows None none e (to_digest file at) word has = cc
 without_limit rows (Some limit) some e order word has = cc
 
 none_named : (rows : List Row) (result : Option Command) → result ≡ None → HasOptionsOf (codes "serve") rows None → HasOptionsOf (codes "serve") rows (option_map order_of result)
