@@ -85,8 +85,9 @@ def relay_serve(change, target, program, arguments, options):
             body = altered_reply(body, change)
         if change == "leaks" and is_large:
             kept.append(os.urandom(20000))
-        if change == "slow" and is_large:
-            time.sleep(0.002)
+        end = time.process_time() + 0.002
+        while change == "slow" and is_large and time.process_time() < end:
+            pass
         front.sendall(f"{head.split('Content-')[0]}Content-Length: {len(body)}\r\n\r\n{body}".encode())
     back.shutdown(socket.SHUT_WR)
     status = server.wait()
