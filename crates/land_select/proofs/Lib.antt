@@ -2,6 +2,7 @@
 pub mod Awaiting
 pub mod Callers
 pub mod CachedValue
+pub mod EarlyInterest
 pub mod Gathering
 pub mod Judged
 pub mod Keeping
