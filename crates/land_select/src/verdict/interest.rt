@@ -101,6 +101,13 @@ fn read_interest_from<S: Alter>(
     ensures autocommit { LeavesAutocommit conn.old conn.new }
 {
     names_decide_interests();
+    let own = interest_of(caller, &[caller.party], entries);
+    if !is_citizen(caller.role) {
+        return Ok(own);
+    }
+    if let Interest::Owner = own {
+        return Ok(own);
+    }
     let names = read_names(alloc, conn, caller, at)?;
     Ok(interest_of(caller, names.as_slice(), entries))
 }
