@@ -1,11 +1,13 @@
 //! The interest of a citizen or a bank in a unit, and the objects that it shows.
-ghost use Rattle.std.specs.Prelude.{◌≡◌, ◌++◌, true, IfOk};
+ghost use Rattle.std.specs.FinMap as map;
+ghost use Rattle.std.specs.Prelude.{◌≡◌, ◌++◌, ◌&&◌, ◌||◌, nat_eq, true, IfOk, Some, ℕ};
 ghost use Rattle.land_core.specs.Entries.{entries_where};
 ghost use Rattle.land_core.specs.Role.{is_role};
 ghost use Rattle.land_core.specs.declared.kind.Kind.TheVariants as kinds;
 ghost use Rattle.land_core.specs.declared.role.Role.TheVariants as roles;
 ghost use Rattle.land_rules.specs.Circles.{circle_of, is_name_of};
 ghost use Rattle.land_rules.specs.Denials.Interests.{interest_at, interest_of, is_shown_by_interest};
+ghost use Rattle.land_rules.specs.Denials.Interests.{is_mortgage_for, is_ownership_in};
 ghost use Rattle.land_rules.specs.Denials.Interests.{sees_by_interest, shows_entry, shows_unit};
 ghost use Rattle.land_select.specs.Cache.{IsFactWith};
 ghost use Rattle.land_select.specs.Views.{AreGroupsAt, AreNamesAt, entries_by_interest};
@@ -19,7 +21,7 @@ use land_core::duplicate::Duplicate;
 use land_core::laws::soundness_by_number;
 use land_core::records::Records;
 use land_core::role::Role;
-use land_core::rrr::RrrRecord;
+use land_core::rrr::{RightType, RrrRecord};
 use land_core::sequence::{NumberList, Sequence};
 use land_rules::denials::interests::{Interest, interest_of};
 use land_rules::denials::laws::{interests_decide_sight, names_decide_interests};
@@ -169,6 +171,43 @@ fn is_entry_shown<S: Alter>(
     Ok(interest.shows_entry(caller.party, entry))
 }
 
+/// Checks if an entry is an ownership of the citizen, or a mortgage of the bank, that calls.
+fn is_own_entry(caller: Caller, entry: &RrrRecord) -> bool
+    ensures { result ≡ (is_role caller.role roles.Citizen
+        && is_ownership_in (λ named. nat_eq named caller.party) entry.now
+        || is_role caller.role roles.Bank && is_mortgage_for caller.party entry.now) }
+{
+    if is_citizen(caller.role) {
+        entry.class.is_right_of(RightType::Ownership) && entry.party == caller.party
+    } else {
+        caller.role == Role::Bank && entry.class.rank().is_some() && entry.party == caller.party
+    }
+}
+
+/// Checks if a caller's interest in the unit of an entry shows the entry, if the entry stands at that time.
+/// The own entry of a caller is then always shown.
+fn is_found_entry_shown<S: Alter>(
+    alloc: Global,
+    conn: &mut Connection<S>,
+    caller: Caller,
+    entry: &RrrRecord,
+    at: i64,
+) -> Result<bool, ReadFault>
+    requires open { IsUsable S.Store conn.old }
+    requires has_tables { HasRegisterTables S.Store conn.old }
+    ensures reads_only { ReadsTables S.Store result
+        (λ db it. (number : ℕ) → ReadsPart (λ r. map.get r.rrrs number) at db (Some entry.now)
+        → ReadsPart (λ r. shows_entry (interest_at r caller entry.now.unit) caller.party entry.now) at db it)
+        conn.old
+        conn.new }
+    ensures autocommit { LeavesAutocommit conn.old conn.new }
+{
+    if is_own_entry(caller, entry) {
+        return Ok(true);
+    }
+    is_entry_shown(alloc, conn, caller, entry, at)
+}
+
 /// Checks if an entry exists at a time and the caller's interest in its unit shows it. Also returns the
 /// entry.
 pub(crate) fn read_shown_entry<S: Alter>(
@@ -189,7 +228,7 @@ pub(crate) fn read_shown_entry<S: Alter>(
     let found = by_number::record(alloc, conn, number, at)?;
     match found {
         Some(entry) => {
-            let shown = is_entry_shown(alloc, conn, caller, &entry, at)?;
+            let shown = is_found_entry_shown(alloc, conn, caller, &entry, at)?;
             Ok((shown, cached_object(RrrRecord::shown(number, Some(entry)))))
         }
         None => Ok((false, CachedValue::Nothing)),

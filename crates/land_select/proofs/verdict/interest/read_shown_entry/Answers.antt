@@ -4,8 +4,8 @@ use Rattle.land_core.specs.declared.kind.Kind.TheVariants.{Rrr}
 use Rattle.land_core.specs.declared.rrr.RrrRecord.{RrrRecord}
 use Rattle.land_rules.specs.Denials.Interests.{interest_at, shows_entry}
 use Rattle.land_select.proofs.CachedValue.{found_told}
+use Rattle.land_select.proofs.EarlyInterest.{IsShownIfFound}
 use Rattle.land_select.proofs.Viewed.{have_members}
-use Rattle.land_select_queries.specs.Lookups.Parts.{ReadsPart}
 use Rattle.land_tables_schema.proofs.Looking.{look_fails, look_then, look_told}
 use Rattle.sqlite.specs.Effect.{Database}
 use Rattle.sqlite.specs.Held.{state}
@@ -13,12 +13,12 @@ use Rattle.land_select.proofs.verdict.interest.read_shown_entry.Goals as goal
 
 pub returns-in_err-shown-in-Some-clause-reads_only : goal.returns-in_err-shown-in-Some-clause-reads_only
 returns-in_err-shown-in-Some-clause-reads_only g c =
-    look_fails (state g.S.Store c.args.conn.now) (state g.S.Store c.record.new.conn) (state g.S.Store c.is_entry_shown.new.conn) c.from_residual-in_err-shown-in-Some.result c.from_residual-in_err-shown-in-Some.ensures.0 c.in_ok-found.ensures.reads_only c.in_err-shown-in-Some.ensures.reads_only
+    look_fails (state g.S.Store c.args.conn.now) (state g.S.Store c.record.new.conn) (state g.S.Store c.is_found_entry_shown.new.conn) c.from_residual-in_err-shown-in-Some.result c.from_residual-in_err-shown-in-Some.ensures.0 c.in_ok-found.ensures.reads_only c.in_err-shown-in-Some.ensures.reads_only
 
 pub returns-in_ok-shown-in-Some-clause-reads_only : goal.returns-in_ok-shown-in-Some-clause-reads_only
 returns-in_ok-shown-in-Some-clause-reads_only g c =
     let a = state g.S.Store c.args.conn.now in
-    let d = state g.S.Store c.is_entry_shown.new.conn in
+    let d = state g.S.Store c.is_found_entry_shown.new.conn in
     let caller = c.args.caller in
     let n = c.args.number in
     let t = c.args.at in
@@ -28,7 +28,7 @@ returns-in_ok-shown-in-Some-clause-reads_only g c =
     (λ clean same is shown moments h held r premise stands.
     let have = have_members c.soundness_by_number.ensures r premise in
     let there = sym c.in-Some.is ∙ is moments h held r have stands in (
-      subst (λ (now : Database). ReadsPart (λ r. shows_entry (interest_at r caller entry.unit) caller.party entry) t now.trees c.in_ok-shown-in-Some.shown) same shown moments h held r have stands
+      subst (λ (now : Database). IsShownIfFound caller entry t now.trees c.in_ok-shown-in-Some.shown) same shown n (λ moments h held r have stands. sym c.in-Some.is ∙ is moments h held r have stands) moments h held r have stands
           ∙ ap (λ o. option_map_or (λ (e : RrrRecord). shows_entry (interest_at r caller e.unit) caller.party e) o false) there,
       found_told r caller Rrr n _ _ c.cached_object.ensures (c.shown.ensures r there),
     ))
