@@ -33,7 +33,8 @@ CALLER = [f"ROLES_OF_PARTY $1 {LAST}"]                                          
 GROUPS = of_circle("own/GROUPS")                                                                    # interest::read_names, of a citizen
 PARTIES = of_circle("own/ITSELF", "own/GROUPS", "holder/PARTIES", "group/PARTIES")                  # sight::SightQuery, of a citizen
 UNIT = ["ENTRIES_OF_UNIT $2 now"]                                                                   # interest::read_shown_unit
-ENTRY = ["ENTRY $2 now", "ENTRIES_OF_UNIT ENTRY.unit now"]                                          # interest::read_shown_entry
+OWN = ["ENTRY $2 now"]                                                                              # interest::is_found_entry_shown
+ENTRY = [*OWN, "ENTRIES_OF_UNIT ENTRY.unit now"]                                                    # interest::read_shown_entry
 NAMING = ["MUTATION $2 now", "ENTRIES_OF_UNIT $3 now"]                                              # mutation::read_shown_mutation
 AWAITED = ["LODGERS_ON_UNIT $2 now"]                                                                # lodgers::has_pending_mutation_on
 RECORD = ["UNIT $2 now"]                                                                            # view::read_unit_record
@@ -50,15 +51,15 @@ READS = {
     ("citizen", "list visible parties"): PARTIES,                                             # SightQuery
     ("citizen", "view a visible party"): [                                                    # party::is_party_visible, ObjectQuery
         *GROUPS, "VIEWERS_BY_HOLDING $2 now", "PARTY $2 now", "ROLES_OF_PARTY $2 now", "MEMBERS_OF_GROUP $2 now"],
-    ("citizen", "view a visible entry"): [*ENTRY, *GROUPS],                                   # interest::read_shown_entry
+    ("citizen", "view a visible entry"): OWN,                                                 # interest::read_shown_entry
     ("citizen", "view a denied entry"): [*ENTRY, *GROUPS],                                    # interest::read_shown_entry
     ("citizen", "view a parcel"): ["PARCEL $2 now"],                                          # view::read_object
-    ("citizen", "view own unit"): [*UNIT, *GROUPS, *RECORD],                                  # interest::is_unit_shown, ObjectQuery
-    ("citizen", "own title sheet"): [*UNIT, *GROUPS, *RECORD, *PARCELS, *NAMES],              # interest::read_shown_unit, UnitViewQuery
+    ("citizen", "view own unit"): [*UNIT, *RECORD],                                           # interest::is_unit_shown, ObjectQuery
+    ("citizen", "own title sheet"): [*UNIT, *RECORD, *PARCELS, *NAMES],                       # interest::read_shown_unit, UnitViewQuery
     ("citizen", "denied title sheet"): [*UNIT, *GROUPS],                                      # interest::read_shown_unit
     ("bank", "list visible units"): ["creditor/UNITS $1 now"],                                # SightQuery
     ("bank", "list visible entries"): ["creditor/ENTRIES $1 now"],                            # SightQuery
-    ("bank", "view own mortgage"): ENTRY,                                                     # interest::read_shown_entry
+    ("bank", "view own mortgage"): OWN,                                                       # interest::read_shown_entry
     ("bank", "view a denied entry"): ENTRY,                                                   # interest::read_shown_entry
     ("bank", "title sheet"): [*UNIT, *RECORD, *PARCELS, *NAMES],                              # interest::read_shown_unit, UnitViewQuery
     ("bank", "view an entry, mortgages on all other units"): ENTRY,                           # interest::read_shown_entry
