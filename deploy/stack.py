@@ -124,7 +124,8 @@ class Stack:
             if old not in text:
                 raise SystemExit(f"{name} does not contain {old!r}")
             text = text.replace(old, new)
-        for old, new in (("/etc/land/", self.path("etc") + "/"), ("/run/land/", self.path("run") + "/"),
+        for old, new in (("/etc/land/", self.path("etc") + "/"), ("/var/lib/land-digest/", self.path("digests") + "/"),
+                         ("/run/land/", self.path("run") + "/"),
                          ("/var/log/land/", self.path("log") + "/"), ("/usr/share/land/page", self.path("page")),
                          ("listen 443 ", f"listen 127.0.0.1:{self.gateway_port} "),
                          (f":{REGISTER_PORT} ", f":{self.recorder_port or self.register_port} ")):
