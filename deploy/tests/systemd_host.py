@@ -47,6 +47,9 @@ mount --bind run/old run/old
 pivot_root . run/old
 umount -l /run/old
 cd /
+# systemd mounts a unit's credentials in a namespace of their own, so without propagation no unit would see them. On a host of its own systemd
+# does this itself.
+mount --make-rshared /
 export container=namespaces SYSTEMD_UNIT_PATH=/etc/systemd/system:/run/systemd/system:/run/base SYSTEMD_GENERATOR_PATH=/run/none
 exec /lib/systemd/systemd --unit=multi-user.target --show-status=0
 """
