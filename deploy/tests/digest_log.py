@@ -15,7 +15,7 @@ import tempfile
 import time
 
 from harness import check, note
-from stack import DEPLOY, ROOT
+from stack import DEPLOY, ROOT, TOP
 
 SCRIPT, BACKUP = os.path.join(DEPLOY, "land-digest-log"), os.path.join(DEPLOY, "land-backup")
 OFFICE = {"Register-Party": "1", "Register-Role": "stateAdministrator"}
@@ -322,7 +322,7 @@ MUTANTS = [
     ("no comparison with the file", '[ -z "$file" ] || compare_file', ":", "verify: a changed past"),
     ("only the newest record is compared", 'head -n "$newest_only" >', "head -n 1 >", "verify: only the first record differs"),
     ("the newest record is not compared", 'head -n "$newest_only" >', "tail -n +2 >", "verify: only the last record differs"),
-    ("a file that lacks acts", '[ -n "$older" ] || fail 17', "true || fail 17", "verify: an older copy"),
+    ("a file that lacks acts", '[ -n "$older" ] ||\n', "true ||\n", "verify: an older copy"),
     ("digests up to now", "${1:+--at", "${9:+--at", "verify: the register"),
     ("no comparison with the stored digest", '[ ! -e "$copies/$newest/copy.digest" ]', "true", "append: not the stored digest"),
     ("no check of a copy that differs", '[ ! -e "$copies/$newest/copy.digest.differs" ]', "true", "append: a copy that differs"),
@@ -332,7 +332,7 @@ MUTANTS = [
     ("no check of the clock", '[ "$(printf', ': "$(printf', "append: a newest record of the future"),
     ("no comparison with the log", "        find_continued\n", "        continued=$last\n", "append: a changed past"),
     ("always after a restore", '[ -n "$restored" ] ||\n', "true ||\n", "append: after a restore"),
-    ("no check of the own signature", "has_valid_signature || fail 13", "true || fail 13", "append: a key that is not in the list"),
+    ("no check of the own signature", "    has_valid_signature ||\n        fail 13", "    true ||\n        fail 13", "append: a key that is not in the list"),
 ]
 
 
@@ -365,7 +365,7 @@ def check_interruptions(office):
         check("zeros after a power failure are removed", ran[0] == 0 and other.lines()[:6] == lines and other.log("verify")[0] == 0, ran)
         mutant = os.path.join(folder, "mutant.sh")
         with open(mutant, "w", encoding="utf-8") as sink:
-            sink.write(script_text.replace("&& has_valid_signature; then", "&& false; then"))
+            sink.write(script_text.replace("        has_valid_signature; then", "        false; then"))
         other.write([*lines[:-1], last[:-1]])
         ran = Office(other.program, other.folder, mutant).log("append")
         check("mutant of the script 'a complete record is removed' is killed", ran[0] == 0 and other.lines()[:6] != lines, ran)
@@ -466,6 +466,38 @@ def check_restored(office, older_file):
         check("show marks it", len(shown) == 7 and shown[6].endswith("(restored: continues record 4)") and "digest: " in shown[0], shown)
 
 
+def commands_of(heading):
+    """Returns the code blocks of a section of DEPLOY.md, without curl: the files exist."""
+    with open(os.path.join(TOP, "docs", "DEPLOY.md"), encoding="utf-8") as source:
+        part = re.search(rf"(?ms)^### {heading}\n(.*?)(?=^#|\Z)", source.read())[1]
+    blocks = [re.findall(r"(?m)^    (.*)", it) for it in re.findall(r"(?m)(?:^    .*\n)+", part)]
+    return [[it for it in block if not it.startswith("curl ")] for block in blocks]
+
+
+def check_commands(office):
+    """Runs the commands with which DEPLOY.md compares, in a folder with the files that a citizen, a court or another office has."""
+    with tempfile.TemporaryDirectory(prefix="land-digest-") as folder:
+        lines, newest = office.lines(), sorted(os.listdir(office.path("copies")))[-1]
+        for name, text in (("north.log", "".join(lines)), ("earlier.log", "".join(lines[:4])), ("truncated.log", "".join(lines[:3]))):
+            with open(os.path.join(folder, name), "w", encoding="ascii") as sink:
+                sink.write(text)
+        shutil.copy(office.path("signers"), os.path.join(folder, "north.signers"))
+        shutil.copytree(office.path("copies"), os.path.join(folder, "copies"))
+        shutil.copytree(office.path("copies/" + newest), folder, dirs_exist_ok=True)
+        os.symlink(SCRIPT, os.path.join(folder, "land-digest-log"))
+        ran, statuses = None, []
+        for block in commands_of("Compare"):
+            text = "\n".join(block).replace(" north ", f" {NAME} ")
+            ran = subprocess.run(["bash", "-e", "-c", text], capture_output=True, text=True, cwd=folder,
+                                 env={**os.environ, "LAND": office.program, "PATH": folder + ":" + os.environ["PATH"]})
+            statuses.append(ran.returncode)
+            check("DEPLOY.md: " + block[-1], ran.returncode == 0, ran)
+        check("there are five blocks of commands", len(statuses) == 5, statuses)
+        shutil.copy(os.path.join(folder, "truncated.log"), os.path.join(folder, "north.log"))
+        ran = subprocess.run(["bash", "-c", "\n".join(commands_of("Compare")[2])], capture_output=True, text=True, cwd=folder)
+        check("without the script a truncated log is found", ran.returncode != 0 and "EOF" in ran.stderr, ran)
+
+
 def ask(stack, target, method="GET"):
     """Sends a request over TLS without a password."""
     link = http.client.HTTPSConnection("127.0.0.1", stack.gateway_port, context=ssl._create_unverified_context(), timeout=40)
@@ -559,6 +591,7 @@ def check_log(stack, small):
         check(name, not faults, faults)
     check_mutants(office, known)
     check_restored(office, os.path.join(older, "copy.land"))
+    check_commands(office)
     check_interruptions(office)
     check_full_disk(office)
     check_at_once(office)
