@@ -1,5 +1,5 @@
-"""The signed log of digests (land-digest-log), used by the test `digest`: what it verifies, appends, repairs and publishes. Each case has its
-exit status; each mutant of the script's checks must change the status of its case."""
+"""The signed log of digests (land-digest-log), used by the test `digest`: verification, appends, repairs and
+publication. Each case has its exit status; each mutant of the script's checks must change that of its case."""
 import hashlib
 import http.client
 import json
@@ -42,13 +42,21 @@ class Office:
 
     def log(self, command, *options, **environment):
         """Runs land-digest-log and returns its status and output."""
-        ran = subprocess.run(self.words(command, *options), capture_output=True, text=True, env={**os.environ, "LAND": self.program, **environment})
+        ran = subprocess.run(self.words(command, *options), capture_output=True, text=True,
+                             env={**os.environ, "LAND": self.program, **environment})
         return ran.returncode, (ran.stdout + ran.stderr).strip()
 
     def backup(self, file):
         ran = subprocess.run(["sh", BACKUP, file, self.path("copies"), "1000"], capture_output=True, text=True,
                              env={**os.environ, "LAND": self.program})
         return ran.returncode, (ran.stdout + ran.stderr).strip()
+
+    def bytes(self):
+        """Returns the log, or None without one."""
+        if not os.path.exists(self.path("log")):
+            return None
+        with open(self.path("log"), "rb") as source:
+            return source.read()
 
     def lines(self):
         with open(self.path("log"), encoding="ascii") as source:
@@ -60,8 +68,8 @@ class Office:
 
     def signed(self, fields, space="land-digest"):
         """Returns a record of the given fields, signed with the office's key."""
-        ran = subprocess.run(["ssh-keygen", "-q", "-Y", "sign", "-f", self.path("key"), "-n", space], input=" ".join(fields) + "\n",
-                             capture_output=True, text=True, check=True)
+        ran = subprocess.run(["ssh-keygen", "-q", "-Y", "sign", "-f", self.path("key"), "-n", space],
+                             input=" ".join(fields) + "\n", capture_output=True, text=True, check=True)
         return " ".join(fields) + " " + "".join(ran.stdout.splitlines()[1:-1]) + "\n"
 
     def chained(self, records, space="land-digest"):
@@ -139,8 +147,10 @@ MANIPULATIONS = {
     "two records exchanged": (11, lambda office, log: log[:2] + [log[3], log[2]] + log[4:]),
     "a repeated record": (11, lambda office, log: log + [log[5]]),
     "a repeated record, renumbered": (12, lambda office, log: renumbered(log + [log[5]])),
-    "the hash of the previous record, signed again": (12, lambda office, log: log[:5] + [office.signed([*fields(log[5])[:6], "0" * 64])]),
-    "a changed digest, signed again": (12, lambda office, log: log[:2] + [office.signed([*fields(log[2])[:5], "0" * 64, fields(log[2])[6]])] + log[3:]),
+    "the hash of the previous record, signed again": (12, lambda office, log: [
+        *log[:5], office.signed([*fields(log[5])[:6], "0" * 64])]),
+    "a changed digest, signed again": (12, lambda office, log: [
+        *log[:2], office.signed([*fields(log[2])[:5], "0" * 64, fields(log[2])[6]]), *log[3:]]),
     "an earlier time, signed again": (11, lambda office, log: insider(office, log, 5, 3, "2020-01-01T00:00:00Z")),
     "an earlier stamp, signed again": (11, lambda office, log: insider(office, log, 5, 5, "1")),
     "continues itself, signed again": (11, lambda office, log: insider(office, log, 5, 2, "6")),
@@ -163,22 +173,23 @@ class Case:
     """One run of the script in a folder of its own: `prepare` changes the folder, and the status must be the expected one."""
 
     def __init__(self, status, command, *options, prepare=None, part="", **environment):
-        self.status, self.command, self.options, self.prepare, self.part, self.environment = status, command, options, prepare, part, environment
+        self.status, self.command, self.options, self.prepare = status, command, options, prepare
+        self.part, self.environment = part, environment
 
     def faults(self, base, script=None):
         with tempfile.TemporaryDirectory(prefix="land-digest-") as folder:
             office = base.clone(os.path.join(folder, "office"), script)
             stop = self.prepare(office) if self.prepare else None
-            before = office.path("log") and os.path.exists(office.path("log")) and open(office.path("log"), "rb").read()
+            before = office.bytes()
             options = [it.replace("@", office.folder + "/") for it in self.options]
             ran = office.log(self.command, *options, **self.environment)
-            after = os.path.exists(office.path("log")) and open(office.path("log"), "rb").read()
+            after = office.bytes()
             if stop:
                 stop()
         found = [] if ran[0] == self.status and self.part in ran[1] else [f"status {ran[0]}, not {self.status}: {ran[1]}"]
         if ran[0] and not ran[1].splitlines()[-1:][0].startswith("land-digest-log: "):
             found.append("no message of one line: " + ran[1])
-        if before is not False and (self.command != "append" or ran[0]) and before != after:
+        if before is not None and (self.command != "append" or ran[0]) and before != after:
             found.append("the log was changed")
         return found
 
@@ -240,7 +251,8 @@ def restore(office):
 def cases(older):
     """Returns the cases by name. `older` is the name of the fourth copy."""
     changed_past = "UPDATE party SET name = 'Eva' WHERE number = 2"
-    found = {f"verify: {name}": Case(status, "verify", prepare=manipulated(make)) for name, (status, make) in MANIPULATIONS.items()}
+    found = {f"verify: {name}": Case(status, "verify", prepare=manipulated(make))
+             for name, (status, make) in MANIPULATIONS.items()}
     newest = "--file", "@newest.land"
     found |= {
         "verify: another key": Case(13, "verify", prepare=lambda office: (other_key(office), office.write(office.chained(
@@ -268,7 +280,8 @@ def cases(older):
         "verify: only the first record differs": Case(15, "verify", *newest, prepare=manipulated(
             lambda office, log: insider(office, log, 0, 6, flipped))),
         "verify: an older copy": Case(17, "verify", "--file", f"@copies/{older}/copy.land", part="record 6 "),
-        "verify: an older copy, as such": Case(0, "verify", "--file", f"@copies/{older}/copy.land", "--older", part="4 of 6 records"),
+        "verify: an older copy, as such": Case(0, "verify", "--file", f"@copies/{older}/copy.land", "--older",
+                                               part="4 of 6 records"),
         "verify: a file that is missing": Case(3, "verify", "--file", "@none"),
         "verify: a file that is not a register": Case(4, "verify", "--file", "@signers"),
         "append": Case(0, "append"),
@@ -283,27 +296,39 @@ def cases(older):
         "append: locked": Case(7, "append", prepare=hold_lock, LOCK_SECONDS="1"),
         "append: a log of another kind": Case(10, "append", prepare=overwrite("log", b"hello\n")),
         "append: a removed record": Case(11, "append", prepare=manipulated(lambda office, log: log[:2] + log[3:])),
-        "append: a manipulated last record": Case(13, "append", prepare=manipulated(lambda office, log: changed(log, 5, 6, flipped)), part="record 6"),
+        "append: a manipulated last record": Case(13, "append", prepare=manipulated(
+            lambda office, log: changed(log, 5, 6, flipped)), part="record 6"),
         "append: a newest record of the future": Case(11, "append", prepare=manipulated(
             lambda office, log: insider(office, log, 5, 3, "2099-01-01T00:00:00Z")), part="clock"),
-        "append: a changed past": Case(15, "append", prepare=lambda office: with_past(office, changed_past), part="has changed its past"),
-        "append: another register": Case(15, "append", "--restored", prepare=lambda office: with_past(office, changed_past), part="no record"),
+        "append: a changed past": Case(15, "append", prepare=lambda office: with_past(office, changed_past),
+                                       part="has changed its past"),
+        "append: another register": Case(15, "append", "--restored",
+                                         prepare=lambda office: with_past(office, changed_past), part="no record"),
         "append: a copy that differs": Case(15, "append", prepare=overwrite("NEWEST/copy.digest.differs", b""), part="differs"),
         "append: after a restore": Case(15, "append", prepare=restore, part="--restored"),
         "append: after a restore, stated": Case(0, "append", "--restored", prepare=restore, part="records 5 to 6 are not"),
     }
-    for words in ([], ["bogus", NAME], ["verify"], ["verify", "../x"], ["verify", "North"], ["verify", NAME, "--key"], ["verify", NAME, "--restored", "1"],
-                  ["append", NAME, "--file", "x"], ["verify", NAME, "--newest", "0"], ["verify", NAME, "--newest", "x"],
-                  ["verify", NAME, "--max-age", "-1"], ["verify", NAME, "--older"], ["verify", NAME, "more"]):
-        ran = subprocess.run(["sh", SCRIPT, *words], capture_output=True, text=True)
-        check(f"arguments {' '.join(words)!r}", ran.returncode == 2 and "usage: land-digest-log keygen" in ran.stderr and not ran.stdout, ran)
     return found
+
+
+# Arguments that the script must reject with its usage.
+WRONG_ARGUMENTS = ["", "bogus town", "verify", "verify ../x", "verify North", "verify town --key", "verify town --restored 1",
+                   "append town --file x", "verify town --newest 0", "verify town --newest x", "verify town --max-age -1",
+                   "verify town --older", "verify town more"]
+
+
+def check_arguments():
+    for words in WRONG_ARGUMENTS:
+        ran = subprocess.run(["sh", SCRIPT, *words.split()], capture_output=True, text=True)
+        is_usage = ran.returncode == 2 and "usage: land-digest-log keygen" in ran.stderr and not ran.stdout
+        check(f"arguments {words!r}", is_usage, ran)
 
 
 # Mutants of the script: a name, the replacement, and the case that must fail.
 MUTANTS = [
     ("no check of the characters", "$8 !~ /^[A-Za-z0-9+\\/]+=*$/", "0", "verify: NUL"),
-    ("no check of the last line feed", '''|| [ "$(tail -c 1 "$1" | od -An -tu1 | tr -d ' ')" = 10 ]''', "|| true", "verify: an incomplete line"),
+    ("no check of the last line feed", '''|| [ "$(tail -c 1 "$1" | od -An -tu1 | tr -d ' ')" = 10 ]''', "|| true",
+     "verify: an incomplete line"),
     ("no check of spaces", '        $0 != $1 " " $2', '        0 && $0 != $1 " " $2', "verify: a second space"),
     ("no check of the time", "!is_time($3) ||", "", "verify: a date that is not one"),
     ("no check of the name", '$4 "" != name ""', "0", "verify: another register, signed again"),
@@ -313,7 +338,8 @@ MUTANTS = [
     ("no check of the order of time", '$3 "" < last "" {', "0 {", "verify: an earlier time, signed again"),
     ("no check of the order of stamps", "NR > 1 && $5 + 0 < stamp[$2 + 0] {", "0 {", "verify: an earlier stamp, signed again"),
     ("no check of the chain", '[ "$previous" = "$hash" ]', "true", "verify: a changed digest, signed again"),
-    ("no check of signatures", '|| has_valid_signature || signature_error\n        progress', "|| true\n        progress", "verify: the last digest"),
+    ("no check of signatures", '|| has_valid_signature || signature_error\n        progress', "|| true\n        progress",
+     "verify: the last digest"),
     ("any key", "ssh-keygen -Y verify -f", "ssh-keygen -Y check-novalidate -f", "verify: another key"),
     ("the key's period at the time of the check", ''' -O "verify-time=$(echo "$time" | tr -d ':T-')"''', ' -O "verify-time=20190101"',
      "verify: a key that has expired"),
@@ -328,11 +354,13 @@ MUTANTS = [
     ("no check of a copy that differs", '[ ! -e "$copies/$newest/copy.digest.differs" ]', "true", "append: a copy that differs"),
     ("no lock", 'flock -w "$LOCK_SECONDS" 9', "true", "append: locked"),
     ("no check of the log before an append", '    check_records "$log"\n', "", "append: a removed record"),
-    ("no check of the last signature", "        has_valid_signature || signature_error\n", "", "append: a manipulated last record"),
+    ("no check of the last signature", "        has_valid_signature || signature_error\n", "",
+     "append: a manipulated last record"),
     ("no check of the clock", '[ "$(printf', ': "$(printf', "append: a newest record of the future"),
     ("no comparison with the log", "        find_continued\n", "        continued=$last\n", "append: a changed past"),
     ("always after a restore", '[ -n "$restored" ] ||\n', "true ||\n", "append: after a restore"),
-    ("no check of the own signature", "    has_valid_signature ||\n        fail 13", "    true ||\n        fail 13", "append: a key that is not in the list"),
+    ("no check of the own signature", "    has_valid_signature ||\n        fail 13", "    true ||\n        fail 13",
+     "append: a key that is not in the list"),
 ]
 
 
@@ -343,12 +371,14 @@ def check_mutants(office, known):
         with tempfile.NamedTemporaryFile("w", suffix=".sh") as script:
             script.write(text.replace(old, new))
             script.flush()
-            check(f"mutant of the script '{name}' is killed", text.count(old) >= 1 and known[case].faults(office, script.name), (text.count(old), case))
+            check(f"mutant of the script '{name}' is killed", old in text and known[case].faults(office, script.name), case)
 
 
 def check_interruptions(office):
     """An append that was killed must leave a log that verifies or that the next append repairs, with all earlier records."""
-    lines, script_text = office.lines(), open(SCRIPT, encoding="utf-8").read()
+    lines = office.lines()
+    with open(SCRIPT, encoding="utf-8") as source:
+        script_text = source.read()
     last, whole = lines[-1], "".join(lines)
     with tempfile.TemporaryDirectory(prefix="land-digest-") as folder:
         other, wrong = office.clone(os.path.join(folder, "office")), []
@@ -362,7 +392,8 @@ def check_interruptions(office):
         check(f"{len(cuts)} incomplete records are repaired, and only a complete one stays", not wrong, wrong)
         other.write([whole, "\0" * 50])
         ran = other.log("append")
-        check("zeros after a power failure are removed", ran[0] == 0 and other.lines()[:6] == lines and other.log("verify")[0] == 0, ran)
+        check("zeros after a power failure are removed", ran[0] == 0 and other.lines()[:6] == lines
+              and other.log("verify")[0] == 0, ran)
         mutant = os.path.join(folder, "mutant.sh")
         with open(mutant, "w", encoding="utf-8") as sink:
             sink.write(script_text.replace("        has_valid_signature; then", "        false; then"))
@@ -380,8 +411,8 @@ def check_kills(office, count=40):
     for _ in range(count):
         with open(office.path("log"), "rb") as source:
             before = source.read()
-        process = subprocess.Popen(office.words("append"), env={**os.environ, "LAND": office.program}, start_new_session=True, stdout=subprocess.DEVNULL,
-                                   stderr=subprocess.DEVNULL)
+        process = subprocess.Popen(office.words("append"), env={**os.environ, "LAND": office.program}, start_new_session=True,
+                                   stdout=subprocess.DEVNULL, stderr=subprocess.DEVNULL)
         time.sleep(chance.random() * 1.3 * took)
         try:
             os.killpg(process.pid, signal.SIGKILL)
@@ -395,7 +426,8 @@ def check_kills(office, count=40):
             wrong.append((before[-300:], after[-300:]))
     ran, verified = office.log("append"), office.log("verify")
     check(f"{count} killed appends lose no record", not wrong and ran[0] == 0 and verified[0] == 0, (wrong, ran, verified))
-    note(f"{count} appends killed within {1.3 * took:.2f} s: {len(office.lines()) - 8} records were appended, {torn} were incomplete")
+    note(f"{count} appends killed within {1.3 * took:.2f} s: {len(office.lines()) - 8} records were appended, "
+         f"{torn} were incomplete")
 
 
 FULL = """
@@ -421,7 +453,8 @@ def full_disk_output(office, script):
         record = len(other.lines()[-1])
         while os.path.getsize(other.path("log")) + record <= 4096:     # so that only a part of the next record fits in a page
             other.log("append")
-        words = ["unshare", "--mount", "--propagation=private", "bash", "-c", FULL, "full", mounted, other.path("log"), script, other.folder]
+        words = ["unshare", "--mount", "--propagation=private", "bash", "-c", FULL, "full", mounted, other.path("log"), script,
+                 other.folder]
         ran = subprocess.run(words, capture_output=True, text=True, env={**os.environ, "LAND": office.program})
         return ran.stdout + ran.stderr
 
@@ -439,19 +472,20 @@ def check_full_disk(office):
         script.write(text.replace('truncate -s "$size" "$log"', ":"))
         script.flush()
         found = full_disk_output(office, script.name)
-        check("mutant of the script 'a partial record stays' is killed", "full: 6\n" in found and "\nunchanged\n" not in found, found)
+        check("mutant of the script 'a partial record stays' is killed",
+              "full: 6\n" in found and "\nunchanged\n" not in found, found)
 
 
 def check_at_once(office, script=SCRIPT):
     """Appends eight records at the same time."""
     with tempfile.TemporaryDirectory(prefix="land-digest-") as folder:
         other = office.clone(os.path.join(folder, "office"))
-        all_at_once = [subprocess.Popen(other.words("append"), env={**os.environ, "LAND": other.program}, stdout=subprocess.PIPE, stderr=subprocess.STDOUT,
-                                        text=True) for _ in range(8)]
+        all_at_once = [subprocess.Popen(other.words("append"), env={**os.environ, "LAND": other.program},
+                                        stdout=subprocess.PIPE, stderr=subprocess.STDOUT, text=True) for _ in range(8)]
         output = [(it.communicate()[0], it.returncode) for it in all_at_once]
         verified = other.log("verify")
-    check("eight appends at the same time", all(status == 0 for _, status in output) and verified[0] == 0 and "14 records" in verified[1],
-          (output, verified))
+    check("eight appends at the same time", all(status == 0 for _, status in output) and verified[0] == 0
+          and "14 records" in verified[1], (output, verified))
 
 
 def check_restored(office, older_file):
@@ -463,7 +497,8 @@ def check_restored(office, older_file):
         ran = other.log("verify", "--file", os.path.join(other.folder, os.path.relpath(older_file, office.folder)))
         check("after a restore", ran[0] == 0 and "5 of 5 records" in ran[1] and "2 records are not of its history" in ran[1], ran)
         shown = other.log("show")[1].splitlines()
-        check("show marks it", len(shown) == 7 and shown[6].endswith("(restored: continues record 4)") and "digest: " in shown[0], shown)
+        check("show marks it", len(shown) == 7 and shown[6].endswith("(restored: continues record 4)")
+              and "digest: " in shown[0], shown)
 
 
 def commands_of(heading):
@@ -475,12 +510,12 @@ def commands_of(heading):
 
 
 def check_commands(office):
-    """Runs the commands with which DEPLOY.md compares, in a folder with the files that a citizen, a court or another office has."""
+    """Runs DEPLOY.md's commands that compare, in a folder with the files of a citizen, a court and another office."""
     with tempfile.TemporaryDirectory(prefix="land-digest-") as folder:
         lines, newest = office.lines(), sorted(os.listdir(office.path("copies")))[-1]
-        for name, text in (("north.log", "".join(lines)), ("earlier.log", "".join(lines[:4])), ("truncated.log", "".join(lines[:3]))):
+        for name, count in (("north.log", 6), ("earlier.log", 4), ("truncated.log", 3)):
             with open(os.path.join(folder, name), "w", encoding="ascii") as sink:
-                sink.write(text)
+                sink.writelines(lines[:count])
         shutil.copy(office.path("signers"), os.path.join(folder, "north.signers"))
         shutil.copytree(office.path("copies"), os.path.join(folder, "copies"))
         shutil.copytree(office.path("copies/" + newest), folder, dirs_exist_ok=True)
@@ -521,8 +556,9 @@ def gateway_faults(stack, office):
         for method in ("POST", "PUT", "DELETE"):
             status, text, _ = ask(stack, target, method)
             found += [] if status in (403, 405) and text == b'{"gateway":"refused"}' else [(method, target, status, text)]
-    for target in ("/digests/town.key", "/digests/town.signers/../town.key", "/digests/..%2fdigests%2ftown.key", "/digests/town.key%00.log",
-                   "/digests/none.log", "/digests/", "/digests/town.log/", "/digests/town.logs", "/digests/town.keyxlog", "/digests/.log"):
+    for target in ("/digests/town.key", "/digests/town.signers/../town.key", "/digests/..%2fdigests%2ftown.key",
+                   "/digests/town.key%00.log", "/digests/none.log", "/digests/", "/digests/town.log/",
+                   "/digests/town.logs", "/digests/town.keyxlog", "/digests/.log"):
         status, text, _ = ask(stack, target)
         found += [] if status in (400, 401, 404) and b"PRIVATE" not in text else [(target, status, text[:80])]
     return found
@@ -585,6 +621,7 @@ def check_log(stack, small):
     check("only its owner can read the key", os.stat(office.path("key")).st_mode & 0o777 == 0o600)
     older = fill(stack, office)
     prepare_files(office, small)
+    check_arguments()
     known = cases(os.path.basename(older))
     for name, case in known.items():
         faults = case.faults(office)
