@@ -13,7 +13,7 @@ use land_tables::tables::Tables;
 use sqlite::{Connection, MemStore};
 use std::alloc::Global;
 use std::io;
-use std::io::Read;
+use std::io::{Read, Write};
 use testlib_scenario::calls::{CALLS, Call, Calls, expect_all_outputs, sinks};
 use testlib_scenario::doubles::{ClockReadings, Sink};
 use testlib_scenario::run_scenario::open_sink;
@@ -40,6 +40,22 @@ impl<R: Read> Read for WatchedReader<R> {
     }
 }
 
+/// A writer that may hold any bytes at first.
+#[derive(Drop)]
+struct PlainWriter<W> {
+    writer: W,
+}
+
+impl<W: Write> Write for PlainWriter<W> {
+    fn write(&mut self, buf: &[u8]) -> io::Result<usize> {
+        self.writer.write(buf)
+    }
+
+    fn flush(&mut self) -> io::Result<()> {
+        self.writer.flush()
+    }
+}
+
 /// The number of keys that are ready in each round.
 const KEYS: usize = 8;
 
@@ -55,7 +71,7 @@ struct ManyVisits<L> {
 impl<L: Connections> ConnectionSource for ManyVisits<L> {
     type Reader = WatchedReader<L::Reader>;
 
-    type Writer = L::Writer;
+    type Writer = PlainWriter<L::Writer>;
 
     ghost coming = { λ it. L.Connections.coming it.visits };
 
@@ -67,14 +83,17 @@ impl<L: Connections> ConnectionSource for ManyVisits<L> {
         Ok(())
     }
 
-    fn accept(&mut self, _key: usize) -> io::Result<(WatchedReader<L::Reader>, L::Writer)> {
+    fn accept(
+        &mut self,
+        _key: usize,
+    ) -> io::Result<(WatchedReader<L::Reader>, PlainWriter<L::Writer>)> {
         match self.visits.accept_connection() {
             Ok((reader, writer)) => {
                 let watched = WatchedReader {
                     reader,
                     has_failed: false,
                 };
-                Ok((watched, writer))
+                Ok((watched, PlainWriter { writer }))
             }
             Err(error) => Err(error),
         }
@@ -94,16 +113,17 @@ impl<L: Connections> ConnectionSource for ManyVisits<L> {
         &mut self,
         _number: u64,
         reader: WatchedReader<L::Reader>,
-        mut writer: L::Writer,
+        writer: PlainWriter<L::Writer>,
         complete: bool,
     ) {
         let mut inner = reader.reader;
+        let mut output = writer.writer;
         if complete {
-            L::close_connection(&mut inner, &mut writer);
+            L::close_connection(&mut inner, &mut output);
         }
     }
 
-    fn has_failed(reader: &WatchedReader<L::Reader>, _writer: &L::Writer) -> bool {
+    fn has_failed(reader: &WatchedReader<L::Reader>, _writer: &PlainWriter<L::Writer>) -> bool {
         reader.has_failed
     }
 }
