@@ -13,6 +13,8 @@ mod connections;
 #[cfg(test)]
 mod hostile;
 #[cfg(test)]
+mod known;
+#[cfg(test)]
 mod one_run;
 #[cfg(test)]
 mod orders;

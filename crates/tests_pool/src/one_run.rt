@@ -30,7 +30,7 @@ const LAST_NO_MEMORY: &[u8] =
     b"HTTP/1.1 503 Service Unavailable\r\nContent-Type: application/json\r\nContent-Length: 13\r\nConnection: close\r\n\r\n{\"store\":501}";
 
 /// The start of each response for a store fault.
-const STORE_FAULT: &[u8] = b"HTTP/1.1 503 ";
+pub(crate) const STORE_FAULT: &[u8] = b"HTTP/1.1 503 ";
 
 impl Talk {
     /// Returns the bytes of the input.

@@ -1,5 +1,6 @@
 //! Sockets of this process, and a port that serves them at once.
 use crate::conclusion::conclude;
+use crate::one_run::STORE_FAULT;
 use land_desk::serve::serve;
 use land_keep::plain_keeper::PlainKeeper;
 use land_pool::connection_source::ConnectionSource;
@@ -16,6 +17,7 @@ use std::time::{Duration, Instant};
 use std::{io, time};
 use testlib_scenario::calls::{CUT, ENROL, ENROLLED, expect_output};
 use testlib_scenario::doubles::{ChunkReader, ClockReadings, Sink};
+use testlib_scenario::first::ENROL_ANNA_REQUEST;
 use testlib_scenario::run_scenario::open_sink;
 use testlib_scenario::stop::{Stop, expect};
 
@@ -183,6 +185,64 @@ fn a_hundred_clients(rt: &HostRuntime) -> Result<(), Stop> {
 #[test]
 fn a_hundred_clients_get_their_replies(rt: HostRuntime) -> Result<(), Fail> {
     conclude(&rt, a_hundred_clients(&rt))
+}
+
+/// The most replies by which one of two clients with the same input may be ahead of the other.
+const MAX_LEAD: usize = 4;
+
+/// Takes a reply from the front of an output, if it is there.
+fn take_reply(output: &mut &[u8], reply: &[u8]) -> bool {
+    if !output.starts_with(reply) {
+        return false;
+    }
+    *output = output.get(reply.len()..).unwrap_or(&[]);
+    true
+}
+
+/// Checks that the replies of one run went to two clients in turns.
+fn expect_turns(replies: &[Sink], first: &[u8], second: &[u8]) -> Result<(), Stop> {
+    let mut outputs = (first, second);
+    let mut counts: (usize, usize) = (0, 0);
+    for (place, reply) in replies.iter().enumerate() {
+        if take_reply(&mut outputs.0, &reply.taken) {
+            counts.0 = counts.0.saturating_add(1);
+        } else if take_reply(&mut outputs.1, &reply.taken) {
+            counts.1 = counts.1.saturating_add(1);
+        } else if outputs.0.starts_with(STORE_FAULT) || outputs.1.starts_with(STORE_FAULT) {
+            return Err(Stop::Memory);
+        } else {
+            return Err(Stop::Mismatch("a reply", place));
+        }
+        let lead = counts.0.max(counts.1) - counts.0.min(counts.1);
+        let is_fair = lead <= MAX_LEAD || outputs.0.is_empty() || outputs.1.is_empty();
+        expect(is_fair, "the lead", place)?;
+    }
+    Ok(())
+}
+
+/// Checks that two clients which send 50 requests each are served in turns, so that neither has to wait for
+/// the other.
+fn two_floods(rt: &HostRuntime) -> Result<(), Stop> {
+    let alloc = rt.alloc();
+    let mut port = Port::listen(rt, rt, alloc, 0)?;
+    let address = port.local_addr()?;
+    let mut input = Vec::new(alloc);
+    for _request in 0..50u8 {
+        input.extend_from_slice(ENROL_ANNA_REQUEST)?;
+    }
+    let first = connect_and_end(rt, address, &input)?;
+    let second = connect_and_end(rt, address, &input)?;
+    serve_port(alloc, &mut port, 2, 2)?;
+    let replies = replies_in_order(alloc, ENROL_ANNA_REQUEST, 100)?;
+    match (output_of(alloc, &first)?, output_of(alloc, &second)?) {
+        (Some(one), Some(other)) => expect_turns(&replies, &one, &other),
+        _ => Err(Stop::Memory),
+    }
+}
+
+#[test]
+fn two_floods_are_served_in_turns(rt: HostRuntime) -> Result<(), Fail> {
+    conclude(&rt, two_floods(&rt))
 }
 
 /// Checks that the last reply arrives though more bytes were sent than are read before it. `ends`: whether
