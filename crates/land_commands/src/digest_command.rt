@@ -40,8 +40,10 @@ pub fn digest<H: Host, O: Write>(
         (O.contents output.old) (O.contents output.new) result }
 {
     let opened = open_contents(host, file)?;
-    let (_tables, contents) = &opened;
-    let line = digest_line(host.alloc(), contents, at.unwrap_or(LAST_MOMENT))?;
+    let (tables, contents) = opened;
+    // The digest needs only the contents, so the pages of the file are freed before its entries are made.
+    drop(tables);
+    let line = digest_line(host.alloc(), &contents, at.unwrap_or(LAST_MOMENT))?;
     match send(output, line.as_bytes()) {
         Ok(()) => Ok(()),
         Err(_) => Err(ProgramFault::Stream),

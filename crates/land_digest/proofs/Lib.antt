@@ -12,6 +12,7 @@ pub mod Membership
 pub mod NoRepeats
 pub mod OneTable
 pub mod Order
+pub mod Parts
 pub mod Places
 pub mod Prefixes
 pub mod RowOrder

@@ -261,6 +261,11 @@ history_distinct moments h valid = joined_distinct 0 (event_lists moments h) (ar
         (also (distinct_versions is_same_mandate mandate_row
         (by_pairs is_same_mandate mandate_row mandates_by_pairs) h.mandates in_h.mandates) tt))))))))))
 
+-- no two of any selected events have the same place
+pub selected_distinct : (p : Event → Bool) (moments : List Moment) (h : History) → HasIntervals moments h
+    → have_distinct_places (filter p (history_events moments h)) ≡ true
+selected_distinct p moments h valid =
+    distinct_filter p (history_events moments h) (history_distinct moments h valid)
+
 pub events_have_distinct_places : EventsHaveDistinctPlaces
-events_have_distinct_places moments h s valid =
-    distinct_filter (λ e. int_le e.stamp s) (history_events moments h) (history_distinct moments h valid)
+events_have_distinct_places moments h s valid = selected_distinct (λ e. int_le e.stamp s) moments h valid

@@ -1,13 +1,15 @@
 -- The text up to a stamp is a prefix of the text up to a later one.
-use Rattle.std.proofs.Common.{◌≡◌, ℤ, ◌<ℤ◌, ◌≤ℤ◌, int_le, Bool, true, false, cond, List, [], ◌∷◌, ◌++◌}
-use Rattle.std.proofs.Common.{filter, flat_map, refl, sym, ap, ◌∙◌, subst, arith}
+use Rattle.std.proofs.Common.{◌≡◌, ℤ, ◌<ℤ◌, ◌≤ℤ◌, int_le, Bool, true, false, not, ◌&&◌, cond, List, [], ◌∷◌, ◌++◌}
+use Rattle.std.proofs.Common.{Some, filter, refl, sym, ap, ap₂, ◌∙◌, subst, arith}
 use Rattle.std.specs.List.{AllByRecursion}
 use Rattle.std.proofs.lemmas.Int.{ints}
 use Rattle.std.proofs.lemmas.List.Concat.{flat_map-append}
-use Rattle.land_digest.specs.History.{history_events}
+use Rattle.land_digest.specs.History.{history_events, history_text}
 use Rattle.land_digest.specs.Laws.{EarlierTextIsPrefix}
-use Rattle.land_digest.specs.Events.{Event, comes_before, events_upto, in_order, event_line, insert_event}
+use Rattle.land_digest.specs.Events.{Event, comes_before, events_between, events_upto, in_order, event_line, insert_event}
 use Rattle.land_digest.specs.Events.{events_text}
+use Rattle.land_tables_history.specs.declared.history.History.{History}
+use Rattle.land_tables_history.specs.declared.moment.Moment.{Moment}
 use Rattle.std.specs.Ordering.{int_cmp, is_lt, ordering_then}
 use Rattle.std.specs.declared.cmp.Ordering.{Ordering}
 use Rattle.std.specs.declared.cmp.Ordering.TheVariants.{Less, Greater}
@@ -40,10 +42,10 @@ all_put P x (y ∷ xs) p all =
       | false ↦ (all.0, all_put P x xs p all.1)
     ]
 
-le_from : (a b : ℤ) → int_le a b ≡ true → a ≤ℤ b
+pub le_from : (a b : ℤ) → int_le a b ≡ true → a ≤ℤ b
 le_from a b h = grind (arith, ints)
 
-lt_from : (a b : ℤ) → int_le a b ≡ false → b <ℤ a
+pub lt_from : (a b : ℤ) → int_le a b ≡ false → b <ℤ a
 lt_from a b h = grind (arith, ints)
 
 le_true : (a b : ℤ) → a ≤ℤ b → int_le a b ≡ true
@@ -68,6 +70,7 @@ in_order_upto s xs = in_order (events_upto s xs)
 module _ (s t : ℤ) (less : s ≤ℤ t) where
   record Parts (xs : List Event) : Type 0 where
     rest : List Event
+    is : rest ≡ in_order (events_between (Some s) t xs)
     joined : in_order_upto t xs ≡ in_order_upto s xs ++ rest
     low : AllByRecursion (λ (m : Event). m.stamp ≤ℤ s) (in_order_upto s xs)
     high : AllByRecursion (λ (m : Event). s <ℤ m.stamp) rest
@@ -94,13 +97,19 @@ module _ (s t : ℤ) (less : s ≤ℤ t) where
   abbrev with : Bool → ℤ → Event → List Event → List Event
   with b u x xs = in_order (cond b (x ∷ kept u xs) (kept u xs))
 
+  -- the events of the rest, with one more
+  abbrev rest_with : Bool → Bool → Event → List Event → List Event
+  rest_with a b x xs =
+      in_order (cond (b && not a) (x ∷ events_between (Some s) t xs) (events_between (Some s) t xs))
+
   parts : (xs : List Event) → Parts xs
-  parts [] = record { rest = []; joined = refl; low = tt; high = tt }
+  parts [] = record { rest = []; is = refl; joined = refl; low = tt; high = tt }
   parts (x ∷ xs) = go (int_le x.stamp s) (int_le x.stamp t) refl refl (parts xs)
     where
       go : (a b : Bool) → int_le x.stamp s ≡ a → int_le x.stamp t ≡ b → Parts xs → Parts (x ∷ xs)
       go true true is_s is_t p = record {
         rest = p.rest;
+        is = p.is ∙ ap₂ (λ a b. rest_with a b x xs) (sym is_s) (sym is_t);
         joined =
             ap (λ b. with b t x xs) is_t ∙ ap (insert_event x) p.joined
             ∙ before_all x (in_order_upto s xs) p.rest (highs x p.rest (le_from x.stamp s is_s) p.high)
@@ -115,6 +124,7 @@ module _ (s t : ℤ) (less : s ≤ℤ t) where
           absurd (omega (arith, ints, a, b, less))
       go false true is_s is_t p = record {
         rest = insert_event x p.rest;
+        is = ap (insert_event x) p.is ∙ ap₂ (λ a b. rest_with a b x xs) (sym is_s) (sym is_t);
         joined =
             ap (λ b. with b t x xs) is_t ∙ ap (insert_event x) p.joined
             ∙ past_all x (in_order_upto s xs) p.rest
@@ -125,10 +135,22 @@ module _ (s t : ℤ) (less : s ≤ℤ t) where
       }
       go false false is_s is_t p = record {
         rest = p.rest;
+        is = p.is ∙ ap₂ (λ a b. rest_with a b x xs) (sym is_s) (sym is_t);
         joined = ap (λ b. with b t x xs) is_t ∙ p.joined ∙ ap (λ b. with b s x xs ++ p.rest) (sym is_s);
         low = subst (λ b. AllByRecursion (λ (m : Event). m.stamp ≤ℤ s) (with b s x xs)) (sym is_s) p.low;
         high = p.high;
       }
+
+-- the text up to a later stamp is the text up to an earlier one, and the lines between them
+pub text_continues : (moments : List Moment) (h : History) (s t : ℤ) → s ≤ℤ t
+    → history_text moments h s ++ events_text (in_order (events_between (Some s) t (history_events moments h)))
+    ≡ history_text moments h t
+text_continues moments h s t less =
+    let all = history_events moments h in
+    let p = parts s t less all in
+    sym (ap events_text p.joined
+    ∙ flat_map-append event_line (in_order_upto s all) p.rest
+    ∙ ap (λ l. history_text moments h s ++ events_text l) p.is)
 
 pub earlier_text_is_prefix : EarlierTextIsPrefix
 earlier_text_is_prefix moments h s t less =

@@ -1,5 +1,7 @@
 -- The events of a history, their order and their text.
-use Rattle.std.specs.Prelude.{ℕ, ℤ, Bool, int_le, List, [], ◌∷◌, filter, flat_map, if◌then◌else◌}
+use Rattle.std.specs.Option.{option_map_or}
+use Rattle.std.specs.Prelude.{ℕ, ℤ, Bool, false, not, ◌&&◌, int_le, List, [], ◌∷◌, filter, flat_map, Option}
+use Rattle.std.specs.Prelude.{if◌then◌else◌}
 use Rattle.std.specs.Ordering.{int_cmp, is_eq, is_lt, nat_cmp, ordering_then}
 use Rattle.std.specs.declared.cmp.Ordering.{Ordering}
 use Rattle.land_core.specs.Entries.{are_distinct}
@@ -46,6 +48,14 @@ have_distinct_places events = are_distinct is_same_place events
 -- the events up to a stamp
 abbrev pub events_upto : ℤ → List Event → List Event
 events_upto s events = filter (λ e. int_le e.stamp s) events
+
+-- a stamp that is after another one, if there is one, and at most a third
+abbrev pub is_between : (after : Option ℤ) → (upto : ℤ) → ℤ → Bool
+is_between after upto s = int_le s upto && not (option_map_or (λ a. int_le s a) after false)
+
+-- the events between two stamps
+abbrev pub events_between : (after : Option ℤ) → (upto : ℤ) → List Event → List Event
+events_between after upto events = filter (λ e. is_between after upto e.stamp) events
 
 -- ---- text: one line per event
 

@@ -5,6 +5,7 @@
 pub mod digest;
 mod entries;
 pub mod entry;
+pub mod exact;
 mod fields;
 pub mod laws;
 mod lines;
