@@ -1,17 +1,18 @@
 #!/usr/bin/env python3
-"""Time per act, and the number of its syncs, on the disk of a folder, for one or more programs.
+"""Time per act, the bytes that it writes and the number of its syncs, on the disk of a folder, for one or more programs and page sizes.
 
-    bench/acts.py [--acts N] FOLDER PROGRAM [PROGRAM..]      (1000)
+    bench/acts.py [--acts N] [--page-size SIZE].. FOLDER PROGRAM [PROGRAM..]      (1000, 4096)
 
-For each program a new register is served from a file in the folder. One client enrols N parties on a keep-alive connection, one request
-after another. The programs take turns in rounds of N / 10 enrolments, so that a slow minute of the disk meets all of them. It prints for
-each program the median and the minimum of the ten rounds, in milliseconds per act, and by `strace`, if it is installed, the number of
-calls of fdatasync for 20 more enrolments.
+For each program and page size a new register is served from a file in the folder. One client enrols N parties on a keep-alive connection,
+one request after another. The registers take turns in rounds of N / 10 enrolments, so that a slow minute of the disk meets all of them. It
+prints for each of them the median and the minimum of the ten rounds, in milliseconds per act, the bytes that the program writes per act to
+the file, its log and the connection, and by `strace`, if it is installed, the number of calls of fdatasync for 20 more enrolments.
 """
 import argparse
 import http.client
 import json
 import os
+import re
 import shutil
 import socket
 import statistics
@@ -19,6 +20,8 @@ import subprocess
 import sys
 import tempfile
 import time
+
+import registers
 
 OFFICE = {"Register-Party": "1", "Register-Role": "stateAdministrator"}
 ROUNDS = 10
@@ -33,10 +36,10 @@ def free_port():
 class Register:
     """A new register that a program serves from a file, and a keep-alive connection to it."""
 
-    def __init__(self, program, folder, *tracer):
-        self.program, self.port = program, free_port()
+    def __init__(self, program, page_size, folder, *tracer):
+        self.program, self.page_size, self.port = program, page_size, free_port()
         file = os.path.join(folder, f"{self.port}.land")
-        subprocess.run([program, "new", "--file", file], check=True)
+        registers.new(program, file, page_size)
         words = [*tracer, program, "serve", "--file", file, "--port", str(self.port), "--connections", "1"]
         self.service = subprocess.Popen(words)
         for _ in range(600):
@@ -62,17 +65,22 @@ class Register:
                 raise SystemExit(f"acts: {self.program}: {text.decode()}")
         return time.perf_counter() - start
 
+    def written(self):
+        """Returns the number of bytes that the program has written so far."""
+        with open(f"/proc/{self.service.pid}/io", encoding="ascii") as it:
+            return int(re.search(r"(?m)^wchar: (\d+)$", it.read())[1])
+
     def end(self):
         self.client.close()
         self.service.wait(30)
 
 
-def count_syncs(program, folder, acts):
+def count_syncs(program, page_size, folder, acts):
     """Returns the number of syncs of a register that executes a number of enrolments, or None without strace."""
     if not shutil.which("strace"):
         return None
     trace = os.path.join(folder, "syncs")
-    register = Register(program, folder, "strace", "-f", "-e", "trace=fdatasync,fsync", "-o", trace)
+    register = Register(program, page_size, folder, "strace", "-f", "-e", "trace=fdatasync,fsync", "-o", trace)
     register.enrol(acts)
     register.end()
     with open(trace) as lines:
@@ -82,23 +90,27 @@ def count_syncs(program, folder, acts):
 def main():
     options = argparse.ArgumentParser(description=__doc__, formatter_class=argparse.RawDescriptionHelpFormatter)
     options.add_argument("--acts", type=int, default=1000, help="enrolments for each program (1000)")
+    options.add_argument("--page-size", type=int, action="append", metavar="SIZE", help="bytes of a page of the files, repeatable (4096)")
     options.add_argument("folder")
     options.add_argument("programs", nargs="+", metavar="PROGRAM")
     wanted = options.parse_args()
     each = max(1, wanted.acts // ROUNDS)
     with tempfile.TemporaryDirectory(dir=wanted.folder) as folder:
-        registers = [Register(os.path.abspath(it), folder) for it in wanted.programs]
-        times = {it: [] for it in registers}
-        for it in registers:
+        sides = [Register(os.path.abspath(it), size, folder) for it in wanted.programs for size in wanted.page_size or [registers.PAGE_SIZE]]
+        times = {it: [] for it in sides}
+        for it in sides:
             it.enrol(each)
+        written = {it: it.written() for it in sides}
         for _ in range(ROUNDS):
-            for it in registers:
+            for it in sides:
                 times[it].append(it.enrol(each) / each * 1000)
-        for it in registers:
+        for it in sides:
+            written[it] = (it.written() - written[it]) / (ROUNDS * each)
             it.end()
-            before, after = (count_syncs(it.program, folder, acts) for acts in (20, 40))
+            before, after = (count_syncs(it.program, it.page_size, folder, acts) for acts in (20, 40))
             syncs = None if before is None else after - before
-            print(f"{it.program}: median {statistics.median(times[it]):.2f} ms, minimum {min(times[it]):.2f} ms per enrolment"
+            print(f"{it.program}, pages of {it.page_size:,} bytes: median {statistics.median(times[it]):.2f} ms, minimum {min(times[it]):.2f} ms "
+                  f"and {written[it]:,.0f} bytes per enrolment"
                   + (f", {syncs} syncs for 20 more" if syncs is not None else ""))
 
 

@@ -1,13 +1,17 @@
 #!/usr/bin/env python3
 """Where the program spends its time, in instructions, which do not depend on the load of the host.
 
-    bench/profile.py [talk] [serve] [listing] [opening]  (all four; it needs valgrind, which makes the program some fifty times slower)
+    bench/profile.py [talk] [serve] [acts] [listing] [opening]
+                                                         (all five; it needs valgrind, which makes the program some fifty times slower)
     LAND=PROGRAM bench/profile.py ..                     another program than crates/land/out/land, with symbols
+    PAGE_SIZE=2048 bench/profile.py ..                   another page size of the files than 4096
 
 talk        A register is filled by acts: 20 enrolments, and 10 registrations of a parcel and two rights. Then one request is sent a
             hundred times, and in a second run two hundred times. The figure is the difference, per request: start, set-up and one-time work
             cancel out. `land talk` has the register in memory, and reads all requests from one file.
 serve       The same with `land serve`, which has the register in a new file; the requests are sequential, on one connection.
+acts        An enrolment, a registration, a filing and an approval, by `land serve` on a file with 1,000 entries, from forty and eighty acts,
+            as in bench/joins.py.
 listing     A notary's list of all 2,500 units of a file with 10,000 entries, by `land serve`, from ten and twenty lists.
 opening     `land check` of a file with 10,000 changes, as in bench/check.py: a party and its unit in turn.
 
@@ -33,6 +37,7 @@ import registers
 from registers import PROGRAM, square
 
 COUNT, UNITS, ENTRIES, CHANGES = 100, 10, 10000, 10000
+ACTS, FEW_ENTRIES = 40, 1000
 ROUNDS = 60  # more than the depth of the call graph
 REQUESTS = {
     "a citizen's units": ("GET", "/units", 2, "citizen", None),
@@ -40,6 +45,7 @@ REQUESTS = {
     "a citizen's title sheet": ("GET", "/units/23/sheet", 2, "citizen", None),
     "an enrolment": ("POST", "/acts/enrol", registers.OFFICE, "stateAdministrator", {"kind": "naturalPerson", "name": "Anna"}),
 }
+PERFORMED = {"an enrolment": joins.enrolments, "a registration": joins.registrations, "a filing": joins.lodgings, "an approval": joins.lodgings}
 REST, MEMORY = "the rest", "memory"
 # The parts of a request, each with the prefixes of the names of its functions. The longest prefix counts.
 PARTS = {
@@ -137,7 +143,7 @@ def talk(folder, requests):
 def serve(folder, requests):
     """Returns the counts of `land serve` on a new file while it answers requests."""
     file = Path(tempfile.mkdtemp(dir=folder), "register.land")
-    subprocess.run([PROGRAM, "new", "--file", file], check=True)
+    registers.new(PROGRAM, file)
     return serve_file(folder, file, requests)
 
 
@@ -207,11 +213,12 @@ def inclusive(calls, prefix):
     return sum(count for (caller, called), count in calls.items() if called.startswith(prefix) and not caller.startswith(prefix))
 
 
-def table(columns, calls):
+def table(names, counted):
     """Prints the parts of requests, their sum, and the inclusive instructions of some functions."""
+    columns, calls = [divided(*it, PARTS)[0] for it in counted], [calls for _, calls in counted]
     whole = [sum(sums.values()) for sums in columns]
-    row("part", *REQUESTS)
-    print("|---" * (1 + len(REQUESTS)) + "|")
+    row("part", *names)
+    print("|---" * (1 + len(names)) + "|")
     for part in (*PARTS, REST):
         row(part, *(cell(sums[part], all_parts) for sums, all_parts in zip(columns, whole)))
     row("all", *(f"{all_parts / 1000:,.1f}" for all_parts in whole))
@@ -221,8 +228,26 @@ def table(columns, calls):
 
 def requests(run, folder):
     print(f"\nThousands of instructions per request, `land {run.__name__}`:\n")
-    counted = [of_one(folder, run, asked) for asked in REQUESTS.values()]
-    table([divided(*it, PARTS)[0] for it in counted], [calls for _, calls in counted])
+    table(REQUESTS, [of_one(folder, run, asked) for asked in REQUESTS.values()])
+
+
+def perform(folder, name, count):
+    """Returns the counts of `land serve` on a file with 1,000 entries while it performs a number of acts."""
+    file = Path(tempfile.mkdtemp(dir=folder), "entries.land")
+    known = registers.of_entries(file, FEW_ENTRIES)
+    is_approval = name == "an approval"
+    sent = [joins.head("POST", f"/acts/{word}", party, role, body)
+            for word, party, role, body in PERFORMED[name](known, 2 * ACTS if is_approval else count, "Act")]
+    if is_approval:     # of the first lodgings; each has made a document and a mutation
+        first = registers.next_of(file)
+        sent += [joins.head("POST", "/acts/approve", registers.OFFICE, "stateAdministrator", {"mutation": first + 2 * place + 1})
+                 for place in range(count)]
+    return serve_file(folder, file, sent)
+
+
+def acts(folder):
+    print(f"\nThousands of instructions per act, `land serve`, with {FEW_ENTRIES:,} entries:\n")
+    table(PERFORMED, [per_request(ACTS, *(perform(folder, name, count) for count in (ACTS, 2 * ACTS))) for name in PERFORMED])
 
 
 def opening(folder):
@@ -256,7 +281,7 @@ def listing(folder):
     row("all", f"{sum(sums.values()) / 1000:,.1f}", f"{sum(sums.values()) / units:,.0f}")
 
 
-PROFILES = {"talk": partial(requests, talk), "serve": partial(requests, serve), "listing": listing, "opening": opening}
+PROFILES = {"talk": partial(requests, talk), "serve": partial(requests, serve), "acts": acts, "listing": listing, "opening": opening}
 
 
 def main():

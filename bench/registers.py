@@ -1,12 +1,16 @@
-"""Registers for the benchmarks, written as SQLite files with the schema of docs/TABLES.md, and the SQL statements of the crates."""
+"""Registers for the benchmarks, written as SQLite files with the schema of docs/TABLES.md, and the SQL statements of the crates.
+
+PAGE_SIZE=2048 gives all files of a benchmark pages of that many bytes (512 to 65536)."""
 import math
 import os
 import re
 import sqlite3
+import subprocess
 from pathlib import Path
 
 TOP = Path(__file__).resolve().parents[1]
 PROGRAM = os.environ.get("LAND", str(TOP / "crates" / "land" / "out" / "land"))
+PAGE_SIZE = int(os.environ.get("PAGE_SIZE", "4096"))  # that of `land new` on a missing file
 OPEN = 4102444800000
 OFFICE, NOTARY, BANK, SMALL_BANK, BUSY, TOWN = range(1, 7)
 CALM = range(7, 27)
@@ -24,15 +28,38 @@ def sql_of(file):
     return {name: re.sub(r"\\\n\s*", "", text) for name, text in found}
 
 
+def connect(path, page_size=PAGE_SIZE):
+    """Returns a connection to a new file with pages of a size."""
+    base = sqlite3.connect(path)
+    base.execute(f"PRAGMA page_size = {page_size}")
+    return base
+
+
+def new(program, path, page_size=PAGE_SIZE):
+    """Creates a register by `land new`, which keeps the page size of an empty database."""
+    base = connect(path, page_size)
+    base.execute("VACUUM")
+    base.close()
+    subprocess.run([program, "new", "--file", path], check=True)
+
+
 def create(path):
     """Creates a file with the tables and the first rows of any register."""
-    base = sqlite3.connect(path)
+    base = connect(path)
     base.executescript(schema())
     base.execute("INSERT INTO edition VALUES (1, 2)")
     base.execute("INSERT INTO moments VALUES (0, 2)")
     base.execute("INSERT INTO party VALUES (1, 'Land Office', 'nonNaturalPerson', 0, ?)", (OPEN,))
     base.execute("INSERT INTO role VALUES (1, 'stateAdministrator', 0, ?)", (OPEN,))
     return base
+
+
+def next_of(path):
+    """Returns the number of the next object of a register."""
+    base = sqlite3.connect(path)
+    found, = base.execute("SELECT max(next) FROM moments").fetchone()
+    base.close()
+    return found
 
 
 def put(base, table, rows):

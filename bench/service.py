@@ -21,6 +21,8 @@ import sys
 import tempfile
 import time
 
+import registers
+
 TOP = os.path.dirname(os.path.dirname(os.path.abspath(__file__)))
 PROGRAM = os.environ.get("LAND", os.path.join(TOP, "crates", "land", "out", "land"))
 OFFICE = {"Register-Party": "1", "Register-Role": "stateAdministrator"}
@@ -149,7 +151,7 @@ def land(file, port):
 
 
 def fill(file, objects):
-    subprocess.run([PROGRAM, "new", "--file", file], check=True)
+    registers.new(PROGRAM, file)
     port = free_port()
     call = land(file, port)
     call[-1] = "2"
