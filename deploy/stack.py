@@ -40,6 +40,18 @@ def program():
     return os.path.abspath(path)
 
 
+def create_register(file, **options):
+    """Creates a register as `land new` of the package does, with pages of 2,048 bytes."""
+    words = [os.path.join(DEPLOY, "bin", "land-new"), "new", "--file", file]
+    subprocess.run(words, check=True, env={**os.environ, "LAND": program()}, **options)
+
+
+def page_size_of(file):
+    """Returns the page size in the header of a file."""
+    with open(file, "rb") as source:
+        return int.from_bytes(source.read(18)[16:], "big")
+
+
 def need(*commands):
     """Raises Missing if a command is not installed."""
     for command in commands:
@@ -226,7 +238,7 @@ class Stack:
         return self.path(name + ".land")
 
     def create_register(self, name="town"):
-        subprocess.run([self.program, "new", "--file", self.file(name)], check=True)
+        create_register(self.file(name))
 
     def serve(self, name="town", port=None):
         words = [self.program, "serve", "--file", self.file(name), "--port", str(port or self.register_port), "--connections", "1000000",

@@ -19,7 +19,7 @@ sys.path[:0] = [HERE, os.path.join(HERE, "tests"), os.path.dirname(HERE)]
 sys.dont_write_bytecode = True
 import generate  # noqa: E402
 from interrupting_proxy import Register  # noqa: E402
-from stack import free_port, program  # noqa: E402
+from stack import create_register, free_port, program  # noqa: E402
 
 
 def run(*words):
@@ -39,7 +39,7 @@ def main(folder, parcels, depth):
     file, source = os.path.join(work, "r.land"), os.path.join(work, "old")
     try:
         generate.main(source, parcels)
-        subprocess.run([program(), "new", "--file", file], check=True)
+        create_register(file)
         register = Register(program(), file, free_port())
         register.start()
         try:

@@ -9,7 +9,7 @@ import subprocess
 import tempfile
 import time
 
-from stack import DEPLOY, Missing, free_port, program
+from stack import DEPLOY, Missing, create_register, free_port, program
 
 try:
     import psycopg2
@@ -186,7 +186,7 @@ def alive(pid):
 def serving(file, new=True):
     """Serves a register. Yields the process and the port."""
     if new:
-        subprocess.run([program(), "new", "--file", file], check=True)
+        create_register(file)
     service = Service(file)
     try:
         yield service

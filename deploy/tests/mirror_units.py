@@ -8,7 +8,7 @@ import time
 
 from harness import check, note
 from mirror_cluster import MIRROR, alive, feed_once, user
-from stack import DEPLOY, Stack
+from stack import DEPLOY, Stack, create_register
 import scenario
 
 UNITS = os.path.join(DEPLOY, "mirror", "unit")
@@ -38,12 +38,12 @@ def test_units():
             note(f"{name}: {level[0].strip() if level else 'no level'}")
 
 
-def test_files(folder, program):
+def test_files(folder):
     """With the umask of the drop-in, a member of the group can read file and log, and write nothing."""
     path = os.path.join(folder.path, "group")
     os.mkdir(path, 0o750)
     file = os.path.join(path, "north.land")
-    subprocess.run([program, "new", "--file", file], check=True, preexec_fn=lambda: os.umask(0o027))
+    create_register(file, preexec_fn=lambda: os.umask(0o027))
     check("the file can be read by its group only", oct(os.stat(file).st_mode & 0o777) == "0o640", oct(os.stat(file).st_mode))
 
 
@@ -107,7 +107,6 @@ def ask(stack):
 
 
 def run(folder, server):
-    from stack import program
     test_units()
-    test_files(folder, program())
+    test_files(folder)
     test_nginx(folder, server)
