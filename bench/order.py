@@ -7,7 +7,7 @@
 `land serve` runs under gdb, which records each SQL statement that the program passes to its sqlite (`Connection::bind`), with its
 parameters. The baseline runs on a copy of the file, and prints the same. Both get all reads of joins.py, those of mandates.py by agents
 with no, one and ten principals, and two acts of each kind. They must run the same statements, in the same order, with the same parameters;
-the current time is masked. If something differs, it is printed, and the exit status is 1. The program needs symbols.
+the current time is masked. The program gets each read twice, and the second counts, since the first looks up the roles of the caller. If something differs, it is printed, and the exit status is 1. The program needs symbols.
 """
 import json
 import os
@@ -94,7 +94,9 @@ def compare_reads(watched, steps, known, requests, faults, of=""):
     for party, role, name, path in requests:
         if path == "/nothing":
             continue
-        _, mine = watched.send(joins.head("GET", path, party, role))
+        request = joins.head("GET", path, party, role)
+        watched.send(request)   # From then on the keeper knows the role of the caller.
+        _, mine = watched.send(request)
         compare(f"{role}{of}: {name}", mine, steps(f"{role}: {name}", *joins.values(known, party, path)), faults)
 
 

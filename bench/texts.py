@@ -41,10 +41,10 @@ RECORD = ["UNIT $2 now"]                                                        
 PARCELS = ["PARCELS_OF_UNIT $2 now"]                                                                # view::read_parcels
 NAMES = ["PARTIES_OF_UNIT $2 now"]                                                                  # of_entries::parties
 
-# The statements of each read after CALLER, and the functions that run them. view::is_visible or sheet::read_sheet_verdict computes the
-# verdict first, and a denial needs no further statement; then the rows that are not yet cached are read. A list is sight::SightQuery: each
-# selection of the role and the kind, for a citizen over its circle. An object is object::ObjectQuery, a sheet view::UnitViewQuery;
-# lodgers::has_lodged reads a mutation's lodger.
+# The statements of each read by a caller whose role is known (known_roles::is_known; else CALLER comes first), and the functions that run
+# them. view::is_visible or sheet::read_sheet_verdict computes the verdict first, and a denial needs no further statement; then the rows that
+# are not yet cached are read. A list is sight::SightQuery: each selection of the role and the kind, for a citizen over its circle. An object
+# is object::ObjectQuery, a sheet view::UnitViewQuery; lodgers::has_lodged reads a mutation's lodger.
 READS = {
     ("citizen", "list own units"): of_circle("holder/UNITS", "group/UNITS"),                  # SightQuery
     ("citizen", "list visible entries"): of_circle("holder/ENTRIES", "group/ENTRIES"),        # SightQuery
@@ -96,7 +96,8 @@ def made(table, number, *cells):
 OFFICE = [f"ADMINISTRATORS 0 {LAST}"]                                                          # slices::slice::read_parties
 OFFICERS = [f"each ADMINISTRATORS {step}" for step in person("ADMINISTRATORS.party")]
 
-# For each act the number of object numbers that it allocates, and the statements after CALLER: slices::slice::slice_at, then
+# For each act the number of object numbers that it allocates, and the statements after CALLER, since a write forgets the roles of callers
+# (known_roles::forget_roles): slices::slice::slice_at, then
 # change_writing::change::write_change (land_tables_rows): parties and roles, units and entries, sources and mutations, the stamp.
 ACTS = {
     # $2 is the name.
@@ -124,10 +125,11 @@ ACTS = {
 def definitions():
     """Returns the lines that define all statements and plans for the baseline."""
     lines = [f"sql\t{name}\t{sql}" for name, sql in STATEMENTS.items()]
-    plans = [*((": ".join(read), 0, steps) for read, steps in READS.items()), *((act, *plan) for act, plan in ACTS.items())]
+    plans = [*((": ".join(read), 0, steps) for read, steps in READS.items()),
+             *((act, count, [*CALLER, *steps]) for act, (count, steps) in ACTS.items())]
     for name, count, steps in plans:
         lines.append(f"plan\t{name}\t{count}")
-        lines += ["\t".join(([] if step.startswith("each ") else ["run"]) + step.split(" ")) for step in [*CALLER, *steps]]
+        lines += ["\t".join(([] if step.startswith("each ") else ["run"]) + step.split(" ")) for step in steps]
     return lines
 
 

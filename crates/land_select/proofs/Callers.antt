@@ -40,7 +40,7 @@ party_there None test it = it
 party_there (Some p) test it = refl
 
 -- in a register that is sound or empty
-holder_stands : SoundnessByNumber → (r : Register) (caller : Caller) → IsSoundOrNothing r → holds r caller.party caller.role ≡ true → stands r kind.Party caller.party ≡ true
+pub holder_stands : SoundnessByNumber → (r : Register) (caller : Caller) → IsSoundOrNothing r → holds r caller.party caller.role ≡ true → stands r kind.Party caller.party ≡ true
 holder_stands look_ups r caller (inl sound) held = party_there (map.get r.parties caller.party) _ (((look_ups r).0 sound).roles caller.party caller.role held)
 holder_stands look_ups r caller (inr none) held =
     absurd (false≢true (sym (ap is_some (map.get-empty grant_cmp (grant_of caller.party caller.role))) ∙ subst (λ (k : Register). holds k caller.party caller.role ≡ true) none held))

@@ -1,26 +1,28 @@
 -- The verdict of the standing rules on the evidence and of the sight rules is the verdict on the request.
-use Rattle.std.proofs.Common.{◌≡◌, ◌∙◌, ◌++◌, ◌&&◌, ◌||◌, ℕ, ℤ, Bool, true, false, cond, [], ◌∷◌, None, Some, Option, Ok, IfSome, IsTrue, refl, sym, ap, ap₂, arith, inl}
+use Rattle.std.proofs.Common.{◌≡◌, ◌∙◌, ◌++◌, ◌&&◌, ◌||◌, ℕ, ℤ, Bool, true, false, cond, [], ◌∷◌, None, Some, Option, Ok, IfSome, IsTrue, refl, sym, ap, ap₂, arith, inl, subst}
 use Rattle.std.proofs.lemmas.Bool.{false≢true}
 use Rattle.std.specs.FinMap as map
 use Rattle.std.specs.FinMap.{FinMap}
 use Rattle.std.specs.Ordering.{nat_cmp}
 use Rattle.land_core.proofs.Booleans.{and_false}
-use Rattle.land_core.specs.Register.{stands}
+use Rattle.land_core.specs.Grants.{Grants}
 use Rattle.land_core.specs.declared.ask.Ask.{Ask}
 use Rattle.land_core.specs.declared.caller.Caller.{Caller}
 use Rattle.land_core.specs.declared.kind.Kind.{Kind}
 use Rattle.land_core.specs.declared.kind.Kind.TheVariants as kind
+use Rattle.land_core.specs.declared.mutation.MutationRecord.{MutationRecord}
 use Rattle.land_core.specs.declared.register.Register.{Register}
 use Rattle.land_core.specs.declared.role.Role.{Role}
+use Rattle.land_core.specs.declared.rrr.RrrRecord.{RrrRecord}
 use Rattle.land_rules.specs.Denials.Sight.{SightDecidesVerdicts, PendingUnitsAreVisible, is_visible_by_pending, is_unit_of_conveyancer, sees_by_pending, verdict_given_sight}
-use Rattle.land_rules.specs.Denials.Standing.{EvidenceIsEnough, LookupsAreEnough, mutation_of_ask, entry_of_ask}
+use Rattle.land_rules.specs.Denials.Standing.{IsEnough, LookupsAreEnough, mutation_of_ask, entry_of_ask, evidence_of}
 use Rattle.land_rules.specs.Laws.{IsSoundOrNothing, views_itself, rule_of_role}
 use Rattle.land_rules.specs.Relations.{has_pending_mutation_on}
 use Rattle.land_rules.specs.Rules.{Rules, first_denial, sees, sight_rules, standing_rules, verdict_of, view_rules}
 use Rattle.land_rules.specs.declared.verdict.Verdict.{Verdict}
 use Rattle.land_rules.specs.declared.verdict.Verdict.TheVariants.{Allowed, Denied}
 use Rattle.land_select.proofs.Callers.{put_there}
-use Rattle.land_select.specs.Verdicts.{evidence_in, record_at, roles_in}
+use Rattle.land_select.specs.Verdicts.{IsOfCaller, placeholder_party, record_at, roles_in}
 use Rattle.land_select_queries.specs.Lookups.Parts.{ReadsPart}
 use Rattle.land_tables_schema.specs.Rows.ReadQueries.{IsStoreRead}
 use Rattle.sqlite.specs.State.{HasCleanDisk, State}
@@ -45,17 +47,17 @@ read_mutation_records : {V : Type 0} (o : Option ℕ) (m : FinMap nat_cmp V) →
 read_mutation_records None m = tt
 read_mutation_records (Some n) m = refl
 
--- the evidence is denied by the rules that deny the register
-pub evidence_denies : EvidenceIsEnough → LookupsAreEnough → (r : Register) (caller : Caller) (a : Ask) (past : Bool) (evidence : Register) → evidence ≡ evidence_in r caller a
-    → first_denial (standing_rules evidence caller a past) ≡ first_denial (standing_rules r caller a past)
-evidence_denies enough looked r caller a past evidence is =
-    let party = map.get r.parties caller.party in
-    let entry = record_at r.rrrs (entry_of_ask a) in
-    let mutation = record_at r.mutations (mutation_of_ask a) in
+-- evidence from the records of a request is sufficient
+pub evidence_suffices : LookupsAreEnough → (r : Register) (caller : Caller) (a : Ask) (there : Bool) (roles : Grants) (entry : Option RrrRecord) (mutation : Option MutationRecord) (evidence : Register)
+    → evidence ≡ evidence_of caller a (placeholder_party there) roles entry mutation → IsOfCaller r caller there roles
+    → entry ≡ record_at r.rrrs (entry_of_ask a) → mutation ≡ record_at r.mutations (mutation_of_ask a) → IsEnough evidence r caller a
+evidence_suffices looked r caller a there roles entry mutation evidence made of_caller entry_is mutation_is =
     let it =
-    looked r caller a party (roles_in r caller.party) entry mutation (record { party_is = refl; roles_are = refl; entry_is = read_mutation_records (entry_of_ask a) r.rrrs; mutation_is = read_mutation_records (mutation_of_ask a) r.mutations }) in
-    ap (λ (m : Register). first_denial (standing_rules m caller a past)) is
-    ∙ enough (evidence_in r caller a) r caller a past (record { party = put_there caller.party (stands r kind.Party caller.party); role = it.role; entry = it.entry; mutation = it.mutation })
+    looked r caller a (map.get r.parties caller.party) (roles_in r caller.party) (record_at r.rrrs (entry_of_ask a)) (record_at r.mutations (mutation_of_ask a))
+    (record { party_is = refl; roles_are = refl; entry_is = read_mutation_records (entry_of_ask a) r.rrrs; mutation_is = read_mutation_records (mutation_of_ask a) r.mutations }) in
+    subst (λ (m : Register). IsEnough m r caller a)
+    (sym (made ∙ ap₂ (λ (e : Option RrrRecord) (m : Option MutationRecord). evidence_of caller a (placeholder_party there) roles e m) entry_is mutation_is))
+    (record { party = put_there caller.party there ∙ of_caller.party; role = of_caller.role; entry = it.entry; mutation = it.mutation })
 
 -- ---- visibility
 

@@ -6,6 +6,7 @@ pub mod EarlyInterest
 pub mod Gathering
 pub mod Judged
 pub mod Keeping
+pub mod KnownRoles
 pub mod Listing
 pub mod ReadQueries
 pub mod Named

@@ -20,6 +20,7 @@ use Rattle.land_rules.specs.declared.verdict.Verdict.{Verdict}
 use Rattle.land_select.specs.Results.{IsResult}
 use Rattle.land_select.specs.Slices.Gathered.{HoldsOfRegister}
 use Rattle.land_select.specs.Cache.{IsValueFor}
+use Rattle.land_select.specs.KnownRoles.{HoldsRoleIf}
 use Rattle.land_select.specs.Verdicts.{IsVerdictWith}
 use Rattle.land_select.specs.Views.{AgreesIfGiven}
 use Rattle.land_select.specs.declared.cache.CachedValue.{CachedValue}
@@ -62,23 +63,23 @@ the_last = (omega (arith, ints), omega (arith, ints))
 
 -- the verdict on the tables is that of the latest register and the register at the time, and the cached value
 -- is correct for the latter
-verdict_stands : SoundnessByNumber → (s : State) (caller : Caller) (a : Ask) (past : Bool) (t u : ℤ) → IsLookedAt t u → (it : Verdict × CachedValue) → IsResult (IsVerdictWith caller a past u) s it
-    → (it.0 ≡ verdict_of (last_register (decoded_timeline s.now.trees)) (register_at (decoded_timeline s.now.trees) t) caller a past) × IsValueFor (register_at (decoded_timeline s.now.trees) t) caller a it.1
-verdict_stands look_ups s caller a past t u place it answer =
+verdict_stands : SoundnessByNumber → (s : State) (caller : Caller) (is_held : Bool) (a : Ask) (past : Bool) (t u : ℤ) → IsLookedAt t u → (it : Verdict × CachedValue) → IsResult (IsVerdictWith caller is_held a past u) s it
+    → HoldsRoleIf is_held (last_register (decoded_timeline s.now.trees)) caller → (it.0 ≡ verdict_of (last_register (decoded_timeline s.now.trees)) (register_at (decoded_timeline s.now.trees) t) caller a past) × IsValueFor (register_at (decoded_timeline s.now.trees) t) caller a it.1
+verdict_stands look_ups s caller is_held a past t u place it answer known =
     let tl = decoded_timeline s.now.trees in
     let sound = answer.register.sound in
     let holds = answer.register.holds in
     let last : register_at tl last_moment ≡ last_register tl = stays_last tl last_moment sound.rising (last_is_moment tl sound) in
     let told = answer.answer holds.listed holds.history holds.holds (register_at tl last_moment) (register_at tl t) (sound_or_nothing tl last_moment sound) (sound_or_nothing tl t sound)
-    (holds.stands.stands last_moment the_last) (place s answer.register) in
+    (holds.stands.stands last_moment the_last) (place s answer.register) (subst (λ (now : Register). HoldsRoleIf is_held now caller) (sym last) known) in
     (told.0 ∙ ap (λ (now : Register). verdict_of now (register_at tl t) caller a past) last, told.1)
 
 -- so it is the verdict on the request, and the cached value is correct at the requested time
-pub verdict_told : SoundnessByNumber → (s : State) (caller : Caller) (a : Ask) (now t u : ℤ) → t ≡ moment_of a now → IsLookedAt t u → (it : Verdict × CachedValue)
-    → IsResult (IsVerdictWith caller a (int_lt t now) u) s it → (it.0 ≡ verdict_at (decoded_timeline s.now.trees) caller a now) × IsValueFor (register_at (decoded_timeline s.now.trees) t) caller a it.1
-verdict_told look_ups s caller a now t u is_moment place it answer =
+pub verdict_told : SoundnessByNumber → (s : State) (caller : Caller) (is_held : Bool) (a : Ask) (now t u : ℤ) → t ≡ moment_of a now → IsLookedAt t u → (it : Verdict × CachedValue)
+    → IsResult (IsVerdictWith caller is_held a (int_lt t now) u) s it → HoldsRoleIf is_held (last_register (decoded_timeline s.now.trees)) caller → (it.0 ≡ verdict_at (decoded_timeline s.now.trees) caller a now) × IsValueFor (register_at (decoded_timeline s.now.trees) t) caller a it.1
+verdict_told look_ups s caller is_held a now t u is_moment place it answer known =
     let tl = decoded_timeline s.now.trees in
-    let told = verdict_stands look_ups s caller a (int_lt t now) t u place it answer in
+    let told = verdict_stands look_ups s caller is_held a (int_lt t now) t u place it answer known in
     (subst (λ (x : ℤ). it.0 ≡ verdict_of (last_register tl) (register_at tl x) caller a (int_lt x now)) is_moment told.0, told.1)
 
 -- the slice of the tables is that of the latest register; a closed store has none

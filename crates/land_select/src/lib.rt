@@ -3,6 +3,7 @@
 #![tactic(auto)]
 
 mod cache;
+mod known_roles;
 pub mod laws;
 mod object;
 mod objects;

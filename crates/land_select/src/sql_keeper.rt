@@ -3,6 +3,7 @@ ghost use Rattle.std.specs.Prelude.{◌≡◌, ◌≤ℤ◌};
 ghost use Rattle.land_keep.specs.Moments.{last_moment};
 
 use crate::cache::{Cache, cache_for, forget, keep, take_object, take_unit};
+use crate::known_roles::{KnownRoles, forget_roles, is_known, remember};
 use crate::object::ObjectQuery;
 use crate::objects::ObjectsQuery;
 use crate::query::execute;
@@ -33,18 +34,22 @@ use std::marker::Model;
 
 /// A keeper on tables of any store. SQL queries select the numbers that a caller sees; lookups by key read
 /// objects, title sheets, the slices of acts and the records that verdicts need. A value that a verdict has
-/// read is cached, so that the reply does not read it again. In contracts the value of the keeper is that of
-/// its tables.
+/// read is cached, so that the reply does not read it again; so are the roles of callers until the next write.
+/// In contracts the value of the keeper is that of its tables.
 pub struct SqlKeeper<S: Alter> {
     /// The tables.
     tables: Tables<S>,
     /// The value that the last verdict read, until the next call.
     cache: Option<Cache>,
+    /// The roles that callers hold, until the next write.
+    known: Option<KnownRoles>,
 }
 
 impl<S: Alter> Model for SqlKeeper<S> {
     ghost use Rattle.land_keep.specs.Keeping.{IsHonestAndOpen};
+    ghost use Rattle.land_keep.specs.Timeline.{last_register};
     ghost use Rattle.land_select.specs.Cache.{IsCacheOf};
+    ghost use Rattle.land_select.specs.KnownRoles.{AreKnownIn};
     ghost use Rattle.land_tables.specs.TablesState.{IsHonest, TablesState, held, tables_code};
 
     ghost Value = { TablesState S };
@@ -54,7 +59,8 @@ impl<S: Alter> Model for SqlKeeper<S> {
     ghost view = { λ k. k.tables };
 
     ghost invariant = { λ k. IsHonestAndOpen (IsHonest S.Store k.tables) k.tables.is_closed
-        → IsCacheOf (held S.Store k.tables) k.cache };
+        → IsCacheOf (held S.Store k.tables) k.cache
+        × AreKnownIn (last_register (held S.Store k.tables)) k.known };
 }
 
 impl<S: Alter + Drop> Drop for SqlKeeper<S> {
@@ -62,6 +68,7 @@ impl<S: Alter + Drop> Drop for SqlKeeper<S> {
         let SqlKeeper {
             tables: _,
             cache: _,
+            known: _,
         } = self;
     }
 }
@@ -74,6 +81,7 @@ impl<S: Alter> SqlKeeper<S> {
         SqlKeeper {
             tables,
             cache: None,
+            known: None,
         }
     }
 
@@ -81,7 +89,11 @@ impl<S: Alter> SqlKeeper<S> {
     pub fn into_tables(self) -> Tables<S>
         ensures { result ≡ self }
     {
-        let SqlKeeper { tables, cache: _ } = self;
+        let SqlKeeper {
+            tables,
+            cache: _,
+            known: _,
+        } = self;
         tables
     }
 }
@@ -119,8 +131,10 @@ impl<S: Alter> Keeper for SqlKeeper<S> {
         let at = explicit_moment(ask).unwrap_or(now);
         soundness_by_number();
         let known_or_zero = at.min(LAST_MOMENT);
+        let is_held = is_known(&self.known, caller);
         let denial = VerdictQuery {
             caller,
+            is_held,
             ask,
             past: at < now,
             moment: known_or_zero,
@@ -129,6 +143,7 @@ impl<S: Alter> Keeper for SqlKeeper<S> {
         let (verdict, found) = told;
         let cache = cache_for(caller, ask, at, found);
         keep(&mut self.cache, cache);
+        remember(alloc, &mut self.known, caller, is_held, verdict);
         Ok(verdict)
     }
 
@@ -224,6 +239,7 @@ impl<S: Alter> Keeper for SqlKeeper<S> {
 
     fn write(&mut self, alloc: Global, change: &Change, stamp: i64) -> Result<(), StoreFault> {
         forget(&mut self.cache); // The change may be to the cached object.
+        forget_roles(&mut self.known); // It may end a role.
         self.tables.write(alloc, change, stamp)
     }
 }

@@ -5,12 +5,15 @@ ghost use Rattle.land_core.specs.Register.{stands};
 ghost use Rattle.land_core.specs.declared.kind.Kind.TheVariants as kinds;
 ghost use Rattle.land_rules.specs.Denials.Standing.{mutation_of_ask, entry_of_ask};
 ghost use Rattle.land_rules.specs.Rules.{first_denial, standing_rules};
-ghost use Rattle.land_select.specs.Verdicts.{evidence_in, record_at, roles_in, placeholder_party};
-ghost use Rattle.land_select.specs.Views.{AgreesWithRegister};
+ghost use Rattle.land_select.specs.KnownRoles.{HoldsRoleIf};
+ghost use Rattle.land_select.specs.Verdicts.{IsCallerWithRoles, IsEvidence, holder_verdict, is_read, record_at};
+ghost use Rattle.land_select.specs.Verdicts.{roles_in, placeholder_party};
+ghost use Rattle.land_select.specs.Views.{AgreesWithRegister, AgreesIfGiven};
 ghost use Rattle.land_select_queries.specs.Lookups.Parts.{ReadsPart};
 ghost use Rattle.land_select_queries.specs.TableReads.{ReadsTables};
 ghost use Rattle.land_tables_schema.specs.Connections.{HasRegisterTables, IsUsable, LeavesAutocommit};
 
+use crate::known_roles::claimed_role;
 use land_core::ask::Ask;
 use land_core::caller::Caller;
 use land_core::kind::PartyKind;
@@ -18,7 +21,8 @@ use land_core::laws::soundness_by_number;
 use land_core::mutation::MutationRecord;
 use land_core::party::PartyRecord;
 use land_core::register::Register;
-use land_core::roles::{Grant, Roles};
+use land_core::role::Role;
+use land_core::roles::Roles;
 use land_core::rrr::RrrRecord;
 use land_core::text::Text;
 use land_rules::denials::evidence::evidence_of;
@@ -35,10 +39,7 @@ use std::alloc::Global;
 fn is_held(roles: &Roles, caller: Caller) -> bool
     ensures { result ≡ has_grant roles.now (grant_of caller.party caller.role) }
 {
-    roles.contains(Grant {
-        party: caller.party,
-        role: caller.role,
-    })
+    roles.contains(claimed_role(caller))
 }
 
 /// Reads if a caller exists at a time, and its roles. A party with a role exists, so the party is read only
@@ -62,6 +63,29 @@ fn read_caller_and_roles<S: Alter>(
     }
     let there = party_exists(alloc, conn, caller.party, at)?;
     Ok((there, roles))
+}
+
+/// Reads if a caller exists at a time, and roles that decide if it holds the one that it claims. Nothing is read
+/// for a caller that is known to hold it.
+fn caller_and_roles<S: Alter>(
+    alloc: Global,
+    conn: &mut Connection<S>,
+    caller: Caller,
+    is_held: bool,
+    at: i64,
+) -> Result<(bool, Roles), ReadFault>
+    requires open { IsUsable S.Store conn.old }
+    requires has_tables { HasRegisterTables S.Store conn.old }
+    ensures reads_only { ReadsTables S.Store result (IsCallerWithRoles caller is_held at) conn.old conn.new }
+    ensures autocommit { LeavesAutocommit conn.old conn.new }
+{
+    soundness_by_number();
+    if is_held {
+        let mut roles = Roles::new(alloc);
+        roles.insert(claimed_role(caller))?;
+        return Ok((true, roles));
+    }
+    read_caller_and_roles(alloc, conn, caller, at)
 }
 
 /// Reads the entry of a number at a time, if there is a number.
@@ -145,18 +169,18 @@ fn evidence<S: Alter>(
     alloc: Global,
     conn: &mut Connection<S>,
     caller: Caller,
+    is_held: bool,
     ask: &Ask,
     at: i64,
 ) -> Result<Register, ReadFault>
     requires open { IsUsable S.Store conn.old }
     requires has_tables { HasRegisterTables S.Store conn.old }
-    ensures reads_only { ReadsTables S.Store result
-        (AgreesWithRegister (λ r. evidence_in r caller ask.now) at) conn.old
-        conn.new }
+    ensures reads_only { ReadsTables S.Store result (IsEvidence caller is_held ask.now at) conn.old conn.new }
     ensures autocommit { LeavesAutocommit conn.old conn.new }
 {
     soundness_by_number();
-    let asking = read_caller_and_roles(alloc, conn, caller, at)?;
+    lookups_are_enough();
+    let asking = caller_and_roles(alloc, conn, caller, is_held, at)?;
     let asked = read_referenced(alloc, conn, ask, at)?;
     let (there, roles) = asking;
     let (entry, mutation) = asked;
@@ -164,12 +188,34 @@ fn evidence<S: Alter>(
     Ok(evidence_of(alloc, caller, ask, party, roles, entry, mutation)?)
 }
 
+/// Checks if a request only reads.
+fn is_read(ask: &Ask) -> bool
+    ensures { result ≡ is_read ask.now }
+{
+    match ask {
+        Ask::View { .. } | Ask::List { .. } | Ask::Sheet { .. } => true,
+        Ask::Do(_) => false,
+    }
+}
+
+/// Returns the verdict of the standing rules on a request that only reads, of a caller that holds the role that
+/// it claims.
+fn holder_verdict(caller: Caller, past: bool) -> Verdict
+    ensures { result ≡ holder_verdict caller past }
+{
+    match caller.role {
+        Role::Bank | Role::Conveyancer | Role::CertifiedSurveyor if past => Verdict::Denied(3),
+        _ => Verdict::Allowed,
+    }
+}
+
 /// Returns the verdict of the standing rules on a request, by the register at a time: the lowest number of a
-/// rule that denies it.
+/// rule that denies it. `is_held` states that the caller is known to hold the role that it claims.
 pub(crate) fn read_standing_verdict<S: Alter>(
     alloc: Global,
     conn: &mut Connection<S>,
     caller: Caller,
+    is_held: bool,
     ask: &Ask,
     past: bool,
     at: i64,
@@ -177,11 +223,15 @@ pub(crate) fn read_standing_verdict<S: Alter>(
     requires open { IsUsable S.Store conn.old }
     requires has_tables { HasRegisterTables S.Store conn.old }
     ensures reads_only { ReadsTables S.Store result
-        (AgreesWithRegister (λ r. first_denial (standing_rules r caller ask.now past)) at) conn.old conn.new }
+        (AgreesIfGiven (λ r. HoldsRoleIf is_held r caller)
+        (λ r. first_denial (standing_rules r caller ask.now past)) at) conn.old conn.new }
     ensures autocommit { LeavesAutocommit conn.old conn.new }
 {
     evidence_is_enough();
-    lookups_are_enough();
-    let evidence = evidence(alloc, conn, caller, ask, at)?;
+    soundness_by_number();
+    if is_held && is_read(ask) {
+        return Ok(holder_verdict(caller, past));
+    }
+    let evidence = evidence(alloc, conn, caller, is_held, ask, at)?;
     Ok(standing_verdict(&evidence, caller, ask, past))
 }

@@ -40,21 +40,23 @@ fn read_sight_verdict<S: Alter>(
 }
 
 /// Returns the verdict on a request at a time, and the value that it read. The standing rules use the
-/// register at the last moment.
+/// register at the last moment. `is_held` states that the caller is known to hold the role that it claims.
 fn read_verdict<S: Alter>(
     alloc: Global,
     conn: &mut Connection<S>,
     caller: Caller,
+    is_held: bool,
     ask: &Ask,
     past: bool,
     at: i64,
 ) -> Result<(Verdict, CachedValue), ReadFault>
     requires open { IsUsable S.Store conn.old }
     requires has_tables { HasRegisterTables S.Store conn.old }
-    ensures reads_only { ReadsTables S.Store result (IsVerdictWith caller ask.now past at) conn.old conn.new }
+    ensures reads_only { ReadsTables S.Store result (IsVerdictWith caller is_held ask.now past at) conn.old
+        conn.new }
     ensures autocommit { LeavesAutocommit conn.old conn.new }
 {
-    let first = read_standing_verdict(alloc, conn, caller, ask, past, LAST_MOMENT)?;
+    let first = read_standing_verdict(alloc, conn, caller, is_held, ask, past, LAST_MOMENT)?;
     match first {
         Verdict::Allowed => read_sight_verdict(alloc, conn, caller, ask, at),
         Verdict::Denied(rule) => Ok((Verdict::Denied(rule), CachedValue::Nothing)),
@@ -66,6 +68,8 @@ fn read_verdict<S: Alter>(
 pub(crate) struct VerdictQuery<'a> {
     /// The caller.
     pub(crate) caller: Caller,
+    /// Whether the caller is known to hold the role that it claims.
+    pub(crate) is_held: bool,
     /// The request.
     pub(crate) ask: &'a Ask,
     /// Whether the time is before now.
@@ -77,13 +81,22 @@ pub(crate) struct VerdictQuery<'a> {
 impl Query<(Verdict, CachedValue)> for VerdictQuery<'_> {
     ghost use Rattle.land_select.specs.Verdicts.{IsVerdictWith};
 
-    ghost results = { λ it db told. IsVerdictWith it.caller it.ask.now it.past it.moment db told };
+    ghost results = { λ it db told. IsVerdictWith it.caller it.is_held it.ask.now it.past it.moment db
+        told };
 
     fn run<S: Alter>(
         &self,
         alloc: Global,
         conn: &mut Connection<S>,
     ) -> Result<(Verdict, CachedValue), ReadFault> {
-        read_verdict(alloc, conn, self.caller, self.ask, self.past, self.moment)
+        read_verdict(
+            alloc,
+            conn,
+            self.caller,
+            self.is_held,
+            self.ask,
+            self.past,
+            self.moment,
+        )
     }
 }

@@ -1,5 +1,5 @@
 use Rattle.std.proofs.Common.{rules}
-use Rattle.land_select.proofs.Listing.{all_tight, one_more_tight, one_more_within}
+use Rattle.land_select.proofs.Listing.{one_more_tight, one_more_within}
 use Rattle.land_select.proofs.objects.range_of.Goals as goal
 
 pub loop-number-preserved : goal.loop-number-preserved

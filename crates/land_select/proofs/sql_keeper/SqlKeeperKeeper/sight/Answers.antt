@@ -1,8 +1,11 @@
-use Rattle.std.proofs.Common.{of_z, rules, to_z, w64, ◌≡◌}
+use Rattle.std.proofs.Common.{of_z, rules, to_z, w64, ◌≡◌, subst, sym}
 use Rattle.std.specs.Int.{int_min}
 use Rattle.land_keep.specs.Moments.{last_moment}
+use Rattle.land_select.proofs.KnownRoles.{still_known}
 use Rattle.land_select.proofs.Seen.{sight_seen}
 use Rattle.land_tables.proofs.LookedAt.{look_moment}
+use Rattle.land_select.specs.Cache.{IsCacheOf}
+use Rattle.land_tables.specs.TablesState.{IsHonest, held}
 use Rattle.sqlite.specs.Held.{state}
 use Rattle.land_select.proofs.sql_keeper.SqlKeeperKeeper.sight.Goals as goal
 
@@ -13,3 +16,10 @@ returns-clause-value g c clean =
     let least : c.min.result ≡ int_min c.args.at last_moment = search rules in
     let answer = rw (c.self.view_is, u) at (c.execute.ensures.value clean) in
     sight_seen s c.args.caller c.args.kind c.args.at c.min.result (look_moment c.args.at c.min.result least) c.execute.result answer
+
+pub invariant_of-self : goal.invariant_of-self
+invariant_of-self g c live = (
+  subst (IsCacheOf (held g.S.Store c.execute.new.tables)) (sym c.forget.ensures) tt,
+  still_known (IsHonest g.S.Store c.self.inside.tables) (IsHonest g.S.Store c.execute.new.tables) c.self.inside.tables.is_closed c.execute.new.tables.is_closed c.execute.result
+      (held g.S.Store c.self.inside.tables) (held g.S.Store c.execute.new.tables) c.self.inside.known c.execute.ensures.closes c.execute.ensures.was c.execute.ensures.same (λ was. (c.self.invariant was).1) live,
+)

@@ -1,5 +1,6 @@
-use Rattle.std.proofs.Common.{rules, ◌≡◌, to_z, of_z, w64, ◌∙◌}
-use Rattle.land_select.proofs.Judged.{evidence_denies}
+use Rattle.std.proofs.Common.{rules, ◌≡◌, to_z, of_z, w64, ◌∙◌, sym}
+use Rattle.land_select.proofs.Judged.{looked_at_nothing}
+use Rattle.land_select.proofs.KnownRoles.{holder_told}
 use Rattle.land_tables_schema.proofs.Looking.{look_told}
 use Rattle.sqlite.specs.Held.{state}
 use Rattle.land_select.proofs.verdict.caller.read_standing_verdict.Goals as goal
@@ -9,6 +10,13 @@ returns-clause-reads_only g c =
     let when : to_z w64 (of_z w64 c.args.at) ≡ c.args.at = search rules in
     let reads_only = rw when at c.in_ok-evidence.ensures.reads_only in
     look_told (state g.S.Store c.args.conn.now) (state g.S.Store c.evidence.new.conn) _ reads_only
-    (λ clean is moments h held r have stands.
+    (λ clean is moments h held r premise stand given.
     c.standing_verdict.ensures
-    ∙ evidence_denies c.evidence_is_enough.ensures c.lookups_are_enough.ensures r c.args.caller c.args.ask.now c.args.past c.in_ok-evidence.evidence (is moments h held r have stands))
+    ∙ c.evidence_is_enough.ensures c.in_ok-evidence.evidence r c.args.caller c.args.ask.now c.args.past (is moments h held r premise stand given))
+
+pub returns-then-is_read-clause-reads_only : goal.returns-then-is_read-clause-reads_only
+returns-then-is_read-clause-reads_only g c =
+    looked_at_nothing _ _ (state g.S.Store c.args.conn.now) c.requires.open
+    (λ clean moments h held r premise stand given.
+    c.holder_verdict.ensures
+    ∙ holder_told c.soundness_by_number.ensures r premise c.args.caller c.args.ask.now c.args.past (sym c.is_read.ensures ∙ c.if-is_read.true) (given c.if-is_held.true))

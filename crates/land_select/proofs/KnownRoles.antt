@@ -1,0 +1,104 @@
+-- Remembered roles are held, and verdicts show them.
+use Rattle.std.proofs.Common.{◌≡◌, ◌∙◌, Bool, true, false, not, cond, nat_eq, Option, Some, Result, Ok, Err, refl, sym, ap, ap₂, subst, is_some}
+use Rattle.std.proofs.lemmas.Bool.{false≢true}
+use Rattle.std.proofs.lemmas.Bool.Decides.{Decides-eqb}
+use Rattle.std.specs.Cmp.{tied_itself}
+use Rattle.std.specs.FinMap as map
+use Rattle.std.specs.Ordering.{eq_by_cmp, is_eq}
+use Rattle.land_core.proofs.FiniteMaps.{is_equal}
+use Rattle.land_core.proofs.FiniteSets.{exact_grants, grants_total}
+use Rattle.land_core.proofs.Reflection.{get-entries_where}
+use Rattle.land_core.specs.Grants.{Grants, grant_cmp, grant_of, has_grant}
+use Rattle.land_core.specs.Laws.{SoundnessByNumber}
+use Rattle.land_core.specs.Register.{holds, stands}
+use Rattle.land_core.specs.declared.ask.Ask.{Ask}
+use Rattle.land_core.specs.declared.ask.Ask.TheVariants as ask
+use Rattle.land_core.specs.declared.caller.Caller.{Caller}
+use Rattle.land_core.specs.declared.kind.Kind.TheVariants as kind
+use Rattle.land_core.specs.declared.register.Register.{Register}
+use Rattle.land_core.specs.declared.roles.Grant.{Grant}
+use Rattle.land_keep.specs.Keeping.{Closes, IsHonestAndOpen}
+use Rattle.land_keep.specs.Timeline.{Timeline, last_register}
+use Rattle.land_keep.specs.declared.store_fault.StoreFault.{StoreFault}
+use Rattle.land_rules.specs.Laws.{IsSoundOrNothing}
+use Rattle.land_rules.specs.Rules.{first_denial, standing_rules, verdict_of}
+use Rattle.land_rules.specs.declared.verdict.Verdict.{Verdict}
+use Rattle.land_rules.specs.declared.verdict.Verdict.TheVariants.{Denied}
+use Rattle.land_select.proofs.Callers.{holder_stands}
+use Rattle.land_select.specs.KnownRoles.{AreHeldIn, AreKnownIn, HoldsRoleIf, shows_role}
+use Rattle.land_select.specs.Verdicts.{holder_verdict, is_read, roles_in}
+use Rattle.land_select.specs.declared.known_roles.KnownRoles.{KnownRoles}
+
+-- ---- sets of roles
+
+-- the empty set
+pub none_held : (r : Register) (roles : Grants) → roles ≡ map.empty → AreHeldIn r roles
+none_held r roles is grant has = absurd (false≢true (sym (ap is_some (map.get-empty grant_cmp grant)) ∙ subst (λ (m : Grants). has_grant m grant ≡ true) is has))
+
+-- one more
+pub one_more_held : (r : Register) (roles more : Grants) (grant : Grant) → more ≡ map.insert roles grant tt → AreHeldIn r roles → holds r grant.party grant.role ≡ true → AreHeldIn r more
+one_more_held r roles more grant are held is other has = go (eq_by_cmp grant_cmp other grant) refl
+  where
+    at : has_grant more other ≡ is_some (cond (eq_by_cmp grant_cmp other grant) (Some tt) (map.get roles other))
+    at = ap (λ (m : Grants). has_grant m other) are ∙ ap is_some (map.get-insert grants_total roles grant tt other)
+
+    go : (b : Bool) → eq_by_cmp grant_cmp other grant ≡ b → holds r other.party other.role ≡ true
+    go true same = subst (λ (g : Grant). holds r g.party g.role ≡ true) (sym (exact_grants other grant (is_equal _ same))) is
+    go false apart = held other (sym (ap (λ b. is_some (cond b (Some tt) (map.get roles other))) apart) ∙ sym at ∙ has)
+
+-- a set of one role has it
+pub one_role : (grant : Grant) → has_grant (map.insert map.empty grant tt) grant ≡ true
+one_role grant =
+    ap is_some (map.get-insert grants_total (map.empty {R = grant_cmp}) grant tt grant)
+    ∙ ap (λ b. is_some (cond b (Some tt) (map.get (map.empty {R = grant_cmp}) grant))) (ap is_eq (tied_itself grants_total grant))
+
+-- the roles of a party decide if it holds one
+pub own_roles_decide : (r : Register) (caller : Caller) → has_grant (roles_in r caller.party) (grant_of caller.party caller.role) ≡ holds r caller.party caller.role
+own_roles_decide r caller =
+    ap is_some (get-entries_where grants_total exact_grants (λ given u. nat_eq given.party caller.party) r.roles (grant_of caller.party caller.role) (λ u. (Decides-eqb caller.party caller.party).1 refl))
+
+-- ---- the keeper
+
+was_open : {T : Type 0} (before after : Bool) (r : Result T StoreFault) → Closes before after r → after ≡ false → before ≡ false
+was_open true after (Ok it) closes is = absurd closes
+was_open true after (Err fault) closes is = absurd (false≢true (sym is ∙ closes.1))
+was_open false after r closes is = refl
+
+-- a call that leaves the timeline leaves the remembered roles correct
+pub still_known : {T : Type 0} (was_honest honest : Type 0) (before after : Bool) (r : Result T StoreFault) (old new : Timeline) (known : Option KnownRoles) → Closes before after r → (honest → was_honest)
+    → (IsHonestAndOpen honest after → new ≡ old) → (IsHonestAndOpen was_honest before → AreKnownIn (last_register old) known) → IsHonestAndOpen honest after → AreKnownIn (last_register new) known
+still_known was_honest honest before after r old new known closes was same is live =
+    subst (λ (tl : Timeline). AreKnownIn (last_register tl) known) (sym (same live)) (is (was live.0, was_open before after r closes live.1))
+
+-- ---- verdicts
+
+-- a verdict of the first two rules, or of those after them
+shown : (there held : Bool) (after v : Verdict) → v ≡ cond (not there) (Denied 1) (cond (not held) (Denied 2) after) → shows_role v ≡ true → held ≡ true
+shown there true after v is shows = refl
+shown true false after v is shows = absurd (false≢true (sym (ap shows_role is) ∙ shows))
+shown false false after v is shows = absurd (false≢true (sym (ap shows_role is) ∙ shows))
+
+-- a verdict that shows the role is one on a caller that holds it
+pub verdict_shows : (now at : Register) (caller : Caller) (a : Ask) (past : Bool) (v : Verdict) → v ≡ verdict_of now at caller a past → HoldsRoleIf (shows_role v) now caller
+verdict_shows now at caller (ask.View k n t) past v is shows = shown (stands now kind.Party caller.party) (holds now caller.party caller.role) _ v is shows
+verdict_shows now at caller (ask.List k t) past v is shows = shown (stands now kind.Party caller.party) (holds now caller.party caller.role) _ v is shows
+verdict_shows now at caller (ask.Sheet unit t) past v is shows = shown (stands now kind.Party caller.party) (holds now caller.party caller.role) _ v is shows
+verdict_shows now at caller (ask.Do it) past v is shows = shown (stands now kind.Party caller.party) (holds now caller.party caller.role) _ v is shows
+
+-- the first two rules do not deny a caller that holds the role that it claims
+passed : (there held : Bool) (after : Verdict) → there ≡ true → held ≡ true → after ≡ cond (not there) (Denied 1) (cond (not held) (Denied 2) after)
+passed there held after is has = ap₂ (λ b c. cond (not b) (Denied 1) (cond (not c) (Denied 2) after)) (sym is) (sym has)
+
+-- so rule 3 decides, if the request only reads
+pub holder_told : SoundnessByNumber → (r : Register) → IsSoundOrNothing r → (caller : Caller) (a : Ask) (past : Bool) → is_read a ≡ true → holds r caller.party caller.role ≡ true
+    → holder_verdict caller past ≡ first_denial (standing_rules r caller a past)
+holder_told look_ups r premise caller a past reads held = go a reads
+  where
+    there : stands r kind.Party caller.party ≡ true
+    there = holder_stands look_ups r caller premise held
+
+    go : (a : Ask) → is_read a ≡ true → holder_verdict caller past ≡ first_denial (standing_rules r caller a past)
+    go (ask.View k n t) reads = passed (stands r kind.Party caller.party) (holds r caller.party caller.role) (holder_verdict caller past) there held
+    go (ask.List k t) reads = passed (stands r kind.Party caller.party) (holds r caller.party caller.role) (holder_verdict caller past) there held
+    go (ask.Sheet unit t) reads = passed (stands r kind.Party caller.party) (holds r caller.party caller.role) (holder_verdict caller past) there held
+    go (ask.Do it) reads = absurd (false≢true reads)
