@@ -12,17 +12,21 @@ use Rattle.land_keep.specs.Moments.{last_moment}
 use Rattle.land_keep.specs.Timeline.{IsSoundTimeline, Timeline, last_register, last_stamp}
 use Rattle.land_keep.specs.declared.store_fault.StoreFault.{StoreFault}
 use Rattle.land_keep.specs.declared.store_fault.StoreFault.TheVariants.{Store}
-use Rattle.land_tables.proofs.KeptIntervals.{writes_keep_intervals}
+use Rattle.land_digest.specs.Laws.{AppendingKeepsText}
+use Rattle.land_tables.proofs.KeptIntervals.{writes_keep_intervals, written_as_changed}
+use Rattle.land_tables.proofs.KeptTexts.{earlier_text_kept}
 use Rattle.land_tables.proofs.Tellings.{tells}
 use Rattle.land_tables.proofs.ToldIntervals.{told_intervals}
 use Rattle.land_tables.proofs.WrittenTimelines.{stays_last, written_last}
 use Rattle.land_tables.specs.Calls.{IsSafeRead, IsSafeWrite, StaysOpenAndSame, MayWriteChange}
+use Rattle.land_tables.specs.Digests.{KeepsEarlierText}
 use Rattle.land_tables.specs.TablesState.{HoldsRegister, IsHonest, IsConsistentState, IsTablesState, CrashLeavesOneOf, TablesState, CrashKeeps, held}
 use Rattle.land_tables.specs.Standing.{HoldsTimeline, decoded_timeline}
 use Rattle.land_tables.specs.Timelines.Laws.{OrderDoesNotMatter, HistoriesRepresentOneTimeline}
 use Rattle.land_tables.specs.Timelines.Writing.{WritesRepresentTimelines}
 use Rattle.land_tables_history.specs.Changed.{changed}
 use Rattle.land_tables_history.specs.Intervals.{has_intervals}
+use Rattle.land_tables_history.specs.Written.{written_history}
 use Rattle.land_tables_rows.specs.Edition.Writing.{v2_edition}
 use Rattle.land_tables_rows.specs.Listing.Reading.{moments}
 use Rattle.land_tables_rows.specs.Listing.Told.{decoded_history, decode_rows}
@@ -46,41 +50,43 @@ next_written tl change stamp sound =
     ap (λ (r : Register). r.next) (sym (change_stands tl change stamp stamp (least stamp stamp refl)) ∙ last)
 
 module _ (one : HistoriesRepresentOneTimeline) (order : OrderDoesNotMatter) (writes : WritesRepresentTimelines) (keeps : WritingKeepsSound) (change : Change) (stamp : ℤ) where
-  pub holds_written : (old new : Database) (next : ℕ) (tl : Timeline) → IsSoundTimeline tl → HoldsTimeline old.trees tl → next ≡ (last_register tl).next → CanWrite tl change stamp
-      → WritesChange change next stamp old new → HoldsTimeline new.trees (written tl change stamp)
-  holds_written old new next tl sound holds is can done = record {
-    listed = record { stamp = stamp; next = change.next } ∷ holds.listed;
-    history = changed (last_register tl).next change stamp holds.history;
-    holds = subst (λ n. HoldsHistory new.trees (record { stamp = stamp; next = change.next } ∷ holds.listed) (changed n change stamp holds.history)) is (done.held holds.listed holds.history holds.holds);
-    stands = writes holds.listed holds.history tl change stamp sound holds.stands can;
-  }
+  module _ (old new : Database) (next : ℕ) (tl : Timeline) (sound : IsSoundTimeline tl) (holds : HoldsTimeline old.trees tl) (were : has_intervals (decode_rows moments old.trees) (decoded_history old.trees) ≡ true)
+      (is : next ≡ (last_register tl).next) (can : CanWrite tl change stamp) (done : WritesChange change next stamp old new) where
+    valid : has_intervals holds.listed holds.history ≡ true
+    valid = sym (told_intervals old.trees tl holds) ∙ were
 
-  pub tells_written : (old new : Database) (next : ℕ) (tl : Timeline) → IsSoundTimeline tl → HoldsTimeline old.trees tl → next ≡ (last_register tl).next → CanWrite tl change stamp
-      → WritesChange change next stamp old new → decoded_timeline new.trees ≡ written tl change stamp
-  tells_written old new next tl sound holds is can done =
-      tells one order new.trees (written tl change stamp) (holds_written old new next tl sound holds is can done) (keeps tl change stamp sound can)
+    pub holds_written : HoldsTimeline new.trees (written tl change stamp)
+    holds_written = record {
+      listed = record { stamp = stamp; next = change.next } ∷ holds.listed;
+      history = changed (last_register tl).next change stamp holds.history;
+      holds = subst (HoldsHistory new.trees (record { stamp = stamp; next = change.next } ∷ holds.listed)) (written_as_changed holds.listed holds.history tl sound holds.stands change stamp valid)
+          (subst (λ n. HoldsHistory new.trees (record { stamp = stamp; next = change.next } ∷ holds.listed) (written_history n change stamp holds.history)) is (done.held holds.listed holds.history holds.holds));
+      stands = writes holds.listed holds.history tl change stamp sound holds.stands can;
+    }
 
-  intervals_written : (old new : Database) (next : ℕ) (tl : Timeline) (sound : IsSoundTimeline tl) (holds : HoldsTimeline old.trees tl) (is : next ≡ (last_register tl).next) (can : CanWrite tl change stamp)
-      (done : WritesChange change next stamp old new) → has_intervals (decode_rows moments old.trees) (decoded_history old.trees) ≡ true → has_intervals (decode_rows moments new.trees) (decoded_history new.trees) ≡ true
-  unfolding holds_written
-  intervals_written old new next tl sound holds is can done were =
-      told_intervals new.trees (written tl change stamp) (holds_written old new next tl sound holds is can done)
-      ∙ writes_keep_intervals holds.listed holds.history tl change stamp sound holds.stands can (keeps tl change stamp sound can) (sym (told_intervals old.trees tl holds) ∙ were)
+    pub tells_written : decoded_timeline new.trees ≡ written tl change stamp
+    tells_written = tells one order new.trees (written tl change stamp) holds_written (keeps tl change stamp sound can)
+
+    intervals_written : has_intervals (decode_rows moments new.trees) (decoded_history new.trees) ≡ true
+    unfolding holds_written
+    intervals_written =
+        told_intervals new.trees (written tl change stamp) holds_written
+        ∙ writes_keep_intervals holds.listed holds.history tl change stamp sound holds.stands can (keeps tl change stamp sound can) valid
 
   pub office_written : (old new : State) (last : ℤ) (next : ℕ) → IsConsistentState old last next → CanWrite (decoded_timeline old.now.trees) change stamp → WritesChange change next stamp old.now new.now
       → IsTrue new.is_open → new.committed ≡ new.now → IsConsistentState new stamp change.next
   office_written old new last next office can done is_open committed =
       let tl = decoded_timeline old.now.trees in
       let it = office.register in
-      let tells_new = tells_written old.now new.now next tl it.sound it.holds office.next can done in
+      let tells_new = tells_written old.now new.now next tl it.sound it.holds it.intervals office.next can done in
       record {
         register = record {
           is_open = is_open;
           committed = committed;
           has_tables = subst IsSchemaV2 (sym done.schema) it.has_tables;
           edition = done.editions (v2_edition ∷ []) it.edition;
-          intervals = intervals_written old.now new.now next tl it.sound it.holds office.next can done it.intervals;
-          holds = rw tells_new (holds_written old.now new.now next tl it.sound it.holds office.next can done);
+          intervals = intervals_written old.now new.now next tl it.sound it.holds it.intervals office.next can done;
+          holds = rw tells_new (holds_written old.now new.now next tl it.sound it.holds it.intervals office.next can done);
           sound = rw tells_new (keeps tl change stamp it.sound can);
         };
         last = rw tells_new (sym (written_last tl change stamp));
@@ -159,14 +165,20 @@ module _ {S : Type 0} (g : Ghosts S) (one : HistoriesRepresentOneTimeline) (orde
       let live : IsHonestAndOpen (IsHonest g now) now.is_closed = (clean_before a b safe.survives clean, open_still) in
       let office = whole.office live in
       subst (λ trees. HoldsTimeline trees (written (held g now) change stamp)) (sym may.2)
-      (holds_written one order writes keeps change stamp a.now may.0 now.next (held g now) office.register.sound office.register.holds office.next (can live) may.1))
+      (holds_written one order writes keeps change stamp a.now may.0 now.next (held g now) office.register.sound office.register.holds office.register.intervals office.next (can live) may.1))
       safe.survives
 
   pub timeline_written : IsSafe (Ok tt) → IsHonest g (record now { conn = conn }) → decoded_timeline (state g conn).now.trees ≡ written (held g now) change stamp
   timeline_written safe clean =
       let live : IsHonestAndOpen (IsHonest g now) now.is_closed = (clean_before a b safe.survives clean, open_still) in
       let office = whole.office live in
-      tells_written one order writes keeps change stamp a.now b.now now.next (held g now) office.register.sound office.register.holds office.next (can live) (safe.done clean)
+      tells_written one order writes keeps change stamp a.now b.now now.next (held g now) office.register.sound office.register.holds office.register.intervals office.next (can live) (safe.done clean)
+
+  pub text_written : AppendingKeepsText → IsSafe (Ok tt) → IsHonest g (record now { conn = conn }) → KeepsEarlierText stamp (state g now.conn).now.trees (state g conn).now.trees
+  text_written law safe clean =
+      let live : IsHonestAndOpen (IsHonest g now) now.is_closed = (clean_before a b safe.survives clean, open_still) in
+      let office = whole.office live in
+      earlier_text_kept law one order change now.next stamp a.now b.now (held g now) office.register.sound office.register.holds office.register.intervals office.next (safe.done clean)
 
   pub whole_written : (closed : Bool) → conn.in_transaction ≡ false → stamp ≤ℤ last_moment → IsSafe (Ok tt) → IsTablesState g (record { conn = conn; last = stamp; next = change.next; is_closed = closed })
   whole_written closed alone moment safe = record {

@@ -84,6 +84,12 @@ module _ (moments : List Moment) (last : ℤ) (by : AllByRecursion (λ (m : Mome
       let parts = and_parts (is_interval moments v) (list_all (is_interval moments) vs) h in
       and_from (has_ended last v) (list_all (has_ended last) vs) (ends_by v parts.0) (all_end_by vs parts.1)
 
+  -- a version that has no end is current at the last stamp
+  pub open_stands : {X : Type 0} (v : Version X) → last <ℤ never → is_interval moments v ≡ true → int_eq v.until never ≡ true → stands last v ≡ true
+  open_stands v early h no_end =
+      and_from (int_le v.since last) (int_lt last v.until) (le_true v.since last (stamp_by last v.since moments by (fit moments v h).begins))
+      (ap (int_lt last) (equal v.until never no_end) ∙ lt_true last never early)
+
   module _ (stamp : ℤ) (less : last <ℤ stamp) (early : stamp <ℤ never) where
     -- ---- versions that are current at the last stamp stay current until the next
 

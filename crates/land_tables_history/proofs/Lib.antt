@@ -29,3 +29,4 @@ pub mod StampIntervals
 pub mod StampOrders
 pub mod SweepOrders
 pub mod Swept
+pub mod WrittenVersions

@@ -11,6 +11,7 @@ use Rattle.land_tables_history.specs.Changed.{changed}
 use Rattle.land_tables_history.specs.History.{IsRegisterAt, named_units}
 use Rattle.land_tables_history.specs.Intervals.{has_intervals}
 use Rattle.land_tables_history.specs.Open.{have_ended, never}
+use Rattle.land_tables_history.specs.Written.{written_history}
 use Rattle.land_tables_history.specs.declared.history.History.{History}
 use Rattle.land_tables_history.specs.declared.moment.Moment.{Moment}
 
@@ -55,3 +56,12 @@ ChangesKeepIntervals =
     → NamesKeysOnce change → PutsMutations r change → IsRegisterAt last history r → IsSound (after change r)
     → has_intervals (record { stamp = stamp; next = change.next } ∷ moments)
     (changed r.next change stamp history) ≡ true
+
+-- A write closes each version that the change ends or replaces, if all intervals are valid, no commit was
+-- later than `last`, and the register then was sound: no current version has the number of a new object.
+abbrev pub WritesCloseAll : Type 0
+WritesCloseAll =
+    (moments : List Moment) (change : Change) (last stamp : ℤ) (history : History) (r : Register)
+    → has_intervals moments history ≡ true → AllByRecursion (λ (m : Moment). m.stamp ≤ℤ last) moments
+    → last <ℤ never → IsRegisterAt last history r → IsSound r
+    → written_history r.next change stamp history ≡ changed r.next change stamp history

@@ -11,3 +11,4 @@ pub mod Pairs
 pub mod Spans
 pub mod Standing
 pub mod Sweeps
+pub mod Written

@@ -1,6 +1,6 @@
 //! Laws, each on definitions only.
 ghost use Rattle.land_tables_history.specs.Laws.{ChangesTakeEffect, ChangedHaveEnded, ChangesKeepIntervals};
-ghost use Rattle.land_tables_history.specs.Laws.{ChangesKeepThePast};
+ghost use Rattle.land_tables_history.specs.Laws.{ChangesKeepThePast, WritesCloseAll};
 
 /// A change leaves the register at all earlier moments unchanged.
 pub fn changes_keep_the_past()
@@ -20,4 +20,9 @@ pub fn changed_lifespans_have_ended()
 /// A change and its commit keep all intervals valid.
 pub fn changes_keep_intervals()
     ensures { ChangesKeepIntervals }
+{}
+
+/// A write of a change of a sound register closes each version that the change ends or replaces.
+pub fn writes_close_all()
+    ensures { WritesCloseAll }
 {}

@@ -5,6 +5,7 @@ pub mod Closings
 pub mod ContentTexts
 pub mod Editions
 pub mod RewritesTables
+pub mod Existing
 pub mod Fitting
 pub mod Histories
 pub mod Keyed

@@ -6,9 +6,10 @@ use Rattle.land_core.specs.Members.{Members, members_in}
 use Rattle.land_core.specs.Numbers.{is_number}
 use Rattle.land_core.specs.declared.change.Change.{Change}
 use Rattle.land_core.specs.declared.content.Content.{Content}
-use Rattle.land_tables_history.specs.Changed.{changed, changed_mandates, changed_members, changed_namings}
-use Rattle.land_tables_history.specs.Changed.{changed_part, changed_roles}
+use Rattle.land_tables_history.specs.Changed.{changed_namings}
 use Rattle.land_tables_history.specs.History.{named_units}
+use Rattle.land_tables_history.specs.Written.{written_history, written_mandates, written_members}
+use Rattle.land_tables_history.specs.Written.{written_part, written_roles}
 use Rattle.land_tables_history.specs.declared.group_member.GroupMember.{GroupMember}
 use Rattle.land_tables_history.specs.declared.history.History.{History}
 use Rattle.land_tables_history.specs.declared.moment.Moment.{Moment}
@@ -88,36 +89,38 @@ pub record RewritesTables (edit : History → History) (old new : Database) : Ty
       → HoldsEditions new.trees editions
 
 -- the parties, roles, members and mandates that a change inserts and ends
-abbrev pub changed_parties_and_roles : Change → (stamp : ℤ) → History → History
-changed_parties_and_roles change stamp h = record h {
-  parties = changed_part change.put.parties change.ended.parties stamp h.parties;
-  roles = changed_roles change.put.roles change.ended.roles stamp h.roles;
-  members = changed_members change.put.members change.ended.members stamp h.members;
-  mandates = changed_mandates change.put.mandates change.ended.mandates stamp h.mandates;
+abbrev pub written_parties_and_roles : (next : ℕ) → Change → (stamp : ℤ) → History → History
+written_parties_and_roles next change stamp h = record h {
+  parties = written_part next change.put.parties change.ended.parties stamp h.parties;
+  roles = written_roles next change.put.roles change.ended.roles stamp h.roles;
+  members = written_members next change.put.members change.ended.members stamp h.members;
+  mandates = written_mandates next change.put.mandates change.ended.mandates stamp h.mandates;
 }
 
 -- the units, parcels and entries that it inserts and ends
-abbrev pub changed_units_and_entries : Change → (stamp : ℤ) → History → History
-changed_units_and_entries change stamp h = record h {
-  units = changed_part change.put.units change.ended.units stamp h.units;
-  parcels = changed_part change.put.parcels change.ended.parcels stamp h.parcels;
-  rrrs = changed_part change.put.rrrs change.ended.rrrs stamp h.rrrs;
+abbrev pub written_units_and_entries : (next : ℕ) → Change → (stamp : ℤ) → History → History
+written_units_and_entries next change stamp h = record h {
+  units = written_part next change.put.units change.ended.units stamp h.units;
+  parcels = written_part next change.put.parcels change.ended.parcels stamp h.parcels;
+  rrrs = written_part next change.put.rrrs change.ended.rrrs stamp h.rrrs;
 }
 
 -- the sources and mutations that it inserts and ends, and the units that new mutations refer to
-abbrev pub changed_sources_and_mutations : (next : ℕ) → Change → (stamp : ℤ) → History → History
-changed_sources_and_mutations next change stamp h = record h {
-  sources = changed_part change.put.sources change.ended.sources stamp h.sources;
-  mutations = changed_part change.put.mutations change.ended.mutations stamp h.mutations;
+abbrev pub written_sources_and_mutations : (next : ℕ) → Change → (stamp : ℤ) → History → History
+written_sources_and_mutations next change stamp h = record h {
+  sources = written_part next change.put.sources change.ended.sources stamp h.sources;
+  mutations = written_part next change.put.mutations change.ended.mutations stamp h.mutations;
   namings = changed_namings next change.put.mutations stamp h.namings;
 }
 
 -- A change is written with its moment: the tables hold one moment more, with the new next number, and the
--- changed history. A mutation is new if its number is at least the next number from before the change.
+-- written history. A mutation is new if its number is at least the next number from before the change. If the
+-- tables hold the history of a sound register, the written history is the changed one
+-- (`writes_close_all` of `land_tables_history`).
 pub record WritesChange (change : Change) (next : ℕ) (stamp : ℤ) (old new : Database) : Type 0 where
   pub schema : new.schema ≡ old.schema
   pub held : (moments : List Moment) (history : History) → HoldsHistory old.trees moments history
       → HoldsHistory new.trees (record { stamp = stamp; next = change.next } ∷ moments)
-      (changed next change stamp history)
+      (written_history next change stamp history)
   pub editions : (editions : List Edition) → HoldsEditions old.trees editions
       → HoldsEditions new.trees editions

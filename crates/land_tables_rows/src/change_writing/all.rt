@@ -1,6 +1,7 @@
 //! Loops that begin versions and that close them.
 ghost use Rattle.std.specs.Prelude.{◌≡◌, ◌++◌, IsTrue, map};
 ghost use Rattle.std.specs.List.{list_all, list_any};
+ghost use Rattle.land_tables_history.specs.Written.{existing};
 ghost use Rattle.land_tables_rows.specs.Effects.{Performs};
 ghost use Rattle.land_tables_rows.specs.Recording.{BeginsAll, Changes};
 ghost use Rattle.land_tables_rows.specs.Writing.Holding.{Closes, IsMoment};
@@ -62,10 +63,12 @@ pub fn close_all<S: Alter, K, X: Closable<K>>(
     Ok(())
 }
 
-/// Closes the current versions with the keys of the inserted records.
+/// Closes the current versions with the keys of the inserted records of existing objects, whose numbers are
+/// below the next number. A new object has no version, so no statement runs for it.
 pub fn close_put<S: Alter, K, P: HasKey<K>, X: Closable<K>>(
     tx: &mut Transaction<'_, S>,
     put: &[P],
+    next: u64,
     stamp: i64,
 ) -> Result<(), Error>
     requires fits { IsTrue (list_all (λ x. X.fits_key (P.key x)) put.now) }
@@ -73,21 +76,25 @@ pub fn close_put<S: Alter, K, P: HasKey<K>, X: Closable<K>>(
     requires has_tables { HasRegisterTables S.Store tx.old.conn.now }
     ensures same_reference { SameReference tx.old tx.new }
     ensures step { Performs S.Store result
-        (Closes X.reading (λ x. list_any (X.has x) (map P.key put.now)) stamp) tx.old tx.new }
+        (Closes X.reading
+        (λ x. list_any (X.has x) (map P.key (existing P.number next put.now))) stamp) tx.old tx.new }
 {
     for x in put {
-        X::close(tx, x.key(), stamp)?;
+        if x.number() < next {
+            X::close(tx, x.key(), stamp)?;
+        }
     }
     Ok(())
 }
 
-/// Closes the current versions with the keys of the inserted records and with the ended keys, then begins
-/// versions of the inserted records.
+/// Closes the current versions with the keys of the inserted records of existing objects, whose numbers are
+/// below the next number, and with the ended keys. Then begins versions of the inserted records.
 pub fn change<S: Alter, K, X: HasKey<K> + Closable<K>>(
     alloc: Global,
     tx: &mut Transaction<'_, S>,
     put: &[X],
     ended: &[K],
+    next: u64,
     stamp: i64,
 ) -> Result<(), Error>
     requires fits { IsTrue (list_all X.fits put.now) }
@@ -98,9 +105,10 @@ pub fn change<S: Alter, K, X: HasKey<K> + Closable<K>>(
     ensures same_reference { SameReference tx.old tx.new }
     ensures step { Performs S.Store result
         (Changes X.reading put.now
-        (λ x. list_any (X.has x) (map X.key put.now ++ ended.now)) stamp) tx.old tx.new }
+        (λ x. list_any (X.has x) (map X.key (existing X.number next put.now) ++ ended.now)) stamp)
+        tx.old tx.new }
 {
-    close_put::<S, K, X, X>(tx, put, stamp)?;
+    close_put::<S, K, X, X>(tx, put, next, stamp)?;
     close_all::<S, K, X>(tx, ended, stamp)?;
     begin_all(alloc, tx, put, stamp)
 }

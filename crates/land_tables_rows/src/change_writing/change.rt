@@ -1,6 +1,6 @@
 //! Writes a whole change to the register's tables.
 ghost use Rattle.std.specs.Prelude.{◌≡◌, IsTrue};
-ghost use Rattle.land_tables_history.specs.Changed.{changed};
+ghost use Rattle.land_tables_history.specs.Written.{written_history};
 ghost use Rattle.land_tables_rows.specs.Effects.{Performs};
 ghost use Rattle.land_tables_rows.specs.Recording.Whole.{RewritesTables, WritesChange, fits_change};
 ghost use Rattle.land_tables_rows.specs.Recording.Whole.{fits_units_and_entries};
@@ -57,9 +57,9 @@ fn sources_and_mutations_fit(change: &Change) -> bool
 }
 
 /// Writes a change and its moment, in an active transaction. Inserted records begin at the stamp; ended and
-/// replaced ones end at it. New mutations, whose numbers are at least `next` (the next number from before the
-/// change), are linked to their units. Returns the store's error, `OutOfMemory` if out of memory; the caller
-/// must then roll the transaction back.
+/// replaced ones end at it. Objects whose numbers are at least `next` (the next number from before the
+/// change) are new: no version of them is closed, and new mutations are linked to their units. Returns the
+/// store's error, `OutOfMemory` if out of memory; the caller must then roll the transaction back.
 pub fn write_change<S: Alter>(
     alloc: Global,
     tx: &mut Transaction<'_, S>,
@@ -91,9 +91,10 @@ fn write_objects<S: Alter>(
     requires moment { IsMoment stamp }
     requires has_tables { HasRegisterTables S.Store tx.old.conn.now }
     ensures same_reference { SameReference tx.old tx.new }
-    ensures step { Performs S.Store result (RewritesTables (changed next change.now stamp)) tx.old tx.new }
+    ensures step { Performs S.Store result (RewritesTables (written_history next change.now stamp))
+        tx.old tx.new }
 {
-    write_parties_and_roles(alloc, tx, change, stamp)?;
-    write_units_and_entries(alloc, tx, change, stamp)?;
+    write_parties_and_roles(alloc, tx, change, next, stamp)?;
+    write_units_and_entries(alloc, tx, change, next, stamp)?;
     write_sources_and_mutations(alloc, tx, change, next, stamp)
 }

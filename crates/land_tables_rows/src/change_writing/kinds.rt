@@ -4,6 +4,7 @@ ghost use Rattle.std.specs.List.{list_all, list_any};
 ghost use Rattle.std.specs.Prelude.{◌≡◌, ◌++◌, IsTrue, map as map_list};
 ghost use Rattle.land_core.specs.Numbers.{is_number};
 ghost use Rattle.land_tables_history.specs.Changed.{is_changed, listed_members, named_by, new_mutations};
+ghost use Rattle.land_tables_history.specs.Written.{existing};
 ghost use Rattle.land_tables_rows.specs.Effects.{Performs};
 ghost use Rattle.land_tables_rows.specs.Member.Writing.{members};
 ghost use Rattle.land_tables_rows.specs.Mutation.Cells.{fits_mutation};
@@ -59,12 +60,14 @@ fn are_numbers(members: &Members) -> bool
     members.iter().all(|(party, _)| is_number(*party))
 }
 
-/// Writes the inserted records and the ended keys of a kind.
+/// Writes the inserted records and the ended keys of a kind. Closes versions only of ended keys, and of
+/// inserted ones of existing objects, whose numbers are below the next number.
 pub(crate) fn change_kind<S: Alter, K, X: HasKey<K> + Closable<K>>(
     alloc: Global,
     tx: &mut Transaction<'_, S>,
     put: &Sequence<X>,
     ended: &Sequence<K>,
+    next: u64,
     stamp: i64,
 ) -> Result<(), Error>
     requires fits { IsTrue (list_all X.fits put.now) }
@@ -75,17 +78,20 @@ pub(crate) fn change_kind<S: Alter, K, X: HasKey<K> + Closable<K>>(
     ensures same_reference { SameReference tx.old tx.new }
     ensures step { Performs S.Store result
         (Changes X.reading put.now
-        (λ x. list_any (X.has x) (map_list X.key put.now ++ ended.now)) stamp) tx.old tx.new }
+        (λ x. list_any (X.has x) (map_list X.key (existing X.number next put.now) ++ ended.now)) stamp)
+        tx.old tx.new }
 {
-    change(alloc, tx, put.as_slice(), ended.as_slice(), stamp)
+    change(alloc, tx, put.as_slice(), ended.as_slice(), next, stamp)
 }
 
-/// Writes the members of groups: all current members of a changed group end, and the new members begin.
+/// Writes the members of groups: all current members of a changed group end, and the new members begin. A
+/// group is new if its number is not below the next number. No member of a new group ends.
 pub(crate) fn change_members<S: Alter>(
     alloc: Global,
     tx: &mut Transaction<'_, S>,
     put: &Sequence<(u64, Members)>,
     ended: &NumberList,
+    next: u64,
     stamp: i64,
 ) -> Result<(), Error>
     requires fits { IsTrue (fits_kind fits_group is_number put.now ended.now) }
@@ -94,10 +100,10 @@ pub(crate) fn change_members<S: Alter>(
     ensures same_reference { SameReference tx.old tx.new }
     ensures step { Performs S.Store result
         (Changes members (listed_members put.now)
-        (λ e. is_changed put.now ended.now e.group) stamp) tx.old tx.new }
+        (λ e. is_changed (existing (λ g. g.0) next put.now) ended.now e.group) stamp) tx.old tx.new }
 {
     let listed = list_members(alloc, put.as_slice())?;
-    close_put::<S, u64, (u64, Members), GroupMember>(tx, put.as_slice(), stamp)?;
+    close_put::<S, u64, (u64, Members), GroupMember>(tx, put.as_slice(), next, stamp)?;
     close_all::<S, u64, GroupMember>(tx, ended.as_slice(), stamp)?;
     begin_all(alloc, tx, listed.as_slice(), stamp)
 }

@@ -1,7 +1,7 @@
 //! Writes sources and mutations, and the links of new mutations to units.
 ghost use Rattle.std.specs.Prelude.{IsTrue};
 ghost use Rattle.land_tables_rows.specs.Effects.{Performs};
-ghost use Rattle.land_tables_rows.specs.Recording.Whole.{RewritesTables, changed_sources_and_mutations};
+ghost use Rattle.land_tables_rows.specs.Recording.Whole.{RewritesTables, written_sources_and_mutations};
 ghost use Rattle.land_tables_rows.specs.Recording.Whole.{fits_sources_and_mutations};
 ghost use Rattle.land_tables_rows.specs.Writing.Holding.{IsMoment};
 ghost use Rattle.land_tables_schema.specs.Connections.{HasRegisterTables, SameReference};
@@ -26,15 +26,23 @@ pub(crate) fn write_sources_and_mutations<S: Alter>(
     requires has_tables { HasRegisterTables S.Store tx.old.conn.now }
     ensures same_reference { SameReference tx.old tx.new }
     ensures step { Performs S.Store result
-        (RewritesTables (changed_sources_and_mutations next change.now stamp)) tx.old tx.new }
+        (RewritesTables (written_sources_and_mutations next change.now stamp)) tx.old tx.new }
 {
     table_changes_keep_history();
-    change_kind(alloc, tx, &change.put.sources, &change.ended.sources, stamp)?;
+    change_kind(
+        alloc,
+        tx,
+        &change.put.sources,
+        &change.ended.sources,
+        next,
+        stamp,
+    )?;
     change_kind(
         alloc,
         tx,
         &change.put.mutations,
         &change.ended.mutations,
+        next,
         stamp,
     )?;
     begin_names(alloc, tx, next, &change.put.mutations, stamp)

@@ -1,5 +1,5 @@
 //! Records that have versions in a table.
-ghost use Rattle.std.specs.Prelude.{◌≡◌, Bool, IsTrue};
+ghost use Rattle.std.specs.Prelude.{◌≡◌, ℕ, Bool, IsTrue};
 ghost use Rattle.land_tables_rows.specs.Effects.{Performs};
 ghost use Rattle.land_tables_rows.specs.Writing.Holding.{Begins, Closes, IsMoment, Reading};
 ghost use Rattle.land_tables_schema.specs.Connections.{HasRegisterTables, SameReference};
@@ -38,16 +38,29 @@ pub trait HasKey<K> {
     /// Returns its key.
     ghost key: { Self → K };
 
+    /// Returns the number of its object. A role has that of its party, a mandate that of its principal.
+    ghost number: { Self → ℕ };
+
     /// Returns its key.
     fn key(&self) -> &K
         ensures { result.now ≡ key self.now };
+
+    /// Returns the number of its object. A role has that of its party, a mandate that of its principal.
+    fn number(&self) -> u64
+        ensures { result ≡ number self.now };
 }
 
 impl<V> HasKey<u64> for (u64, V) {
     ghost key = { λ e. e.0 };
 
+    ghost number = { λ e. e.0 };
+
     fn key(&self) -> &u64 {
         &self.0
+    }
+
+    fn number(&self) -> u64 {
+        self.0
     }
 }
 

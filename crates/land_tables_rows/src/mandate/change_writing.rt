@@ -32,8 +32,14 @@ impl Versioned for Mandate {
 impl HasKey<Mandate> for Mandate {
     ghost key = { λ mandate. mandate };
 
+    ghost number = { λ mandate. mandate.principal };
+
     fn key(&self) -> &Mandate {
         self
+    }
+
+    fn number(&self) -> u64 {
+        self.principal
     }
 }
 

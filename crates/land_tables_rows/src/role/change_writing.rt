@@ -32,8 +32,14 @@ impl Versioned for Grant {
 impl HasKey<Grant> for Grant {
     ghost key = { λ grant. grant };
 
+    ghost number = { λ grant. grant.party };
+
     fn key(&self) -> &Grant {
         self
+    }
+
+    fn number(&self) -> u64 {
+        self.party
     }
 }
 

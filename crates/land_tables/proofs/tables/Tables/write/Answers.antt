@@ -3,8 +3,7 @@ use Rattle.std.specs.Prelude.{ℤ}
 use Rattle.land_keep.specs.Machine.{written}
 use Rattle.land_keep.specs.Moments.{last_moment}
 use Rattle.land_keep.specs.declared.store_fault.StoreFault.TheVariants.{Store}
-use Rattle.land_tables.proofs.KeptTexts.{earlier_text_kept}
-use Rattle.land_tables.proofs.Written.{crash_written, leaves_either, rests, timeline_written, whole_unwritten, whole_written}
+use Rattle.land_tables.proofs.Written.{crash_written, leaves_either, rests, text_written, timeline_written, whole_unwritten, whole_written}
 use Rattle.land_tables.specs.Calls.{IsSafeWrite, MayWriteChange}
 use Rattle.land_tables.specs.TablesState.{IsTablesState, TablesState, held}
 use Rattle.land_tables_rows.specs.Recording.Whole.{WritesChange}
@@ -53,9 +52,11 @@ returns-in-Ok-clause-text g c live =
     let t : to_z w64 (of_z w64 c.args.stamp) ≡ c.args.stamp = search rules in
     let S = g.S.Store in
     let conn = c.record.new.conn in
+    let whole = subst (IsTablesState S) c.self.view_is c.self.invariant in
     let safe = subst (λ (x : ℤ). IsSafeWrite {X = Unit {0}} (Ok tt) (WritesChange c.args.change.now c.self.inside.next x) (MayWriteChange c.args.change.now c.self.inside.next x (state S c.self.inside.conn).now) (state S c.self.inside.conn) (state S conn)) t c.in-Ok.ensures.safe in
     let safe_now = subst (λ (o : TablesState _). IsSafeWrite {X = Unit {0}} (Ok tt) (WritesChange c.args.change.now o.next c.args.stamp) (MayWriteChange c.args.change.now o.next c.args.stamp (state S o.conn).now) (state S o.conn) (state S conn)) c.self.view_is safe in
-    earlier_text_kept c.appending_keeps_text.ensures c.args.change.now c.args.self.now.next c.args.stamp (state S c.args.self.now.conn).now (state S conn).now (safe_now.done live.0)
+    let open_still : c.args.self.now.is_closed ≡ false = subst (λ (o : TablesState _). o.is_closed ≡ false) c.self.view_is c.if-self.false in
+    text_written S c.histories_represent_one_timeline.ensures c.order_does_not_matter.ensures c.writes_represent_timelines.ensures c.writing_keeps_soundness.ensures c.args.change.now c.args.stamp c.args.self.now whole open_still c.requires conn c.appending_keeps_text.ensures safe_now live.0
 
 pub returns-in-Ok-clause-survives : goal.returns-in-Ok-clause-survives
 returns-in-Ok-clause-survives g c open_still =

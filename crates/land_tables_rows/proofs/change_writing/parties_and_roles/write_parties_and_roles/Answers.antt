@@ -16,7 +16,7 @@ returns-in_err-change_members-clause-step g c =
     let laws = c.table_changes_keep_history.ensures in
     let before = two_steps _ _ (state g.S.Store c.args.tx.now.conn.now) (state g.S.Store c.change_kind.new.tx.conn.now) (state g.S.Store c.change_kind-2.new.tx.conn.now)
     (rw (same) at c.in_ok-change_kind.ensures.step) (rw (same) at c.in_ok-change_kind-2.ensures.step)
-    (λ done. parties_edit laws c.args.stamp _ _ put.parties ended.parties done) (λ done. roles_edit laws c.args.stamp _ _ put.roles ended.roles done) in
+    (λ done. parties_edit laws c.args.stamp _ _ c.args.next put.parties ended.parties done) (λ done. roles_edit laws c.args.stamp _ _ c.args.next put.roles ended.roles done) in
     step_fails (state g.S.Store c.args.tx.now.conn.now) (state g.S.Store c.change_kind-2.new.tx.conn.now) (state g.S.Store c.change_members.new.tx.conn.now) _ c.from_residual-in_err-change_members.ensures.0 before c.change_members.ensures.step
 
 pub returns-clause-step : goal.returns-clause-step
@@ -27,5 +27,5 @@ returns-clause-step g c =
     let laws = c.table_changes_keep_history.ensures in
     four_steps _ _ _ _ (state g.S.Store c.args.tx.now.conn.now) (state g.S.Store c.change_kind.new.tx.conn.now) (state g.S.Store c.change_kind-2.new.tx.conn.now) (state g.S.Store c.change_members.new.tx.conn.now) (state g.S.Store c.change_kind-3.new.tx.conn.now)
     c.change_kind-3.result (rw (same) at c.in_ok-change_kind.ensures.step) (rw (same) at c.in_ok-change_kind-2.ensures.step) (rw (same) at c.in_ok-change_members.ensures.step) (rw (same) at c.change_kind-3.ensures.step)
-    (λ done. parties_edit laws c.args.stamp _ _ put.parties ended.parties done) (λ done. roles_edit laws c.args.stamp _ _ put.roles ended.roles done) (λ done. members_edit laws c.args.stamp _ _ put.members ended.members done)
-    (λ done. mandates_edit laws c.args.stamp _ _ put.mandates ended.mandates done)
+    (λ done. parties_edit laws c.args.stamp _ _ c.args.next put.parties ended.parties done) (λ done. roles_edit laws c.args.stamp _ _ c.args.next put.roles ended.roles done) (λ done. members_edit laws c.args.stamp _ _ c.args.next put.members ended.members done)
+    (λ done. mandates_edit laws c.args.stamp _ _ c.args.next put.mandates ended.mandates done)

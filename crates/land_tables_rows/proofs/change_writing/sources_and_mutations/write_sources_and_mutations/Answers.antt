@@ -18,4 +18,4 @@ returns-clause-step g c =
     let laws = c.table_changes_keep_history.ensures in
     three_steps _ _ _ (state g.S.Store c.args.tx.now.conn.now) (state g.S.Store c.change_kind.new.tx.conn.now) (state g.S.Store c.change_kind-2.new.tx.conn.now) (state g.S.Store c.begin_names.new.tx.conn.now)
     c.begin_names.result (rw (same) at c.in_ok-change_kind.ensures.step) (rw (same) at c.in_ok-change_kind-2.ensures.step) (rw (same) at c.begin_names.ensures.step)
-    (λ done. sources_edit laws c.args.stamp _ _ put.sources ended.sources done) (λ done. mutations_edit laws c.args.stamp _ _ put.mutations ended.mutations done) (λ done. namings_edit laws c.args.stamp _ _ c.args.next put.mutations done)
+    (λ done. sources_edit laws c.args.stamp _ _ c.args.next put.sources ended.sources done) (λ done. mutations_edit laws c.args.stamp _ _ c.args.next put.mutations ended.mutations done) (λ done. namings_edit laws c.args.stamp _ _ c.args.next put.mutations done)

@@ -21,4 +21,4 @@ returns-clause-step g c =
     let laws = c.table_changes_keep_history.ensures in
     three_steps _ _ _ (state g.S.Store c.args.tx.now.conn.now) (state g.S.Store c.change_kind.new.tx.conn.now) (state g.S.Store c.change_kind-2.new.tx.conn.now) (state g.S.Store c.change_kind-3.new.tx.conn.now)
     c.change_kind-3.result (rw (same) at c.in_ok-change_kind.ensures.step) (rw (same) at c.in_ok-change_kind-2.ensures.step) (rw (same) at c.change_kind-3.ensures.step)
-    (λ done. units_edit laws c.args.stamp _ _ put.units ended.units done) (λ done. parcels_edit laws c.args.stamp _ _ put.parcels ended.parcels done) (λ done. rrrs_edit laws c.args.stamp _ _ put.rrrs ended.rrrs done)
+    (λ done. units_edit laws c.args.stamp _ _ c.args.next put.units ended.units done) (λ done. parcels_edit laws c.args.stamp _ _ c.args.next put.parcels ended.parcels done) (λ done. rrrs_edit laws c.args.stamp _ _ c.args.next put.rrrs ended.rrrs done)
