@@ -23,10 +23,10 @@ module _ (text : List ℕ) (q : Query) (asks : (indexes : List Index) → Asks (
     asks_now : Asks (schema_v2_with old.now.schema.indexes) text q
     asks_now = asks old.now.schema.indexes
 
-    plain_now : IsPlain (understood old.now.schema text)
+    pub plain_now : IsPlain (understood old.now.schema text)
     plain_now = subst (λ s. IsPlain (understood s text)) (sym (but_for_indexes old.now.schema has_tables)) asks_now.plain
 
-    answer : (rows : List Row) → Shown text params old new rows → IsAnswer q (overlay old.now.trees []) params rows
+    pub answer : (rows : List Row) → Shown text params old new rows → IsAnswer q (overlay old.now.trees []) params rows
     answer rows h =
         (reads_as text params old new (schema_v2_with old.now.schema.indexes) (but_for_indexes old.now.schema has_tables) _ asks_now.command asks_now.plain asks_now.unlisted rows h).answer Null
 

@@ -25,7 +25,7 @@ same_fine : (m n : ℕ) → ◌≡◌ {A = Result ℕ WireFault} (Ok m) (Ok n) �
 same_fine m n e = cc
 
 -- the only number of a row is decoded
-one_is_read : (n : ℕ) → counted (Int (pos n) ∷ []) ≡ Ok n
+pub one_is_read : (n : ℕ) → counted (Int (pos n) ∷ []) ≡ Ok n
 unfolding natural_in
 one_is_read n = refl
 

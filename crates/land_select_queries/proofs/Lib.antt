@@ -33,6 +33,7 @@ pub mod Selected
 pub mod Sets
 pub mod Shapes
 pub mod Standing
+pub mod Streamed
 pub mod Tested
 pub mod United
 pub mod Views
