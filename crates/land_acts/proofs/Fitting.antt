@@ -17,7 +17,7 @@ use Rattle.land_acts.specs.Mutations.Planning.{first_refusal_of, runs_out_of_num
 use Rattle.land_acts.specs.Mutations.Subdividing.{subdivision_count}
 use Rattle.land_acts.specs.Mutations.Transferring.{are_too_many, right_of_receiver, move_change, number_after}
 use Rattle.land_acts.specs.Outcome.{HasNoRefusal, has_room_for}
-use Rattle.land_acts.specs.Slices.{IsSliceOfSound, reads_rrr}
+use Rattle.land_acts.specs.Slices.{IsSliceOfSound, includes_rrr}
 use Rattle.land_acts.specs.declared.mutations.refusal.Refusal.TheVariants.{NotLodged}
 use Rattle.land_acts.specs.declared.mutations.transfer.HeldRight.{HeldRight}
 use Rattle.land_core.proofs.SoundRegisters.{refers}
@@ -93,7 +93,7 @@ module _ (s : Register) (caller : Caller) (it : Decision) (slice : IsSliceOfSoun
 
   rank_fits : (unit : ℕ) → runs_out_of_numbers s 1 ≡ false → next_rank s unit ≤ 1000000000
   rank_fits unit room =
-      let rank = next_rank_fits_kept slice.register slice.sound unit s (λ n e. reads_rrr slice.register (act.Approve it) n e) (ap (λ (r : Register). r.rrrs) slice.is) in
+      let rank = next_rank_fits_kept slice.register slice.sound unit s (λ n e. includes_rrr slice.parts slice.register (act.Approve it) n e) (ap (λ (r : Register). r.rrrs) slice.is) in
       let few = one_left s room in
       let same = next_same in
       omega (arith, rank, few, same)

@@ -40,6 +40,7 @@ pub mod RoleActs
 pub mod SameGround
 pub mod SlicedDecisions
 pub mod SlicedMutations
+pub mod SlicedOutcomes
 pub mod SlicedWords
 pub mod SubdividedEntries
 pub mod SubdividedGrounds

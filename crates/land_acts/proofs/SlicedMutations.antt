@@ -9,7 +9,8 @@ use Rattle.std.specs.FinMap as map
 use Rattle.std.specs.FinMap.{nat_cmp-IsAntisymmetric}
 use Rattle.std.proofs.lemmas.Cmp.{nat_eq_equiv}
 use Rattle.land_acts.specs.Lodging.{has_lodged_other, is_same_lodging, lodge_repeat, mutation_with_reference, receipt_of_lodging, repeat_of}
-use Rattle.land_acts.specs.Slices.{reads_source, slice_of}
+use Rattle.land_acts.specs.Slices.{reads_source, slice_with}
+use Rattle.land_acts.specs.declared.slice_parts.SliceParts.{SliceParts}
 use Rattle.land_core.proofs.Reflection.{entries-entries_where, get-entries_where}
 use Rattle.land_core.specs.Contents.{is_same_content}
 use Rattle.land_core.specs.Mutations.{is_lodged_as}
@@ -43,9 +44,9 @@ found_among_kept {X} p q (y ∷ ys) x e h =
     same : Some y ≡ Some x → y ≡ x
     same e = cc
 
-module _ (r : Register) (caller : Caller) (it : Lodging) where
+module _ (parts : SliceParts) (r : Register) (caller : Caller) (it : Lodging) (sources : parts.sources ≡ true) where
   abbrev slice : Register
-  slice = slice_of r caller (act.Lodge it)
+  slice = slice_with parts r caller (act.Lodge it)
 
   under_same : mutation_with_reference slice caller.party it.reference ≡ mutation_with_reference r caller.party it.reference
   under_same =
@@ -61,7 +62,8 @@ module _ (r : Register) (caller : Caller) (it : Lodging) where
   title_same : (e : ℕ × MutationRecord) → mutation_with_reference r caller.party it.reference ≡ Some e → is_same_lodging slice it e.1 ≡ is_same_lodging r it e.1
   title_same e is =
       ap (λ o. option_map_or (λ s. bytes_eq s.title it.document) o false && is_same_content e.1.content it.content)
-      (get-entries_where nat_cmp_total nat_cmp-IsAntisymmetric (λ n s. reads_source r caller (act.Lodge it) n) r.sources e.1.source (λ s. looked_at e is))
+      (get-entries_where nat_cmp_total nat_cmp-IsAntisymmetric (λ n s. parts.sources && reads_source r caller (act.Lodge it) n) r.sources e.1.source
+      (λ s. ap (λ b. b && reads_source r caller (act.Lodge it) e.1.source) sources ∙ looked_at e is))
 
   pub repeat_same : lodge_repeat slice caller it ≡ lodge_repeat r caller it
   repeat_same = ap (repeat_of slice it) under_same ∙ by_case (mutation_with_reference r caller.party it.reference) refl

@@ -1,7 +1,7 @@
 -- Laws on all acts, stated only over the definitions.
 use Rattle.std.specs.Prelude.{◌≡◌, ◌≢◌, ◌≤◌, true, Option, Some, None, Ok, ℤ}
 use Rattle.land_acts.specs.Outcome.{outcome_of}
-use Rattle.land_acts.specs.Slices.{slice_of}
+use Rattle.land_acts.specs.Slices.{needed_slice_of, slice_of}
 use Rattle.land_acts.specs.declared.mutations.refusal.Planned.TheVariants.{New}
 use Rattle.land_core.specs.Acts.{is_well_formed}
 use Rattle.land_core.specs.Changes.{after, NamesKeysOnce}
@@ -17,6 +17,11 @@ use Rattle.land_core.specs.declared.register.Register.{Register}
 abbrev pub SlicesSuffice : Type 0
 SlicesSuffice = (r : Register) (caller : Caller) (a : Act) (stamp : Option ℤ)
     → outcome_of (slice_of r caller a) caller a stamp ≡ outcome_of r caller a stamp
+
+-- and it has the same outcome on the needed part of the slice
+abbrev pub NeededSlicesSuffice : Type 0
+NeededSlicesSuffice = (r : Register) (caller : Caller) (a : Act) (stamp : Option ℤ)
+    → outcome_of (needed_slice_of r caller a) caller a stamp ≡ outcome_of r caller a stamp
 
 -- a change is accepted if it is the outcome of a well-formed act of a caller that holds its role, with this
 -- stamp

@@ -1,5 +1,5 @@
 -- The slice of a register for an act: only the records that planning the act may read.
-use Rattle.std.specs.Prelude.{ℕ, ◌≡◌, Bool, false, ◌&&◌, ◌||◌, nat_eq}
+use Rattle.std.specs.Prelude.{ℕ, ◌≡◌, Bool, true, false, ◌&&◌, ◌||◌, nat_eq}
 use Rattle.std.specs.FinMap as map
 use Rattle.std.specs.FinMap.{FinMap}
 use Rattle.std.specs.Option.{option_map_or}
@@ -7,10 +7,12 @@ use Rattle.std.specs.Ordering.{nat_cmp}
 use Rattle.land_acts.specs.FirstRights.{rights_list_party}
 use Rattle.land_acts.specs.Mandating.{mandate_of_caller}
 use Rattle.land_acts.specs.Sharing.{lists_party}
+use Rattle.land_acts.specs.declared.slice_parts.SliceParts.{SliceParts}
 use Rattle.land_core.specs.Contents.{names_unit as content_names_unit}
 use Rattle.land_core.specs.Entries.{entries_where, some}
 use Rattle.land_core.specs.Mutations.{is_lodged_as}
 use Rattle.land_core.specs.Register.{holds}
+use Rattle.land_core.specs.Role.{is_role}
 use Rattle.land_core.specs.Soundness.{IsSound}
 use Rattle.land_core.specs.declared.act.Act.{Act}
 use Rattle.land_core.specs.declared.act.Act.TheVariants as act
@@ -152,8 +154,92 @@ slice_of r caller a = record {
   next = r.next;
 }
 
--- the register is the slice of a sound register for an act
+-- ---- parts of a slice
+
+-- no part, and all parts
+abbrev pub no_parts : SliceParts
+no_parts = record {
+  parties = false;
+  administrators = false;
+  roles = false;
+  members = false;
+  units = false;
+  parcels = false;
+  sources = false;
+}
+
+abbrev pub all_parts : SliceParts
+all_parts = record {
+  parties = true;
+  administrators = true;
+  roles = true;
+  members = true;
+  units = true;
+  parcels = true;
+  sources = true;
+}
+
+-- whether some parts of a slice include a party, a unit and an entry
+abbrev pub includes_party : SliceParts → Register → Act → ℕ → Bool
+includes_party parts r a n =
+    parts.parties && names_party r a n || parts.administrators && holds r n StateAdministrator
+
+abbrev pub includes_unit : SliceParts → Register → Act → ℕ → Bool
+includes_unit parts r a n = parts.units && names_unit r a n
+
+abbrev pub includes_rrr : SliceParts → Register → Act → ℕ → RrrRecord → Bool
+includes_rrr parts r a n e = includes_unit parts r a e.unit || names_rrr r a n
+
+-- these parts of the slice: each party with its roles and members, each unit with its entries and parcels, if
+-- they are included
+abbrev pub slice_with : SliceParts → Register → Caller → Act → Register
+slice_with parts r caller a = record {
+  parties = entries_where (λ n p. includes_party parts r a n) r.parties;
+  roles = entries_where (λ grant u. parts.roles && includes_party parts r a grant.party) r.roles;
+  members = entries_where (λ n members. parts.members && includes_party parts r a n) r.members;
+  units = entries_where (λ n u. includes_unit parts r a n) r.units;
+  parcels = entries_where (λ n p. parts.parcels && includes_unit parts r a p.unit) r.parcels;
+  rrrs = entries_where (λ n e. includes_rrr parts r a n e) r.rrrs;
+  sources = entries_where (λ n s. parts.sources && reads_source r caller a n) r.sources;
+  mutations = mutations_in_slice r caller a;
+  mandates = entries_where (λ m u. names_mandate caller a m) r.mandates;
+  next = r.next;
+}
+
+-- the parts on which the outcome of a decision depends, by the content of its mutation
+abbrev pub parts_of_content : Content → SliceParts
+parts_of_content (content.Transfer it) = record no_parts { parties = true; units = true }
+parts_of_content (content.Subdivision it) = record no_parts { units = true; parcels = true }
+parts_of_content (content.Merger it) = record no_parts { units = true; parcels = true }
+parts_of_content (content.Mortgage it) = record no_parts { parties = true; roles = true; units = true }
+parts_of_content (content.Discharge it) = record no_parts { units = true }
+
+-- the parts on which the outcome of an act depends, by the mutations in its slice. Another state administrator
+-- matters only if the act ends that role
+abbrev pub needed_parts : FinMap nat_cmp MutationRecord → Act → SliceParts
+needed_parts mutations (act.Enrol it) = no_parts
+needed_parts mutations (act.Group it) = record no_parts { parties = true }
+needed_parts mutations (act.Regroup it) = record no_parts { parties = true }
+needed_parts mutations (act.Grant it) = record no_parts { parties = true; roles = true }
+needed_parts mutations (act.Revoke it) =
+    record no_parts { parties = true; administrators = is_role it.role StateAdministrator; roles = true }
+needed_parts mutations (act.Mandate it) = record no_parts { parties = true }
+needed_parts mutations (act.Withdraw it) = no_parts
+needed_parts mutations (act.Register it) = record no_parts { parties = true }
+needed_parts mutations (act.Burden it) = record no_parts { parties = true; units = true }
+needed_parts mutations (act.Lift it) = no_parts
+needed_parts mutations (act.Lodge it) = record no_parts { sources = true }
+needed_parts mutations (act.Approve it) =
+    option_map_or (λ m. parts_of_content m.content) (map.get mutations it.mutation) no_parts
+needed_parts mutations (act.Refuse it) = no_parts
+
+-- the part of the slice on which the outcome of an act depends
+abbrev pub needed_slice_of : Register → Caller → Act → Register
+needed_slice_of r caller a = slice_with (needed_parts (mutations_in_slice r caller a) a) r caller a
+
+-- the register consists of parts of the slice of a sound register for an act
 pub record IsSliceOfSound (slice : Register) (caller : Caller) (a : Act) : Type 0 where
   pub register : Register
+  pub parts : SliceParts
   pub sound : IsSound register
-  pub is : slice ≡ slice_of register caller a
+  pub is : slice ≡ slice_with parts register caller a

@@ -3,7 +3,7 @@
 ghost use Rattle.land_acts.specs.AreaLaws.{MergersKeepAreas, SubdivisionsKeepAreas};
 ghost use Rattle.land_acts.specs.GroundLaws.{MergersKeepGround, SubdivisionsKeepGround};
 ghost use Rattle.land_acts.specs.Laws.{SlicesSuffice, AcceptedKeepsSound, AcceptedNamesKeysOnce};
-ghost use Rattle.land_acts.specs.Laws.{AcceptedReturnsStamp, NothingWithoutStamp};
+ghost use Rattle.land_acts.specs.Laws.{AcceptedReturnsStamp, NeededSlicesSuffice, NothingWithoutStamp};
 ghost use Rattle.land_acts.specs.MutationLaws.{DecisionsStay, LodgingsExist, LodgingsStay};
 ghost use Rattle.land_acts.specs.MutationLaws.{RepeatsGetTheFirstReceipt};
 ghost use Rattle.land_acts.specs.RegisterAreas.{ApprovedRegistersKeepTheirArea, OnlyRegistrationsAddArea};
@@ -11,6 +11,11 @@ ghost use Rattle.land_acts.specs.RegisterAreas.{ApprovedRegistersKeepTheirArea, 
 /// An act has the same outcome on a register and on its slice.
 pub fn slices_suffice()
     ensures { SlicesSuffice }
+{}
+
+/// An act has the same outcome on a register and on the needed part of its slice.
+pub fn needed_slices_suffice()
+    ensures { NeededSlicesSuffice }
 {}
 
 /// An accepted act of a caller that holds its role keeps a sound register sound, and never reuses a number.

@@ -18,6 +18,7 @@ mod regroup;
 mod revoke;
 mod sharing;
 pub mod slice;
+pub mod slice_parts;
 mod withdraw;
 
 pub use crate::mutations::refusal;

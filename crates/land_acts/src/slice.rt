@@ -1,14 +1,16 @@
 //! Slices: the records that planning an act may read.
-ghost use Rattle.std.specs.Prelude.{◌≡◌, nat_eq, IfOk};
-ghost use Rattle.land_acts.specs.Slices.{content_names_party, slice_of, is_same_mandate, reads_mutation};
-ghost use Rattle.land_acts.specs.Slices.{reads_party, reads_rrr, mutations_in_slice, names_mandate};
-ghost use Rattle.land_acts.specs.Slices.{names_party, names_rrr, names_unit};
+ghost use Rattle.std.specs.Prelude.{◌≡◌, ◌&&◌, nat_eq, IfOk};
+ghost use Rattle.land_acts.specs.Slices.{content_names_party, includes_party, includes_rrr, includes_unit};
+ghost use Rattle.land_acts.specs.Slices.{is_same_mandate, mutations_in_slice, names_mandate, names_party};
+ghost use Rattle.land_acts.specs.Slices.{names_rrr, names_unit, needed_slice_of, reads_mutation};
+ghost use Rattle.land_acts.specs.Slices.{slice_of, slice_with};
 ghost use Rattle.land_core.specs.Entries.{entries_where, some};
 
 use crate::first_rights::rights_list_party;
 use crate::mandate::mandate_of_caller;
 pub use crate::mutations::planning::Slice;
 use crate::sharing::lists_party;
+use crate::slice_parts::{SliceParts, needed_parts};
 use land_core::act::Act;
 use land_core::caller::Caller;
 use land_core::content::Content;
@@ -39,47 +41,91 @@ pub fn slice_of(
     ensures { IfOk result (λ it. it ≡ slice_of register.now caller act.now) }
 {
     let mutations = mutations_in_slice(alloc, register, caller, act)?;
+    slice_with(alloc, register, caller, act, SliceParts::all(), mutations)
+}
+
+/// Returns the part of the slice on which the outcome of the act depends. The only error is out of memory.
+pub fn needed_slice_of(
+    alloc: Global,
+    register: &Register,
+    caller: Caller,
+    act: &Act,
+) -> Result<Slice, AllocError>
+    ensures { IfOk result (λ it. it ≡ needed_slice_of register.now caller act.now) }
+{
+    let mutations = mutations_in_slice(alloc, register, caller, act)?;
+    let parts = needed_parts(&mutations, act);
+    slice_with(alloc, register, caller, act, parts, mutations)
+}
+
+/// Returns these parts of the slice, whose mutations are known.
+fn slice_with(
+    alloc: Global,
+    register: &Register,
+    caller: Caller,
+    act: &Act,
+    parts: SliceParts,
+    mutations: Records<MutationRecord>,
+) -> Result<Slice, AllocError>
+    ensures { mutations ≡ mutations_in_slice register.now caller act.now
+        → IfOk result (λ it. it ≡ slice_with parts register.now caller act.now) }
+{
     Ok(Register {
-        parties: records_in_slice(alloc, &register.parties, register, act)?,
-        roles: roles_in_slice(alloc, register, act)?,
-        members: records_in_slice(alloc, &register.members, register, act)?,
-        units: units_in_slice(alloc, register, act)?,
-        parcels: parcels_in_slice(alloc, register, act)?,
-        rrrs: rrrs_in_slice(alloc, register, act)?,
-        sources: sources_of(alloc, register, &mutations)?,
+        parties: records_in_slice(alloc, &register.parties, register, act, parts, true)?,
+        roles: roles_in_slice(alloc, register, act, parts)?,
+        members: records_in_slice(
+            alloc,
+            &register.members,
+            register,
+            act,
+            parts,
+            parts.members,
+        )?,
+        units: units_in_slice(alloc, register, act, parts)?,
+        parcels: parcels_in_slice(alloc, register, act, parts)?,
+        rrrs: rrrs_in_slice(alloc, register, act, parts)?,
+        sources: sources_of(alloc, register, &mutations, parts.sources)?,
         mutations,
         mandates: mandates_in_slice(alloc, register, caller, act)?,
         next: register.next,
     })
 }
 
-/// Returns the records in the slice, of a map by the numbers of parties.
+/// Returns the records in the slice, of a map by the numbers of parties; none of them if `is_included` is
+/// false.
 fn records_in_slice<T: Duplicate>(
     alloc: Global,
     records: &Records<T>,
     register: &Register,
     act: &Act,
+    parts: SliceParts,
+    is_included: bool,
 ) -> Result<Records<T>, AllocError>
-    ensures { IfOk result
-        (λ it. it ≡ entries_where (λ n value. reads_party register.now act.now n) records.now) }
+    ensures { IfOk result (λ it. it ≡ entries_where
+        (λ n value. is_included && includes_party parts register.now act.now n) records.now) }
 {
     let mut kept = Records::new(alloc);
     for (number, record) in records.iter() {
-        if reads_party(register, act, *number) {
+        if is_included && includes_party(register, act, *number, parts) {
             kept.insert(*number, record.copy(alloc)?)?;
         }
     }
     Ok(kept)
 }
 
-fn roles_in_slice(alloc: Global, register: &Register, act: &Act) -> Result<Roles, AllocError>
-    ensures { IfOk result
-        (λ it. it ≡ entries_where (λ grant u. reads_party register.now act.now grant.party)
+fn roles_in_slice(
+    alloc: Global,
+    register: &Register,
+    act: &Act,
+    parts: SliceParts,
+) -> Result<Roles, AllocError>
+    ensures { IfOk result (λ it. it ≡ entries_where
+        (λ grant u. parts.roles && includes_party parts register.now act.now grant.party)
         register.now.roles) }
 {
     let mut kept = Roles::new(alloc);
     for grant in register.roles.iter() {
-        if reads_party(register, act, grant.party) {
+        if parts.roles && includes_party(register, act, grant.party, parts) {
             kept.insert(*grant)?;
         }
     }
@@ -90,13 +136,14 @@ fn units_in_slice(
     alloc: Global,
     register: &Register,
     act: &Act,
+    parts: SliceParts,
 ) -> Result<Records<UnitRecord>, AllocError>
-    ensures { IfOk result
-        (λ it. it ≡ entries_where (λ n u. names_unit register.now act.now n) register.now.units) }
+    ensures { IfOk result (λ it. it ≡ entries_where
+        (λ n u. includes_unit parts register.now act.now n) register.now.units) }
 {
     let mut kept = Records::new(alloc);
     for (number, unit) in register.units.iter() {
-        if names_unit(register, act, *number) {
+        if includes_unit(register, act, *number, parts) {
             kept.insert(*number, unit.copy(alloc)?)?;
         }
     }
@@ -107,13 +154,14 @@ fn parcels_in_slice(
     alloc: Global,
     register: &Register,
     act: &Act,
+    parts: SliceParts,
 ) -> Result<Records<ParcelRecord>, AllocError>
-    ensures { IfOk result
-        (λ it. it ≡ entries_where (λ n p. names_unit register.now act.now p.unit) register.now.parcels) }
+    ensures { IfOk result (λ it. it ≡ entries_where
+        (λ n p. parts.parcels && includes_unit parts register.now act.now p.unit) register.now.parcels) }
 {
     let mut kept = Records::new(alloc);
     for (number, parcel) in register.parcels.iter() {
-        if names_unit(register, act, parcel.unit) {
+        if parts.parcels && includes_unit(register, act, parcel.unit, parts) {
             kept.insert(*number, parcel.copy(alloc)?)?;
         }
     }
@@ -124,13 +172,14 @@ fn rrrs_in_slice(
     alloc: Global,
     register: &Register,
     act: &Act,
+    parts: SliceParts,
 ) -> Result<Records<RrrRecord>, AllocError>
-    ensures { IfOk result
-        (λ it. it ≡ entries_where (λ n e. reads_rrr register.now act.now n e) register.now.rrrs) }
+    ensures { IfOk result (λ it. it ≡ entries_where
+        (λ n e. includes_rrr parts register.now act.now n e) register.now.rrrs) }
 {
     let mut kept = Records::new(alloc);
     for (number, entry) in register.rrrs.iter() {
-        if reads_rrr(register, act, *number, entry) {
+        if includes_rrr(register, act, *number, entry, parts) {
             kept.insert(*number, entry.copy(alloc)?)?;
         }
     }
@@ -154,18 +203,19 @@ fn mutations_in_slice(
     Ok(kept)
 }
 
-/// Returns the sources of these mutations.
+/// Returns the sources of these mutations; none of them if `is_included` is false.
 fn sources_of(
     alloc: Global,
     register: &Register,
     mutations: &Records<MutationRecord>,
+    is_included: bool,
 ) -> Result<Records<SourceRecord>, AllocError>
-    ensures { IfOk result (λ it. it ≡ entries_where (λ n s. some
-        (λ k m. nat_eq m.source n) mutations.now) register.now.sources) }
+    ensures { IfOk result (λ it. it ≡ entries_where
+        (λ n s. is_included && some (λ k m. nat_eq m.source n) mutations.now) register.now.sources) }
 {
     let mut kept = Records::new(alloc);
     for (number, source) in register.sources.iter() {
-        if is_source_of(mutations, *number) {
+        if is_included && is_source_of(mutations, *number) {
             kept.insert(*number, source.copy(alloc)?)?;
         }
     }
@@ -227,10 +277,12 @@ fn reads_mutation(caller: Caller, act: &Act, number: u64, mutation: &MutationRec
     }
 }
 
-fn reads_party(register: &Register, act: &Act, party: u64) -> bool
-    ensures { result ≡ reads_party register.now act.now party }
+/// Returns whether these parts of the slice include a party.
+fn includes_party(register: &Register, act: &Act, party: u64, parts: SliceParts) -> bool
+    ensures { result ≡ includes_party parts register.now act.now party }
 {
-    names_party(register, act, party) || register.holds(party, Role::StateAdministrator)
+    parts.parties && names_party(register, act, party)
+        || parts.administrators && register.holds(party, Role::StateAdministrator)
 }
 
 fn names_party(register: &Register, act: &Act, party: u64) -> bool
@@ -265,10 +317,24 @@ fn content_names_party(content: &Content, party: u64) -> bool
     }
 }
 
-fn reads_rrr(register: &Register, act: &Act, number: u64, entry: &RrrRecord) -> bool
-    ensures { result ≡ reads_rrr register.now act.now number entry.now }
+/// Returns whether these parts of the slice include an entry.
+fn includes_rrr(
+    register: &Register,
+    act: &Act,
+    number: u64,
+    entry: &RrrRecord,
+    parts: SliceParts,
+) -> bool
+    ensures { result ≡ includes_rrr parts register.now act.now number entry.now }
 {
-    names_unit(register, act, entry.unit) || names_rrr(register, act, number)
+    includes_unit(register, act, entry.unit, parts) || names_rrr(register, act, number)
+}
+
+/// Returns whether these parts of the slice include a unit.
+fn includes_unit(register: &Register, act: &Act, unit: u64, parts: SliceParts) -> bool
+    ensures { result ≡ includes_unit parts register.now act.now unit }
+{
+    parts.units && names_unit(register, act, unit)
 }
 
 fn names_unit(register: &Register, act: &Act, unit: u64) -> bool

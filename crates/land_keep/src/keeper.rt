@@ -1,6 +1,6 @@
 //! Keepers of the register through time.
 ghost use Rattle.std.specs.Prelude.{◌≡◌, ◌≤ℤ◌, Bool, IfOk, IfSome, OnOk, OnErr};
-ghost use Rattle.land_acts.specs.Slices.{slice_of};
+ghost use Rattle.land_acts.specs.Slices.{needed_slice_of, slice_of};
 ghost use Rattle.land_core.specs.Register.{object_at};
 ghost use Rattle.land_keep.specs.Keeping.{Closes, CanWrite, IsHonestAndOpen};
 ghost use Rattle.land_keep.specs.Machine.{verdict_at, moment_of, written};
@@ -137,6 +137,20 @@ pub trait Keeper {
     fn slice(&mut self, alloc: Global, caller: Caller, act: &Act) -> Result<Slice, StoreFault>
         ensures value { honest self.new
             → IfOk result (λ it. it ≡ slice_of (last_register (timeline self.old)) caller act.now) }
+        ensures same { IsHonestAndOpen (honest self.new) (closed self.new)
+            → timeline self.new ≡ timeline self.old }
+        ensures was { honest self.new → honest self.old }
+        ensures closes { Closes (closed self.old) (closed self.new) result };
+
+    /// Returns the part of that slice on which the outcome of the act depends.
+    fn needed_slice(
+        &mut self,
+        alloc: Global,
+        caller: Caller,
+        act: &Act,
+    ) -> Result<Slice, StoreFault>
+        ensures value { honest self.new → IfOk result
+            (λ it. it ≡ needed_slice_of (last_register (timeline self.old)) caller act.now) }
         ensures same { IsHonestAndOpen (honest self.new) (closed self.new)
             → timeline self.new ≡ timeline self.old }
         ensures was { honest self.new → honest self.old }

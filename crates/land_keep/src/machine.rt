@@ -17,7 +17,7 @@ use crate::moments::{explicit_moment, now_at, stamp_at};
 use crate::prepared::{Prepared, Writing};
 use crate::reply::Reply;
 use crate::store_fault::StoreFault;
-use land_acts::laws::slices_suffice;
+use land_acts::laws::needed_slices_suffice;
 use land_acts::plan::plan;
 use land_acts::refusal::{Planned, Refusal};
 use land_core::act::Act;
@@ -101,7 +101,7 @@ fn prepare_allowed<K: Keeper>(
     }
 }
 
-/// Plans an act on its slice of the last register.
+/// Plans an act on the part of the last register on which its outcome depends.
 fn prepare_act<K: Keeper>(
     alloc: Global,
     keeper: &mut K,
@@ -123,8 +123,8 @@ fn prepare_act<K: Keeper>(
     ensures closes { Closes (K.closed keeper.old) (K.closed keeper.new) result }
 {
     let stamp = stamp_at(clock, keeper.last());
-    let slice = keeper.slice(alloc, caller, act)?;
-    slices_suffice();
+    let slice = keeper.needed_slice(alloc, caller, act)?;
+    needed_slices_suffice();
     prepare_outcome(plan(alloc, &slice, caller, act, stamp))
 }
 

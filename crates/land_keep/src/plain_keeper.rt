@@ -12,7 +12,7 @@ use crate::named::{NamedObject, objects_of};
 use crate::store_fault::StoreFault;
 use crate::timeline::Version;
 use crate::view::{View, view_of};
-use land_acts::slice::{Slice, slice_of};
+use land_acts::slice::{Slice, needed_slice_of, slice_of};
 use land_core::act::Act;
 use land_core::ask::Ask;
 use land_core::caller::Caller;
@@ -108,7 +108,7 @@ impl PlainKeeper {
 }
 
 impl Keeper for PlainKeeper {
-    ghost use Rattle.land_acts.specs.Slices.{slice_of};
+    ghost use Rattle.land_acts.specs.Slices.{needed_slice_of, slice_of};
     ghost use Rattle.land_core.specs.Register.{object_at};
     ghost use Rattle.land_keep.specs.Named.{objects_at};
     ghost use Rattle.land_keep.specs.Sheets.{view_at};
@@ -197,6 +197,17 @@ impl Keeper for PlainKeeper {
         let nothing = Register::nothing(alloc);
         let last = self.last_register(&nothing);
         Ok(slice_of(alloc, last, caller, act)?)
+    }
+
+    fn needed_slice(
+        &mut self,
+        alloc: Global,
+        caller: Caller,
+        act: &Act,
+    ) -> Result<Slice, StoreFault> {
+        let nothing = Register::nothing(alloc);
+        let last = self.last_register(&nothing);
+        Ok(needed_slice_of(alloc, last, caller, act)?)
     }
 
     fn write(&mut self, alloc: Global, change: &Change, stamp: i64) -> Result<(), StoreFault> {

@@ -1,5 +1,5 @@
 -- Inserting the parts of each number gives the part of all of them.
-use Rattle.std.proofs.Common.{◌≡◌, ◌⊎◌, ℕ, Bool, true, false, ◌||◌, nat_eq, cond, List, [], ◌∷◌, Option, Some, None, refl, sym, ap, ap₂, subst, ◌∙◌, inl, inr}
+use Rattle.std.proofs.Common.{◌≡◌, ◌⊎◌, ℕ, Bool, true, false, ◌||◌, nat_eq, cond, List, [], ◌∷◌, Option, Some, None, refl, sym, ap, subst, ◌∙◌, inl, inr}
 use Rattle.std.proofs.lemmas.Bool.{or_cases, or_left, or_right}
 use Rattle.std.proofs.lemmas.Bool.Decides.{Decides-eqb}
 use Rattle.std.specs.Cmp.{IsTotalOrder, nat_cmp_total}
@@ -11,22 +11,10 @@ use Rattle.std.specs.Cmp.{tied_itself}
 use Rattle.std.specs.declared.cmp.Ordering.{Ordering}
 use Rattle.land_core.proofs.Booleans.{or_nothing}
 use Rattle.land_core.proofs.FiniteMaps.{is_equal}
-use Rattle.land_core.proofs.FiniteSets.{exact_grants, grants_total}
 use Rattle.land_core.proofs.Reflection.{each_there}
 use Rattle.land_core.specs.Entries.{entries_where, with_entries}
-use Rattle.land_core.specs.Grants.{Grants}
-use Rattle.land_core.specs.Members.{Members}
-use Rattle.land_core.specs.declared.parcel.ParcelRecord.{ParcelRecord}
-use Rattle.land_core.specs.declared.party.PartyRecord.{PartyRecord}
-use Rattle.land_core.specs.declared.register.Register.{Register}
-use Rattle.land_core.specs.declared.rrr.RrrRecord.{RrrRecord}
-use Rattle.land_core.specs.declared.source.SourceRecord.{SourceRecord}
-use Rattle.land_core.specs.declared.unit.UnitRecord.{UnitRecord}
 use Rattle.land_select.proofs.Keeping.{entry_found, entry_there, is_kept, none_kept, same_entries, same_kept, was_kept}
-use Rattle.land_select.specs.Slices.Gathered.{KnowsUnits, KnowsSources, KnowsParties, put_all, put_one, with_number, with_party, with_source, with_unit}
-use Rattle.land_select.specs.declared.slices.units_and_entries.UnitsAndEntries.{UnitsAndEntries}
-use Rattle.land_select.specs.declared.slices.gathered_sources.GatheredSources.{GatheredSources}
-use Rattle.land_select.specs.declared.slices.parties_and_roles.PartiesAndRoles.{PartiesAndRoles}
+use Rattle.land_select.specs.Slices.Gathered.{put_all, put_one, with_number}
 use Rattle.land_select_queries.proofs.Containing.{first, first_or_later, in_nothing, later}
 
 -- ---- truths
@@ -151,28 +139,3 @@ pub single_kept : {V : Type 0} (all : FinMap nat_cmp V) (n : ℕ) (found : Optio
 single_kept all n found is =
     ap (λ m. put_one m n found) (none_kept nat_cmp_total nat_cmp-IsAntisymmetric all) ∙ one_kept (λ k. false) all n found is
     ∙ same_kept nat_cmp_total nat_cmp-IsAntisymmetric (λ k v. with_number n (λ k. false) k) (λ k v. nat_eq k n) all (λ k v. or_nothing (nat_eq k n))
-
--- one more party with its roles and its members
-pub person_known : (r : Register) (asked : ℕ → Bool) (known : PartiesAndRoles) (n : ℕ) (party : Option PartyRecord) (roles : Grants) (members : FinMap nat_cmp Members) → party ≡ map.get r.parties n
-    → roles ≡ entries_where (λ grant u. nat_eq grant.party n) r.roles → members ≡ entries_where (λ k ms. nat_eq k n) r.members → KnowsParties r asked known
-    → KnowsParties r (with_number n asked) (with_party known n party roles members)
-person_known r asked known n party roles members party_is roles_are members_are knows = record {
-  parties = ap (λ m. put_one m n party) knows.parties ∙ one_kept asked r.parties n party party_is;
-  roles = ap₂ put_all knows.roles roles_are ∙ both_kept grants_total exact_grants r.roles (λ grant u. asked grant.party) (λ grant u. nat_eq grant.party n);
-  members = ap₂ put_all knows.members members_are ∙ both_kept nat_cmp_total nat_cmp-IsAntisymmetric r.members (λ k ms. asked k) (λ k ms. nat_eq k n);
-}
-
--- one more unit with its parcels and its entries
-pub unit_known : (r : Register) (asked : ℕ → Bool) (known : UnitsAndEntries) (n : ℕ) (unit : Option UnitRecord) (parcels : FinMap nat_cmp ParcelRecord) (rrrs : FinMap nat_cmp RrrRecord)
-    → unit ≡ map.get r.units n → parcels ≡ entries_where (λ k p. nat_eq p.unit n) r.parcels → rrrs ≡ entries_where (λ k e. nat_eq e.unit n) r.rrrs → KnowsUnits r asked known
-    → KnowsUnits r (with_number n asked) (with_unit known n unit parcels rrrs)
-unit_known r asked known n unit parcels rrrs unit_is parcels_are rrrs_are knows = record {
-  units = ap (λ m. put_one m n unit) knows.units ∙ one_kept asked r.units n unit unit_is;
-  parcels = ap₂ put_all knows.parcels parcels_are ∙ both_kept nat_cmp_total nat_cmp-IsAntisymmetric r.parcels (λ k p. asked p.unit) (λ k p. nat_eq p.unit n);
-  rrrs = ap₂ put_all knows.rrrs rrrs_are ∙ both_kept nat_cmp_total nat_cmp-IsAntisymmetric r.rrrs (λ k e. asked e.unit) (λ k e. nat_eq e.unit n);
-}
-
--- one more source
-pub source_known : (r : Register) (asked : ℕ → Bool) (known : GatheredSources) (n : ℕ) (source : Option SourceRecord) → source ≡ map.get r.sources n → KnowsSources r asked known
-    → KnowsSources r (with_number n asked) (with_source known n source)
-source_known r asked known n source is knows = record { sources = ap (λ m. put_one m n source) knows.sources ∙ one_kept asked r.sources n source is }

@@ -1,23 +1,29 @@
 -- Remembered roles are held, and verdicts show them.
-use Rattle.std.proofs.Common.{◌≡◌, ◌∙◌, Bool, true, false, not, cond, nat_eq, Option, Some, Result, Ok, Err, refl, sym, ap, ap₂, subst, is_some}
+use Rattle.std.proofs.Common.{◌≡◌, ◌∙◌, Bool, true, false, not, cond, nat_eq, ◌==◌, length, List, [], ◌∷◌, Option, None, Some, Result, Ok, Err, refl, sym, ap, ap₂, subst, is_some}
 use Rattle.std.proofs.lemmas.Bool.{false≢true}
 use Rattle.std.proofs.lemmas.Bool.Decides.{Decides-eqb}
+use Rattle.std.proofs.lemmas.List.{nil_from_length}
 use Rattle.std.specs.Cmp.{tied_itself}
 use Rattle.std.specs.FinMap as map
 use Rattle.std.specs.Ordering.{eq_by_cmp, is_eq}
+use Rattle.std.specs.Prelude.{ℤ, OnErr, OnOk}
 use Rattle.land_core.proofs.FiniteMaps.{is_equal}
 use Rattle.land_core.proofs.FiniteSets.{exact_grants, grants_total}
 use Rattle.land_core.proofs.Reflection.{get-entries_where}
-use Rattle.land_core.specs.Grants.{Grants, grant_cmp, grant_of, has_grant}
+use Rattle.land_core.specs.Changes.{after}
+use Rattle.land_core.specs.Entries.{with_changes, with_entries}
+use Rattle.land_core.specs.Grants.{Grants, grant_cmp, grant_of, has_grant, set_entries}
 use Rattle.land_core.specs.Laws.{SoundnessByNumber}
 use Rattle.land_core.specs.Register.{holds, stands}
 use Rattle.land_core.specs.declared.ask.Ask.{Ask}
 use Rattle.land_core.specs.declared.ask.Ask.TheVariants as ask
 use Rattle.land_core.specs.declared.caller.Caller.{Caller}
+use Rattle.land_core.specs.declared.change.Change.{Change}
 use Rattle.land_core.specs.declared.kind.Kind.TheVariants as kind
 use Rattle.land_core.specs.declared.register.Register.{Register}
 use Rattle.land_core.specs.declared.roles.Grant.{Grant}
 use Rattle.land_keep.specs.Keeping.{Closes, IsHonestAndOpen}
+use Rattle.land_keep.specs.Machine.{written}
 use Rattle.land_keep.specs.Timeline.{Timeline, last_register}
 use Rattle.land_keep.specs.declared.store_fault.StoreFault.{StoreFault}
 use Rattle.land_rules.specs.Laws.{IsSoundOrNothing}
@@ -28,6 +34,7 @@ use Rattle.land_select.proofs.Callers.{holder_stands}
 use Rattle.land_select.specs.KnownRoles.{AreHeldIn, AreKnownIn, HoldsRoleIf, shows_role}
 use Rattle.land_select.specs.Verdicts.{holder_verdict, is_read, roles_in}
 use Rattle.land_select.specs.declared.known_roles.KnownRoles.{KnownRoles}
+use Rattle.land_tables.proofs.WrittenTimelines.{written_register}
 
 -- ---- sets of roles
 
@@ -57,9 +64,37 @@ pub own_roles_decide : (r : Register) (caller : Caller) → has_grant (roles_in 
 own_roles_decide r caller =
     ap is_some (get-entries_where grants_total exact_grants (λ given u. nat_eq given.party caller.party) r.roles (grant_of caller.party caller.role) (λ u. (Decides-eqb caller.party caller.party).1 refl))
 
+-- ---- changes
+
+-- an inserted role removes none
+roles_grow : (roles : Grants) (es : List (Grant × Unit {0})) (grant : Grant) → has_grant roles grant ≡ true → has_grant (with_entries roles es) grant ≡ true
+roles_grow roles [] grant has = has
+roles_grow roles (e ∷ es) grant has = roles_grow (map.insert roles e.0 e.1) es grant (kept (eq_by_cmp grant_cmp grant e.0) refl)
+  where
+    kept : (b : Bool) → eq_by_cmp grant_cmp grant e.0 ≡ b → has_grant (map.insert roles e.0 e.1) grant ≡ true
+    kept true is = ap is_some (map.get-insert grants_total roles e.0 e.1 grant ∙ ap (λ b. cond b (Some e.1) (map.get roles grant)) is)
+    kept false is = ap is_some (map.get-insert grants_total roles e.0 e.1 grant ∙ ap (λ b. cond b (Some e.1) (map.get roles grant)) is) ∙ has
+
+pub none_in : {X : Type 0} (xs : List X) → (length xs == 0) ≡ true → xs ≡ []
+none_in xs h = nil_from_length xs ((Decides-eqb (length xs) 0).0 h)
+
+-- a change that ends no role leaves the remembered roles correct
+pub known_after : (r : Register) (change : Change) (known : Option KnownRoles) → change.ended.roles ≡ [] → AreKnownIn r known → AreKnownIn (after change r) known
+known_after r change None none are = tt
+known_after r change (Some known) none are = λ grant has.
+    subst (λ keys. has_grant (with_changes r.roles (set_entries change.put.roles) keys) (grant_of grant.party grant.role) ≡ true) (sym none)
+    (roles_grow r.roles (set_entries change.put.roles) (grant_of grant.party grant.role) (are grant has))
+
+-- so the remembered roles are correct after a write, and after one that failed
+pub known_when_written : (result : Result (Unit {0}) StoreFault) (old new : Timeline) (change : Change) (stamp : ℤ) (known : Option KnownRoles) → OnOk result (new ≡ written old change stamp) → OnErr result (new ≡ old)
+    → AreKnownIn (last_register old) known × AreKnownIn (after change (last_register old)) known → AreKnownIn (last_register new) known
+known_when_written (Ok it) old new change stamp known is same both =
+    subst (λ (tl : Timeline). AreKnownIn (last_register tl) known) (sym is) (subst (λ (r : Register). AreKnownIn r known) (sym (written_register old change stamp)) both.1)
+known_when_written (Err fault) old new change stamp known is same both = subst (λ (tl : Timeline). AreKnownIn (last_register tl) known) (sym same) both.0
+
 -- ---- the keeper
 
-was_open : {T : Type 0} (before after : Bool) (r : Result T StoreFault) → Closes before after r → after ≡ false → before ≡ false
+pub was_open : {T : Type 0} (before after : Bool) (r : Result T StoreFault) → Closes before after r → after ≡ false → before ≡ false
 was_open true after (Ok it) closes is = absurd closes
 was_open true after (Err fault) closes is = absurd (false≢true (sym is ∙ closes.1))
 was_open false after r closes is = refl

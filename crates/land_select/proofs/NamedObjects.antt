@@ -1,7 +1,9 @@
 -- The lists of parties and units have the numbers that an act refers to.
-use Rattle.std.proofs.Common.{◌≡◌, ℕ, Bool, true, false, ◌||◌, nat_eq, is_some, List, [], ◌∷◌, Option, Some, None, refl, sym, ap, ap₂, ◌∙◌}
+use Rattle.std.proofs.Common.{◌≡◌, ℕ, Bool, true, false, ◌&&◌, ◌||◌, ◌++◌, nat_eq, is_some, List, [], ◌∷◌, Option, Some, None, refl, sym, ap, ap₂, ◌∙◌}
 use Rattle.std.proofs.lemmas.Bool.{false≢true}
 use Rattle.std.proofs.lemmas.Bool.Decides.{Decides-eqb}
+use Rattle.std.proofs.lemmas.List.{nil_from_length}
+use Rattle.std.proofs.lemmas.List.Folds.{list_any-append}
 use Rattle.std.specs.Cmp.{nat_cmp_total}
 use Rattle.std.specs.FinMap as map
 use Rattle.std.specs.FinMap.{FinMap, nat_cmp-IsAntisymmetric}
@@ -10,13 +12,14 @@ use Rattle.std.specs.Option.{option_map_or}
 use Rattle.std.specs.Ordering.{nat_cmp}
 use Rattle.std.specs.Prelude.{map as map_list}
 use Rattle.std.proofs.lemmas.Cmp.{nat_eq_equiv}
-use Rattle.land_acts.specs.Slices.{content_names_party, is_same_mandate, is_mutation_where, mutations_in_slice, names_mandate, names_party, names_unit}
+use Rattle.land_acts.specs.Slices.{content_names_party, includes_party, includes_unit, is_same_mandate, is_mutation_where, mutations_in_slice, names_mandate, names_party, names_unit}
+use Rattle.land_acts.specs.declared.slice_parts.SliceParts.{SliceParts}
 use Rattle.land_core.proofs.Booleans.{or_nothing, same_tests}
 use Rattle.land_core.proofs.FiniteSets.{exact_grants, grants_total}
 use Rattle.land_core.proofs.Reflection.{get-entries_where, list_any-map}
 use Rattle.land_core.specs.Contents.{names_unit as content_names_unit}
 use Rattle.land_core.specs.Entries.{entries_where, some}
-use Rattle.land_core.specs.Grants.{Grants, grant_of, grants_in}
+use Rattle.land_core.specs.Grants.{Grants, grant_cmp, grant_of, grants_in}
 use Rattle.land_core.specs.Register.{holds}
 use Rattle.land_core.specs.Role.{is_role}
 use Rattle.land_core.specs.declared.act.Act.{Act}
@@ -30,8 +33,8 @@ use Rattle.land_core.specs.declared.register.Register.{Register}
 use Rattle.land_core.specs.declared.role.Role.{Role}
 use Rattle.land_core.specs.declared.role.Role.TheVariants as roles
 use Rattle.land_core.specs.declared.roles.Grant.{Grant}
-use Rattle.land_select.proofs.Keeping.{entry_found, entry_there, is_kept, was_kept}
-use Rattle.land_select.specs.Slices.Gathered.{with_number, with_numbers}
+use Rattle.land_select.proofs.Keeping.{entry_found, entry_there, is_kept, none_kept, was_kept}
+use Rattle.land_select.specs.Slices.Gathered.{included, with_number, with_numbers}
 use Rattle.land_select.specs.Slices.Named.{lists, mandate_of_act, of_mutation, parties_of, parties_of_content, sources_of, units_of, units_of_content}
 use Rattle.land_select_queries.proofs.Containing.{any_decides}
 
@@ -169,3 +172,39 @@ office_listed r office are n =
         let got = entry_there grants_total exact_grants office it.0 it.1 in
         let was = was_kept grants_total exact_grants (whole roles.StateAdministrator) r.roles it.0.0 it.0.1 (ap (λ m. map.get m it.0.0) (sym are) ∙ got) in
         ap (λ g. is_some (map.get r.roles g)) (granted it.0.0 n roles.StateAdministrator (sym it.2) (administers it.0.0.role was.1)) ∙ ap is_some was.0
+
+-- ---- what some parts of a slice include
+
+pub included_listed : (b : Bool) (ns : List ℕ) (n : ℕ) → lists (included b ns) n ≡ (b && lists ns n)
+included_listed true ns n = refl
+included_listed false ns n = refl
+
+pub included_asked : (b : Bool) (ns : List ℕ) (n : ℕ) → with_numbers (included b ns) (λ n. false) n ≡ (b && lists ns n)
+included_asked b ns n = asked_with (included b ns) (λ n. false) n ∙ included_listed b ns n
+
+no_administrators : (office : Grants) (n : ℕ) → office ≡ map.empty → false ≡ lists (map_list (λ grant. grant.party) (grants_in office)) n
+unfolding grants_in
+no_administrators office n is = ap (λ es. lists (map_list (λ grant. grant.party) (map_list (λ e. e.0) es)) n) (sym none)
+  where
+    none : map.entries office ≡ []
+    none = nil_from_length (map.entries office) (sym (map.len-entries office) ∙ ap map.len is ∙ map.len-empty grant_cmp (Unit {0}))
+
+administrators_listed : (b : Bool) (r : Register) (office : Grants) → office ≡ entries_where (λ grant u. b && is_role grant.role roles.StateAdministrator) r.roles → (n : ℕ)
+    → (b && holds r n roles.StateAdministrator) ≡ lists (map_list (λ grant. grant.party) (grants_in office)) n
+administrators_listed true r office are n = office_listed r office are n
+administrators_listed false r office are n = no_administrators office n (are ∙ sym (none_kept grants_total exact_grants r.roles))
+
+-- the numbers of parties that are read are those that the parts include
+pub parties_listed : (parts : SliceParts) (r : Register) (caller : Caller) (a : Act) (mutations : FinMap nat_cmp MutationRecord) (office : Grants) → mutations ≡ mutations_in_slice r caller a
+    → office ≡ entries_where (λ grant u. parts.administrators && is_role grant.role roles.StateAdministrator) r.roles → (n : ℕ)
+    → lists (included parts.parties (parties_of a mutations) ++ map_list (λ grant. grant.party) (grants_in office)) n ≡ includes_party parts r a n
+parties_listed parts r caller a mutations office are held n =
+    list_any-append (nat_eq n) (included parts.parties (parties_of a mutations)) (map_list (λ grant. grant.party) (grants_in office))
+    ∙ ap₂ (λ b c. b || c) (included_listed parts.parties (parties_of a mutations) n ∙ ap (λ b. parts.parties && b) (sym (party_listed r caller a mutations are n)))
+    (sym (administrators_listed parts.administrators r office held n))
+
+-- and so are those of units
+pub units_listed : (parts : SliceParts) (r : Register) (caller : Caller) (a : Act) (mutations : FinMap nat_cmp MutationRecord) → mutations ≡ mutations_in_slice r caller a → (n : ℕ)
+    → lists (included parts.units (units_of a mutations)) n ≡ includes_unit parts r a n
+units_listed parts r caller a mutations are n =
+    included_listed parts.units (units_of a mutations) n ∙ ap (λ b. parts.units && b) (sym (unit_listed r caller a mutations are n))

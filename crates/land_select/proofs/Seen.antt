@@ -2,7 +2,6 @@
 use Rattle.std.proofs.Common.{◌≡◌, ◌∙◌, ap, refl, sym, Bool, true, false, List, ℕ, Result, Ok, Err, IfOk, arith, subst}
 use Rattle.std.proofs.lemmas.Int.{ints}
 use Rattle.std.specs.Prelude.{ℤ, int_lt}
-use Rattle.land_acts.specs.Slices.{slice_of}
 use Rattle.land_core.specs.Laws.{SoundnessByNumber}
 use Rattle.land_core.specs.declared.act.Act.{Act}
 use Rattle.land_core.specs.declared.ask.Ask.{Ask}
@@ -18,7 +17,7 @@ use Rattle.land_keep.specs.declared.store_fault.StoreFault.{StoreFault}
 use Rattle.land_rules.specs.Rules.{seen_of, verdict_of}
 use Rattle.land_rules.specs.declared.verdict.Verdict.{Verdict}
 use Rattle.land_select.specs.Results.{IsResult}
-use Rattle.land_select.specs.Slices.Gathered.{HoldsOfRegister}
+use Rattle.land_select.specs.Slices.Gathered.{HoldsOfRegister, read_slice_of}
 use Rattle.land_select.specs.Cache.{IsValueFor}
 use Rattle.land_select.specs.KnownRoles.{HoldsRoleIf}
 use Rattle.land_select.specs.Verdicts.{IsVerdictWith}
@@ -83,15 +82,15 @@ verdict_told look_ups s caller is_held a now t u is_moment place it answer known
     (subst (λ (x : ℤ). it.0 ≡ verdict_of (last_register tl) (register_at tl x) caller a (int_lt x now)) is_moment told.0, told.1)
 
 -- the slice of the tables is that of the latest register; a closed store has none
-pub slice_stands : SoundnessByNumber → (s : State) (caller : Caller) (a : Act) (next : ℕ) (before after : Bool) → (r : Result Register StoreFault) → Closes before after r
-    → (before ≡ false → next ≡ (last_register (decoded_timeline s.now.trees)).next) → IfOk r (IsResult (λ db it. HoldsOfRegister (λ r. r.next ≡ next → it ≡ slice_of r caller a) last_moment db) s)
-    → IfOk r (λ it. it ≡ slice_of (last_register (decoded_timeline s.now.trees)) caller a)
-slice_stands look_ups s caller a next true after (Ok it) closes is answer = absurd closes
-slice_stands look_ups s caller a next false after (Ok it) closes is answer =
+pub slice_stands : SoundnessByNumber → (needed_only : Bool) (s : State) (caller : Caller) (a : Act) (next : ℕ) (before after : Bool) → (r : Result Register StoreFault) → Closes before after r
+    → (before ≡ false → next ≡ (last_register (decoded_timeline s.now.trees)).next) → IfOk r (IsResult (λ db it. HoldsOfRegister (λ r. r.next ≡ next → it ≡ read_slice_of needed_only r caller a) last_moment db) s)
+    → IfOk r (λ it. it ≡ read_slice_of needed_only (last_register (decoded_timeline s.now.trees)) caller a)
+slice_stands look_ups needed_only s caller a next true after (Ok it) closes is answer = absurd closes
+slice_stands look_ups needed_only s caller a next false after (Ok it) closes is answer =
     let tl = decoded_timeline s.now.trees in
     let sound = answer.register.sound in
     let holds = answer.register.holds in
     let last : register_at tl last_moment ≡ last_register tl = stays_last tl last_moment sound.rising (last_is_moment tl sound) in
-    subst (λ (r : Register). r.next ≡ next → it ≡ slice_of r caller a) last
+    subst (λ (r : Register). r.next ≡ next → it ≡ read_slice_of needed_only r caller a) last
     (answer.answer holds.listed holds.history holds.holds (register_at tl last_moment) (have_members look_ups tl last_moment sound) (holds.stands.stands last_moment the_last)) (sym (is refl))
-slice_stands look_ups s caller a next before after (Err fault) closes is answer = tt
+slice_stands look_ups needed_only s caller a next before after (Err fault) closes is answer = tt

@@ -1,11 +1,13 @@
 //! Remembers which roles callers hold, so that the next request does not look them up again.
 ghost use Rattle.std.specs.Prelude.{◌≡◌, true};
+ghost use Rattle.land_core.specs.Changes.{after};
 ghost use Rattle.land_core.specs.Grants.{grant_of};
 ghost use Rattle.land_core.specs.Register.{holds};
 ghost use Rattle.land_core.specs.declared.register.Register.{Register};
 ghost use Rattle.land_select.specs.KnownRoles.{AreHeldIn, AreKnownIn, HoldsRoleIf, shows_role};
 
 use land_core::caller::Caller;
+use land_core::change::Change;
 use land_core::roles::{Grant, Roles};
 use land_rules::verdict::Verdict;
 use std::alloc::Global;
@@ -99,9 +101,12 @@ pub(crate) fn remember(
     *known = insert_role(roomy, claimed_role(caller));
 }
 
-/// Forgets all roles.
-pub(crate) fn forget_roles(known: &mut Option<KnownRoles>)
-    ensures { (r : Register) → AreKnownIn r known.new }
+/// Forgets all roles if a change ends one. The remembered roles are then correct before and after the change.
+pub(crate) fn forget_ended_roles(known: &mut Option<KnownRoles>, change: &Change)
+    ensures { (r : Register) → AreKnownIn r known.old
+        → AreKnownIn r known.new × AreKnownIn (after change.now r) known.new }
 {
-    *known = None;
+    if !change.ended.roles.as_slice().is_empty() {
+        *known = None;
+    }
 }

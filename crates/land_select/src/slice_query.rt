@@ -1,4 +1,4 @@
-//! Reads the slice of the latest register for an act, by lookups.
+//! Reads the slice of the latest register for an act, or the part of it that the outcome depends on.
 ghost use Rattle.std.specs.Prelude.{◌≡◌};
 
 use crate::query::Query;
@@ -10,13 +10,15 @@ use land_tables_rows::listing::fault::ReadFault;
 use sqlite::{Alter, Connection};
 use std::alloc::Global;
 
-/// The query for the slice that planning an act may read, at a time.
+/// The query for the slice that planning an act may read, or the part that its outcome depends on, at a time.
 #[derive(Clone, Copy, Debug)]
 pub(crate) struct SliceQuery<'a> {
     /// The caller.
     pub(crate) caller: Caller,
     /// The act.
     pub(crate) act: &'a Act,
+    /// Whether only the part that the outcome of the act depends on is read.
+    pub(crate) needed_only: bool,
     /// The next number of the register.
     pub(crate) next: u64,
     /// The time, in Unix milliseconds.
@@ -24,13 +26,20 @@ pub(crate) struct SliceQuery<'a> {
 }
 
 impl Query<Slice> for SliceQuery<'_> {
-    ghost use Rattle.land_acts.specs.Slices.{slice_of};
-    ghost use Rattle.land_select.specs.Slices.Gathered.{HoldsOfRegister};
+    ghost use Rattle.land_select.specs.Slices.Gathered.{HoldsOfRegister, read_slice_of};
 
-    ghost results = { λ it db slice. HoldsOfRegister (λ r. r.next ≡ it.next → slice ≡ slice_of r it.caller it.act.now)
-        it.moment db };
+    ghost results = { λ it db slice. HoldsOfRegister
+        (λ r. r.next ≡ it.next → slice ≡ read_slice_of it.needed_only r it.caller it.act.now) it.moment db };
 
     fn run<S: Alter>(&self, alloc: Global, conn: &mut Connection<S>) -> Result<Slice, ReadFault> {
-        slice_at(alloc, conn, self.caller, self.act, self.next, self.moment)
+        slice_at(
+            alloc,
+            conn,
+            self.caller,
+            self.act,
+            self.needed_only,
+            self.next,
+            self.moment,
+        )
     }
 }

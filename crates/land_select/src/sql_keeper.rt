@@ -3,7 +3,7 @@ ghost use Rattle.std.specs.Prelude.{◌≡◌, ◌≤ℤ◌};
 ghost use Rattle.land_keep.specs.Moments.{last_moment};
 
 use crate::cache::{Cache, cache_for, forget, keep, take_object, take_unit};
-use crate::known_roles::{KnownRoles, forget_roles, is_known, remember};
+use crate::known_roles::{KnownRoles, forget_ended_roles, is_known, remember};
 use crate::object::ObjectQuery;
 use crate::objects::ObjectsQuery;
 use crate::query::execute;
@@ -34,14 +34,14 @@ use std::marker::Model;
 
 /// A keeper on tables of any store. SQL queries select the numbers that a caller sees; lookups by key read
 /// objects, title sheets, the slices of acts and the records that verdicts need. A value that a verdict has
-/// read is cached, so that the reply does not read it again; so are the roles of callers until the next write.
+/// read is cached, so that the reply does not read it again; so are the roles of callers until one ends.
 /// In contracts the value of the keeper is that of its tables.
 pub struct SqlKeeper<S: Alter> {
     /// The tables.
     tables: Tables<S>,
     /// The value that the last verdict read, until the next call.
     cache: Option<Cache>,
-    /// The roles that callers hold, until the next write.
+    /// The roles that callers hold, until a role ends.
     known: Option<KnownRoles>,
 }
 
@@ -99,7 +99,7 @@ impl<S: Alter> SqlKeeper<S> {
 }
 
 impl<S: Alter> Keeper for SqlKeeper<S> {
-    ghost use Rattle.land_acts.specs.Slices.{slice_of};
+    ghost use Rattle.land_acts.specs.Slices.{needed_slice_of, slice_of};
     ghost use Rattle.land_core.specs.Register.{object_at};
     ghost use Rattle.land_keep.specs.Named.{objects_at};
     ghost use Rattle.land_keep.specs.Sheets.{view_at};
@@ -231,6 +231,25 @@ impl<S: Alter> Keeper for SqlKeeper<S> {
         let sliced = SliceQuery {
             caller,
             act,
+            needed_only: false,
+            next: self.tables.next(),
+            moment: LAST_MOMENT,
+        };
+        execute(alloc, &mut self.tables, &sliced)
+    }
+
+    fn needed_slice(
+        &mut self,
+        alloc: Global,
+        caller: Caller,
+        act: &Act,
+    ) -> Result<Slice, StoreFault> {
+        forget(&mut self.cache);
+        soundness_by_number();
+        let sliced = SliceQuery {
+            caller,
+            act,
+            needed_only: true,
             next: self.tables.next(),
             moment: LAST_MOMENT,
         };
@@ -239,7 +258,7 @@ impl<S: Alter> Keeper for SqlKeeper<S> {
 
     fn write(&mut self, alloc: Global, change: &Change, stamp: i64) -> Result<(), StoreFault> {
         forget(&mut self.cache); // The change may be to the cached object.
-        forget_roles(&mut self.known); // It may end a role.
+        forget_ended_roles(&mut self.known, change);
         self.tables.write(alloc, change, stamp)
     }
 }

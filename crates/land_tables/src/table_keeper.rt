@@ -3,7 +3,7 @@ ghost use Rattle.std.specs.Prelude.{◌≡◌, ◌≤ℤ◌};
 ghost use Rattle.land_keep.specs.Moments.{last_moment};
 
 use crate::tables::Tables;
-use land_acts::slice::{Slice, slice_of};
+use land_acts::slice::{Slice, needed_slice_of, slice_of};
 use land_core::act::Act;
 use land_core::ask::Ask;
 use land_core::caller::Caller;
@@ -51,7 +51,7 @@ impl<S: Alter> TableKeeper<S> {
 }
 
 impl<S: Alter> Keeper for TableKeeper<S> {
-    ghost use Rattle.land_acts.specs.Slices.{slice_of as slice_in};
+    ghost use Rattle.land_acts.specs.Slices.{needed_slice_of as needed_slice_in, slice_of as slice_in};
     ghost use Rattle.land_core.specs.Register.{object_at};
     ghost use Rattle.land_keep.specs.Named.{objects_at};
     ghost use Rattle.land_keep.specs.Sheets.{view_at};
@@ -135,6 +135,16 @@ impl<S: Alter> Keeper for TableKeeper<S> {
     fn slice(&mut self, alloc: Global, caller: Caller, act: &Act) -> Result<Slice, StoreFault> {
         let newest = self.tables.last_register(alloc)?;
         Ok(slice_of(alloc, &newest, caller, act)?)
+    }
+
+    fn needed_slice(
+        &mut self,
+        alloc: Global,
+        caller: Caller,
+        act: &Act,
+    ) -> Result<Slice, StoreFault> {
+        let newest = self.tables.last_register(alloc)?;
+        Ok(needed_slice_of(alloc, &newest, caller, act)?)
     }
 
     fn write(&mut self, alloc: Global, change: &Change, stamp: i64) -> Result<(), StoreFault> {

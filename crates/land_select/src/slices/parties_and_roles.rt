@@ -1,11 +1,6 @@
 //! Parties, with their roles and members.
-ghost use Rattle.std.specs.Prelude.{◌≡◌, ℕ, Bool, IfOk};
-ghost use Rattle.std.specs.FinMap as map;
-ghost use Rattle.land_select.specs.Slices.Gathered.{HoldsOfRegister, KnowsParties, put_all, put_one};
-ghost use Rattle.land_select.specs.Slices.Gathered.{with_number};
-ghost use Rattle.land_select.specs.Slices.Gathered.{with_party};
-ghost use Rattle.land_select_queries.specs.TableReads.{ReadsTables};
-ghost use Rattle.land_tables_schema.specs.Connections.{HasRegisterTables, LeavesAutocommit};
+ghost use Rattle.std.specs.Prelude.{◌≡◌, IfOk};
+ghost use Rattle.land_select.specs.Slices.Gathered.{put_all, put_one};
 
 use crate::slices::gathers::Gathers;
 use land_core::duplicate::Duplicate;
@@ -18,7 +13,7 @@ use land_tables_rows::listing::fault::ReadFault;
 use sqlite::{Alter, Connection};
 use std::alloc::{AllocError, Global};
 
-/// Parties by number, with the roles of each and the members of groups.
+/// Parties by number, the roles that they hold, and the members of groups.
 #[derive(Debug, Drop)]
 pub(crate) struct PartiesAndRoles {
     /// The parties.
@@ -70,66 +65,12 @@ fn put_roles(roles: Roles, more: &Roles) -> Result<Roles, AllocError>
     Ok(roles)
 }
 
-impl PartiesAndRoles {
-    /// Returns an empty part, without allocation.
-    pub(crate) fn nobody(alloc: Global) -> PartiesAndRoles
-        ensures { result ≡ record { parties = map.empty; roles = map.empty; members = map.empty } }
-    {
-        PartiesAndRoles {
-            parties: Records::new(alloc),
-            roles: Roles::new(alloc),
-            members: Records::new(alloc),
-        }
-    }
+/// Parties, by number.
+impl Gathers for Records<PartyRecord> {
+    ghost use Rattle.std.specs.Prelude.{◌≡◌};
+    ghost use Rattle.land_core.specs.Entries.{entries_where};
 
-    /// Adds a party, its roles and its members.
-    pub(crate) fn with_party(
-        self,
-        alloc: Global,
-        number: u64,
-        party: Option<PartyRecord>,
-        roles: &Roles,
-        members: &Records<Members>,
-    ) -> Result<PartiesAndRoles, AllocError>
-        ensures { IfOk result (λ it. it ≡ with_party self number party roles.now members.now) }
-    {
-        let PartiesAndRoles {
-            parties,
-            roles: known,
-            members: groups,
-        } = self;
-        Ok(PartiesAndRoles {
-            parties: put_one(parties, number, party)?,
-            roles: put_roles(known, roles)?,
-            members: put_all(alloc, groups, members)?,
-        })
-    }
-    /// Adds a party, and reads its roles and members.
-    fn with_looked_up<S: Alter>(
-        self,
-        alloc: Global,
-        conn: &mut Connection<S>,
-        number: u64,
-        party: Option<PartyRecord>,
-        at: i64,
-    ) -> Result<PartiesAndRoles, ReadFault>
-        requires has_tables { HasRegisterTables S.Store conn.old }
-        ensures reads_only { ReadsTables S.Store result
-            (λ db it. HoldsOfRegister (λ r. party ≡ map.get r.parties number → (asked : ℕ → Bool)
-            → KnowsParties r asked self → KnowsParties r (with_number number asked) it) at db) conn.old
-            conn.new }
-        ensures autocommit { LeavesAutocommit conn.old conn.new }
-    {
-        let roles = of_party::roles(alloc, conn, number, at)?;
-        let members = of_group::members(alloc, conn, number, at)?;
-        Ok(self.with_party(alloc, number, party, &roles, &members)?)
-    }
-}
-
-impl Gathers for PartiesAndRoles {
-    ghost use Rattle.land_select.specs.Slices.Gathered.{KnowsParties};
-
-    ghost knows = { KnowsParties };
+    ghost knows = { λ r asked it. it ≡ entries_where (λ n p. asked n) r.parties };
 
     fn gather<S: Alter>(
         self,
@@ -137,8 +78,46 @@ impl Gathers for PartiesAndRoles {
         conn: &mut Connection<S>,
         number: u64,
         at: i64,
-    ) -> Result<PartiesAndRoles, ReadFault> {
+    ) -> Result<Records<PartyRecord>, ReadFault> {
         let party = by_number::record(alloc, conn, number, at)?;
-        self.with_looked_up(alloc, conn, number, party, at)
+        Ok(put_one(self, number, party)?)
+    }
+}
+
+/// Roles, by the number of the party.
+impl Gathers for Roles {
+    ghost use Rattle.std.specs.Prelude.{◌≡◌};
+    ghost use Rattle.land_core.specs.Entries.{entries_where};
+
+    ghost knows = { λ r asked it. it ≡ entries_where (λ grant u. asked grant.party) r.roles };
+
+    fn gather<S: Alter>(
+        self,
+        alloc: Global,
+        conn: &mut Connection<S>,
+        number: u64,
+        at: i64,
+    ) -> Result<Roles, ReadFault> {
+        let roles = of_party::roles(alloc, conn, number, at)?;
+        Ok(put_roles(self, &roles)?)
+    }
+}
+
+/// Members, by the number of the group.
+impl Gathers for Records<Members> {
+    ghost use Rattle.std.specs.Prelude.{◌≡◌};
+    ghost use Rattle.land_core.specs.Entries.{entries_where};
+
+    ghost knows = { λ r asked it. it ≡ entries_where (λ n members. asked n) r.members };
+
+    fn gather<S: Alter>(
+        self,
+        alloc: Global,
+        conn: &mut Connection<S>,
+        number: u64,
+        at: i64,
+    ) -> Result<Records<Members>, ReadFault> {
+        let members = of_group::members(alloc, conn, number, at)?;
+        Ok(put_all(alloc, self, &members)?)
     }
 }

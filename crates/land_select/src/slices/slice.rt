@@ -1,26 +1,28 @@
-//! Reads the slice of a register for an act, by lookups.
-ghost use Rattle.std.specs.FinMap as map;
-ghost use Rattle.std.specs.Prelude.{◌≡◌, ◌++◌, nat_eq, map as map_list, IfOk};
-ghost use Rattle.land_acts.specs.Slices.{reads_party, reads_source, mutations_in_slice, names_mandate};
-ghost use Rattle.land_acts.specs.Slices.{names_rrr, names_unit, slice_of};
+//! Reads the slice of a register for an act, or the part of it that the outcome depends on, by lookups.
+ghost use Rattle.std.specs.Prelude.{◌≡◌, ◌++◌, ◌&&◌, ℕ, nat_eq, map as map_list, IfOk};
+ghost use Rattle.land_acts.specs.Slices.{includes_party, mutations_in_slice, names_mandate, names_rrr};
+ghost use Rattle.land_acts.specs.Slices.{slice_with};
 ghost use Rattle.land_core.specs.Entries.{entries_where, some};
 ghost use Rattle.land_core.specs.Grants.{grants_in};
+ghost use Rattle.land_core.specs.Role.{is_role};
+ghost use Rattle.land_core.specs.declared.act.Act.{Act as Deed};
 ghost use Rattle.land_core.specs.declared.caller.Caller.{Caller as Asker};
-ghost use Rattle.land_select.specs.Slices.Gathered.{IsKnown, HoldsOfRegister, KnowsUnits, KnowsSources};
-ghost use Rattle.land_select.specs.Slices.Gathered.{KnowsParties};
-ghost use Rattle.land_select.specs.Slices.Named.{parties_of};
+ghost use Rattle.land_core.specs.declared.role.Role.TheVariants.{StateAdministrator};
+ghost use Rattle.land_select.specs.Slices.Gathered.{HoldsOfRegister, IsKnown, KnowsParties, KnowsUnits};
+ghost use Rattle.land_select.specs.Slices.Gathered.{included, parts_to_read, read_slice_of};
+ghost use Rattle.land_select.specs.Slices.Named.{lists, parties_of, units_of};
 ghost use Rattle.land_select_queries.specs.Lookups.Parts.{ReadsPart};
 ghost use Rattle.land_select_queries.specs.TableReads.{ReadsTables};
 ghost use Rattle.land_tables_schema.specs.Connections.{HasRegisterTables, IsUsable, LeavesAutocommit};
 
-use crate::slices::gathered_sources::GatheredSources;
-use crate::slices::gathers::gather_all;
+use crate::slices::gathers::{gather_all, gather_included};
 use crate::slices::mutations::mutations_of;
 use crate::slices::named::{parties_of, sources_of, units_of};
 use crate::slices::pairs::mandates_of;
 use crate::slices::parties_and_roles::{PartiesAndRoles, put_all, put_one};
 use crate::slices::units_and_entries::UnitsAndEntries;
 use land_acts::slice::Slice;
+use land_acts::slice_parts::{SliceParts, needed_parts};
 use land_core::act::Act;
 use land_core::caller::Caller;
 use land_core::mandates::Mandates;
@@ -30,33 +32,110 @@ use land_core::register::Register;
 use land_core::roles::Roles;
 use land_core::rrr::RrrRecord;
 use land_core::sequence::NumberList;
+use land_core::source::SourceRecord;
 use land_select_queries::lookups::{by_number, office};
 use land_tables_rows::listing::fault::ReadFault;
 use sqlite::{Alter, Connection};
 use std::alloc::{AllocError, Global};
 
-/// Returns the parties that an act refers to, and the holders of some roles.
-fn referenced_and_holders(
+/// Returns the parties that an act refers to, if they are included.
+fn referenced_parties(
     alloc: Global,
     act: &Act,
     mutations: &Records<MutationRecord>,
-    roles: &Roles,
+    is_included: bool,
 ) -> Result<NumberList, AllocError>
-    ensures { IfOk result (λ it. it ≡ parties_of act.now mutations.now ++ map_list (λ grant. grant.party)
-        (grants_in roles.now)) }
+    ensures { IfOk result (λ it. it ≡ included is_included (parties_of act.now mutations.now)) }
 {
-    let mut parties = parties_of(alloc, act, mutations)?;
+    if is_included {
+        parties_of(alloc, act, mutations)
+    } else {
+        Ok(NumberList::new(alloc))
+    }
+}
+
+/// Adds the holders of some roles to a list of parties.
+fn with_holders(parties: NumberList, roles: &Roles) -> Result<NumberList, AllocError>
+    ensures { IfOk result
+        (λ it. it ≡ parties ++ map_list (λ grant. grant.party) (grants_in roles.now)) }
+{
+    let mut parties = parties;
     for grant in roles.iter() {
         parties.push(grant.party)?;
     }
     Ok(parties)
 }
 
-/// Reads the parties that an act refers to, and all state administrators.
+/// Returns the units that an act refers to, if they are included.
+fn referenced_units(
+    alloc: Global,
+    act: &Act,
+    mutations: &Records<MutationRecord>,
+    is_included: bool,
+) -> Result<NumberList, AllocError>
+    ensures { IfOk result (λ it. it ≡ included is_included (units_of act.now mutations.now)) }
+{
+    if is_included {
+        units_of(alloc, act, mutations)
+    } else {
+        Ok(NumberList::new(alloc))
+    }
+}
+
+/// Reads the roles of all state administrators, if they are included.
+fn read_administrators<S: Alter>(
+    alloc: Global,
+    conn: &mut Connection<S>,
+    is_included: bool,
+    at: i64,
+) -> Result<Roles, ReadFault>
+    requires open { IsUsable S.Store conn.old }
+    requires has_tables { HasRegisterTables S.Store conn.old }
+    ensures reads_only { ReadsTables S.Store result
+        (ReadsPart (λ r. entries_where
+        (λ grant u. is_included && is_role grant.role StateAdministrator) r.roles) at)
+        conn.old conn.new }
+    ensures autocommit { LeavesAutocommit conn.old conn.new }
+{
+    if is_included {
+        office::administrators(alloc, conn, at)
+    } else {
+        Ok(Roles::new(alloc))
+    }
+}
+
+/// Reads parties, and their roles and members if these are included.
+fn read_listed_parties<S: Alter>(
+    alloc: Global,
+    conn: &mut Connection<S>,
+    parts: SliceParts,
+    parties: &[u64],
+    at: i64,
+) -> Result<PartiesAndRoles, ReadFault>
+    requires open { IsUsable S.Store conn.old }
+    requires has_tables { HasRegisterTables S.Store conn.old }
+    ensures reads_only { ReadsTables S.Store result
+        (λ db it. HoldsOfRegister (λ r. (act : Deed)
+        → ((n : ℕ) → lists parties.now n ≡ includes_party parts r act n)
+        → KnowsParties parts r act it) at db) conn.old conn.new }
+    ensures autocommit { LeavesAutocommit conn.old conn.new }
+{
+    let found = gather_all(alloc, conn, Records::new(alloc), parties, at)?;
+    let roles = gather_included(alloc, conn, Roles::new(alloc), parties, parts.roles, at)?;
+    let members = gather_included(alloc, conn, Records::new(alloc), parties, parts.members, at)?;
+    Ok(PartiesAndRoles {
+        parties: found,
+        roles,
+        members,
+    })
+}
+
+/// Reads the parties that some parts of a slice include, and their roles and members.
 fn read_parties<S: Alter>(
     alloc: Global,
     conn: &mut Connection<S>,
     act: &Act,
+    parts: SliceParts,
     mutations: &Records<MutationRecord>,
     at: i64,
 ) -> Result<PartiesAndRoles, ReadFault>
@@ -64,25 +143,21 @@ fn read_parties<S: Alter>(
     requires has_tables { HasRegisterTables S.Store conn.old }
     ensures reads_only { ReadsTables S.Store result
         (λ db it. HoldsOfRegister (λ r. (caller : Asker) → mutations.now ≡ mutations_in_slice r caller act.now
-        → KnowsParties r (λ n. reads_party r act.now n) it) at db) conn.old conn.new }
+        → KnowsParties parts r act.now it) at db) conn.old conn.new }
     ensures autocommit { LeavesAutocommit conn.old conn.new }
 {
-    let office = office::administrators(alloc, conn, at)?;
-    let parties = referenced_and_holders(alloc, act, mutations, &office)?;
-    gather_all(
-        alloc,
-        conn,
-        PartiesAndRoles::nobody(alloc),
-        parties.as_slice(),
-        at,
-    )
+    let office = read_administrators(alloc, conn, parts.administrators, at)?;
+    let referenced = referenced_parties(alloc, act, mutations, parts.parties)?;
+    let parties = with_holders(referenced, &office)?;
+    read_listed_parties(alloc, conn, parts, parties.as_slice(), at)
 }
 
-/// Reads the units that an act refers to.
+/// Reads the units that some parts of a slice include, and their parcels and entries.
 fn read_units<S: Alter>(
     alloc: Global,
     conn: &mut Connection<S>,
     act: &Act,
+    parts: SliceParts,
     mutations: &Records<MutationRecord>,
     at: i64,
 ) -> Result<UnitsAndEntries, ReadFault>
@@ -90,40 +165,44 @@ fn read_units<S: Alter>(
     requires has_tables { HasRegisterTables S.Store conn.old }
     ensures reads_only { ReadsTables S.Store result
         (λ db it. HoldsOfRegister (λ r. (caller : Asker) → mutations.now ≡ mutations_in_slice r caller act.now
-        → KnowsUnits r (λ n. names_unit r act.now n) it) at db) conn.old conn.new }
+        → KnowsUnits parts r act.now it) at db) conn.old conn.new }
     ensures autocommit { LeavesAutocommit conn.old conn.new }
 {
-    let units = units_of(alloc, act, mutations)?;
-    gather_all(
-        alloc,
-        conn,
-        UnitsAndEntries::none(alloc),
-        units.as_slice(),
-        at,
-    )
+    let listed = referenced_units(alloc, act, mutations, parts.units)?;
+    let numbers = listed.as_slice();
+    let units = gather_all(alloc, conn, Records::new(alloc), numbers, at)?;
+    let parcels = gather_included(alloc, conn, Records::new(alloc), numbers, parts.parcels, at)?;
+    let rrrs = gather_all(alloc, conn, Records::new(alloc), numbers, at)?;
+    Ok(UnitsAndEntries {
+        units,
+        parcels,
+        rrrs,
+    })
 }
 
-/// Reads the sources of the mutations that an act refers to.
+/// Reads the sources of the mutations that an act refers to, if they are included.
 fn read_sources<S: Alter>(
     alloc: Global,
     conn: &mut Connection<S>,
     mutations: &Records<MutationRecord>,
+    is_included: bool,
     at: i64,
-) -> Result<GatheredSources, ReadFault>
+) -> Result<Records<SourceRecord>, ReadFault>
     requires open { IsUsable S.Store conn.old }
     requires has_tables { HasRegisterTables S.Store conn.old }
     ensures reads_only { ReadsTables S.Store result
-        (λ db it. HoldsOfRegister
-        (λ r. KnowsSources r (λ n. some (λ k m. nat_eq m.source n) mutations.now) it) at db)
+        (ReadsPart (λ r. entries_where
+        (λ n s. is_included && some (λ k m. nat_eq m.source n) mutations.now) r.sources) at)
         conn.old conn.new }
     ensures autocommit { LeavesAutocommit conn.old conn.new }
 {
     let sources = sources_of(alloc, mutations)?;
-    gather_all(
+    gather_included(
         alloc,
         conn,
-        GatheredSources::none(alloc),
+        Records::new(alloc),
         sources.as_slice(),
+        is_included,
         at,
     )
 }
@@ -165,7 +244,7 @@ fn read_lifted_entry<S: Alter>(
     }
 }
 
-/// The parts of a slice that are read before its sources and the lifted entry.
+/// The records of a slice that are read before its sources and the lifted entry.
 #[derive(Debug, Drop)]
 struct Known {
     mutations: Records<MutationRecord>,
@@ -175,19 +254,20 @@ struct Known {
     next: u64,
 }
 
-/// Completes a slice.
+/// Completes some parts of a slice.
 fn slice_with<S: Alter>(
     alloc: Global,
     conn: &mut Connection<S>,
     act: &Act,
+    parts: SliceParts,
     known: Known,
     at: i64,
 ) -> Result<Slice, ReadFault>
     requires open { IsUsable S.Store conn.old }
     requires has_tables { HasRegisterTables S.Store conn.old }
     ensures reads_only { ReadsTables S.Store result
-        (λ db it. HoldsOfRegister (λ r. (caller : Asker) → IsKnown r caller act.now known
-        → it ≡ slice_of r caller act.now) at db) conn.old conn.new }
+        (λ db it. HoldsOfRegister (λ r. (caller : Asker) → IsKnown parts r caller act.now known
+        → it ≡ slice_with parts r caller act.now) at db) conn.old conn.new }
     ensures autocommit { LeavesAutocommit conn.old conn.new }
 {
     let Known {
@@ -197,7 +277,7 @@ fn slice_with<S: Alter>(
         mandates,
         next,
     } = known;
-    let gathered_sources = read_sources(alloc, conn, &mutations, at)?;
+    let sources = read_sources(alloc, conn, &mutations, parts.sources, at)?;
     let lifted = read_lifted_entry(alloc, conn, act, at)?;
     Ok(Register {
         parties: parties_and_roles.parties,
@@ -206,18 +286,19 @@ fn slice_with<S: Alter>(
         units: units_and_entries.units,
         parcels: units_and_entries.parcels,
         rrrs: put_all(alloc, units_and_entries.rrrs, &lifted)?,
-        sources: gathered_sources.sources,
+        sources,
         mutations,
         mandates,
         next,
     })
 }
 
-/// Reads the slice of an act whose mutations and mandate are known.
+/// Reads some parts of the slice of an act whose mutations and mandate are known.
 fn slice_about<S: Alter>(
     alloc: Global,
     conn: &mut Connection<S>,
     act: &Act,
+    parts: SliceParts,
     mutations: Records<MutationRecord>,
     mandates: Mandates,
     next: u64,
@@ -229,12 +310,12 @@ fn slice_about<S: Alter>(
         (λ db it. HoldsOfRegister (λ r. r.next ≡ next → (caller : Asker)
         → mutations ≡ mutations_in_slice r caller act.now
         → mandates ≡ entries_where (λ m u. names_mandate caller act.now m) r.mandates
-        → it ≡ slice_of r caller act.now)
+        → it ≡ slice_with parts r caller act.now)
         at db) conn.old conn.new }
     ensures autocommit { LeavesAutocommit conn.old conn.new }
 {
-    let parties_and_roles = read_parties(alloc, conn, act, &mutations, at)?;
-    let units_and_entries = read_units(alloc, conn, act, &mutations, at)?;
+    let parties_and_roles = read_parties(alloc, conn, act, parts, &mutations, at)?;
+    let units_and_entries = read_units(alloc, conn, act, parts, &mutations, at)?;
     let known = Known {
         mutations,
         parties_and_roles,
@@ -242,28 +323,41 @@ fn slice_about<S: Alter>(
         mandates,
         next,
     };
-    slice_with(alloc, conn, act, known, at)
+    slice_with(alloc, conn, act, parts, known, at)
 }
 
-/// Reads the slice for an act at a time, in Unix milliseconds, with the given next number. Only records of
-/// the numbers that the act refers to, and those of its caller, are read. Returns error 520 only if the
-/// tables hold no history, and 501 if out of memory.
+/// Returns the parts of a slice to read: those that the outcome of the act depends on, or all.
+fn parts_to_read(needed_only: bool, mutations: &Records<MutationRecord>, act: &Act) -> SliceParts
+    ensures { result ≡ parts_to_read needed_only mutations.now act.now }
+{
+    if needed_only {
+        needed_parts(mutations, act)
+    } else {
+        SliceParts::all()
+    }
+}
+
+/// Reads the slice for an act at a time, in Unix milliseconds, with the given next number, or only the part of
+/// it that the outcome of the act depends on. Only records of the numbers that the act refers to, and those of
+/// its caller, are read. Returns error 520 only if the tables hold no history, and 501 if out of memory.
 pub fn slice_at<S: Alter>(
     alloc: Global,
     conn: &mut Connection<S>,
     caller: Caller,
     act: &Act,
+    needed_only: bool,
     next: u64,
     at: i64,
 ) -> Result<Slice, ReadFault>
     requires open { IsUsable S.Store conn.old }
     requires has_tables { HasRegisterTables S.Store conn.old }
     ensures reads_only { ReadsTables S.Store result
-        (λ db it. HoldsOfRegister (λ r. r.next ≡ next → it ≡ slice_of r caller act.now) at db) conn.old
-        conn.new }
+        (λ db it. HoldsOfRegister (λ r. r.next ≡ next → it ≡ read_slice_of needed_only r caller act.now) at db)
+        conn.old conn.new }
     ensures autocommit { LeavesAutocommit conn.old conn.new }
 {
     let mutations = mutations_of(alloc, conn, caller, act, at)?;
     let mandates = mandates_of(alloc, conn, caller, act, at)?;
-    slice_about(alloc, conn, act, mutations, mandates, next, at)
+    let parts = parts_to_read(needed_only, &mutations, act);
+    slice_about(alloc, conn, act, parts, mutations, mandates, next, at)
 }

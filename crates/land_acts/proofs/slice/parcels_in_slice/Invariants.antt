@@ -1,8 +1,8 @@
 use Rattle.std.proofs.Common.{◌≡◌}
-use Rattle.std.specs.Prelude.{filter}
-use Rattle.land_acts.specs.Slices.{names_unit}
+use Rattle.std.specs.Prelude.{◌&&◌, filter}
+use Rattle.land_acts.specs.Slices.{includes_unit}
 use Rattle.land_core.specs.Entries.{with_entries, entries_where}
 use Rattle.land_acts.proofs.slice.parcels_in_slice.Given as goal
 
 abbrev pub invariant-loop-number : goal.invariant-loop-number
-invariant-loop-number l = with_entries l.kept (filter (λ e. names_unit l.register l.act e.1.unit) l.number-iterator) ≡ entries_where (λ n p. names_unit l.register l.act p.unit) l.register.parcels
+invariant-loop-number l = with_entries l.kept (filter (λ e. l.parts.parcels && includes_unit l.parts l.register l.act e.1.unit) l.number-iterator) ≡ entries_where (λ n p. l.parts.parcels && includes_unit l.parts l.register l.act p.unit) l.register.parcels

@@ -1,8 +1,8 @@
 use Rattle.std.proofs.Common.{◌≡◌}
-use Rattle.std.specs.Prelude.{filter}
-use Rattle.land_acts.specs.Slices.{reads_party}
+use Rattle.std.specs.Prelude.{◌&&◌, filter}
+use Rattle.land_acts.specs.Slices.{includes_party}
 use Rattle.land_core.specs.Entries.{with_entries, entries_where}
 use Rattle.land_acts.proofs.slice.records_in_slice.Given as goal
 
 abbrev pub invariant-loop-number : goal.invariant-loop-number
-invariant-loop-number g l = with_entries l.kept (filter (λ e. reads_party l.register l.act e.0) l.number-iterator) ≡ entries_where (λ n value. reads_party l.register l.act n) l.records
+invariant-loop-number g l = with_entries l.kept (filter (λ e. l.is_included && includes_party l.parts l.register l.act e.0) l.number-iterator) ≡ entries_where (λ n value. l.is_included && includes_party l.parts l.register l.act n) l.records

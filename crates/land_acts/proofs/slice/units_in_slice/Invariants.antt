@@ -1,8 +1,8 @@
 use Rattle.std.proofs.Common.{◌≡◌}
 use Rattle.std.specs.Prelude.{filter}
-use Rattle.land_acts.specs.Slices.{names_unit}
+use Rattle.land_acts.specs.Slices.{includes_unit}
 use Rattle.land_core.specs.Entries.{with_entries, entries_where}
 use Rattle.land_acts.proofs.slice.units_in_slice.Given as goal
 
 abbrev pub invariant-loop-number : goal.invariant-loop-number
-invariant-loop-number l = with_entries l.kept (filter (λ e. names_unit l.register l.act e.0) l.number-iterator) ≡ entries_where (λ n u. names_unit l.register l.act n) l.register.units
+invariant-loop-number l = with_entries l.kept (filter (λ e. includes_unit l.parts l.register l.act e.0) l.number-iterator) ≡ entries_where (λ n u. includes_unit l.parts l.register l.act n) l.register.units

@@ -1,8 +1,8 @@
-use Rattle.std.proofs.Common.{rules, ◌≡◌, subst, to_z, of_z, w64, Ok}
-use Rattle.land_acts.specs.Slices.{mutations_in_slice, names_mandate, slice_of}
+use Rattle.std.proofs.Common.{rules, ◌≡◌, ◌∙◌, ap, subst, to_z, of_z, w64, Ok}
+use Rattle.land_acts.specs.Slices.{mutations_in_slice, names_mandate, slice_with}
 use Rattle.land_core.specs.Entries.{entries_where}
 use Rattle.land_core.specs.declared.caller.Caller.{Caller}
-use Rattle.land_select.specs.Slices.Gathered.{HoldsOfRegister}
+use Rattle.land_select.specs.Slices.Gathered.{HoldsOfRegister, parts_to_read}
 use Rattle.land_select_queries.proofs.Chains.{look_after}
 use Rattle.land_select_queries.specs.Lookups.Parts.{ReadsPart}
 use Rattle.land_tables_rows.specs.declared.listing.fault.ReadFault.{ReadFault}
@@ -26,7 +26,8 @@ returns-clause-reads_only g c =
     × ReadsPart (λ r. entries_where (λ m u. names_mandate asker act m) r.mandates) t a.now.trees mandates) a d =
     look_then a (state g.S.Store c.mutations_of.new.conn) d (rw when at c.in_ok-mutations.ensures.reads_only) (rw when at c.in_ok-mandates.ensures.reads_only)
     (λ clean same first second. (first, subst (λ (now : Database). ReadsPart (λ r. entries_where (λ m u. names_mandate asker act m) r.mandates) t now.trees mandates) same second)) in
-    look_after a d (state g.S.Store c.slice_about.new.conn) c.slice_about.result both (rw when at c.slice_about.ensures.reads_only)
+    look_after a d (state g.S.Store c.slice_about.new.conn) c.slice_about.result both (rw (when, c.parts_to_read-parts.ensures) at c.slice_about.ensures.reads_only)
     (λ it clean same both sliced moments h held r have stands next.
-    subst (λ (now : Database). HoldsOfRegister (λ r. r.next ≡ c.args.next → (caller : Caller) → mutations ≡ mutations_in_slice r caller act → mandates ≡ entries_where (λ m u. names_mandate caller act m) r.mandates → it ≡ slice_of r caller act) t now.trees)
-    same sliced moments h held r have stands next asker (both.0 moments h held r have stands) (both.1 moments h held r have stands))
+    subst (λ (now : Database). HoldsOfRegister (λ r. r.next ≡ c.args.next → (caller : Caller) → mutations ≡ mutations_in_slice r caller act → mandates ≡ entries_where (λ m u. names_mandate caller act m) r.mandates → it ≡ slice_with (parts_to_read c.args.needed_only mutations act) r caller act) t now.trees)
+    same sliced moments h held r have stands next asker (both.0 moments h held r have stands) (both.1 moments h held r have stands)
+    ∙ ap (λ ms. slice_with (parts_to_read c.args.needed_only ms act) r asker act) (both.0 moments h held r have stands))

@@ -1,4 +1,4 @@
-use Rattle.std.proofs.Common.{subst, sym}
+use Rattle.std.proofs.Common.{false, subst, sym}
 use Rattle.land_select.proofs.KnownRoles.{still_known}
 use Rattle.land_select.proofs.Seen.{slice_stands}
 use Rattle.land_select.specs.Cache.{IsCacheOf}
@@ -8,7 +8,7 @@ use Rattle.land_select.proofs.sql_keeper.SqlKeeperKeeper.slice.Goals as goal
 
 pub returns-clause-value : goal.returns-clause-value
 returns-clause-value g c clean =
-    rw c.self.view_is at (slice_stands c.soundness_by_number.ensures (state g.S.Store c.self.inside.tables.conn) c.args.caller c.args.act.now _ _ _ c.execute.result c.execute.ensures.closes
+    rw c.self.view_is at (slice_stands c.soundness_by_number.ensures false (state g.S.Store c.self.inside.tables.conn) c.args.caller c.args.act.now _ _ _ c.execute.result c.execute.ensures.closes
     (λ not_closed. c.next.ensures.next (c.execute.ensures.was clean, not_closed)) (c.execute.ensures.value clean))
 
 pub invariant_of-self : goal.invariant_of-self
