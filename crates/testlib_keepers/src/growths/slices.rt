@@ -31,11 +31,12 @@ enum Asked {
 #[derive(Clone, Copy)]
 struct Sizes(usize, usize, usize);
 
-/// An act: its name, the caller, its role, the act, and the size of its slice.
-struct SliceCase(&'static str, u64, Role, Asked, Sizes);
+/// An act: its name, the caller, its role, the act, the size of its slice, and that of the part on which the
+/// outcome of the act depends.
+struct SliceCase(&'static str, u64, Role, Asked, Sizes, Sizes);
 
 /// Each slice has the office. An act on the garden has its three entries; an act on a party or with a
-/// creditor has that party.
+/// creditor has that party. No outcome depends on the office, and that of a lodging on no party or unit.
 const SLICED: &[SliceCase] = &[
     SliceCase(
         "for an enrolment",
@@ -43,6 +44,7 @@ const SLICED: &[SliceCase] = &[
         Role::StateAdministrator,
         Asked::Enrol,
         Sizes(1, 0, 0),
+        Sizes(0, 0, 0),
     ),
     SliceCase(
         "for a grant",
@@ -50,6 +52,7 @@ const SLICED: &[SliceCase] = &[
         Role::StateAdministrator,
         Asked::Grant,
         Sizes(2, 0, 0),
+        Sizes(1, 0, 0),
     ),
     SliceCase(
         "for an approval",
@@ -57,6 +60,7 @@ const SLICED: &[SliceCase] = &[
         Role::StateAdministrator,
         Asked::Approve,
         Sizes(2, 1, 3),
+        Sizes(1, 1, 3),
     ),
     SliceCase(
         "for a lodging",
@@ -64,6 +68,7 @@ const SLICED: &[SliceCase] = &[
         Role::Bank,
         Asked::Discharge,
         Sizes(1, 1, 3),
+        Sizes(0, 0, 0),
     ),
     SliceCase(
         "for a lift",
@@ -71,6 +76,7 @@ const SLICED: &[SliceCase] = &[
         Role::StateAdministrator,
         Asked::Lift,
         Sizes(1, 0, 1),
+        Sizes(0, 0, 1),
     ),
 ];
 
@@ -127,7 +133,19 @@ fn gives<K: Keeper>(
     Ok(has_sizes(&slice, sizes))
 }
 
-/// Checks if the slice of an act has its expected size.
+/// Checks if a keeper returns a needed slice of this size for an act.
+fn needs<K: Keeper>(
+    alloc: Global,
+    keeper: &mut K,
+    caller: Caller,
+    act: &Act,
+    sizes: Sizes,
+) -> Result<bool, Stop> {
+    let slice = keeper.needed_slice(alloc, caller, act)?;
+    Ok(has_sizes(&slice, sizes))
+}
+
+/// Checks if the slice of an act has its expected size, and the part that its outcome depends on.
 fn has_expected_slice<K: Keeper>(
     alloc: Global,
     keeper: &mut K,
@@ -138,7 +156,10 @@ fn has_expected_slice<K: Keeper>(
         role: slice_case.2,
     };
     let act = act_of(alloc, &slice_case.3)?;
-    gives(alloc, keeper, caller, &act, slice_case.4)
+    if !gives(alloc, keeper, caller, &act, slice_case.4)? {
+        return Ok(false);
+    }
+    needs(alloc, keeper, caller, &act, slice_case.5)
 }
 
 /// Checks that the slice of each act has its expected size.

@@ -10,6 +10,7 @@ use land_core::role::Role;
 use land_keep::keeper::Keeper;
 use land_keep::moments::explicit_moment;
 use land_rules::verdict::Verdict;
+use land_select::sql_keeper::SqlKeeper;
 use sqlite::types::ValueRef;
 use std::alloc::Global;
 use testlib_scenario::stop::{Stop, expect};
@@ -55,9 +56,10 @@ impl Seen {
     }
 }
 
-/// Returns if a keeper's verdict on a view is the expected rule, and the reads of the store.
+/// Returns if a keeper's verdict on a view is the expected rule, and the reads of the store. The keeper of the
+/// scenario remembers the roles of those who acted in it, a new keeper on its tables remembers none.
 fn read_by_keeper(alloc: Global, view: &Seen) -> Result<(bool, Reads), Stop> {
-    let mut keeper = play_register(alloc)?;
+    let mut keeper = SqlKeeper::new(play_register(alloc)?.into_tables());
     let ask = Ask::View {
         kind: Kind::Party,
         number: view.2,
