@@ -7,7 +7,8 @@
 `land serve` runs under gdb, which records each SQL statement that the program passes to its sqlite (`Connection::bind`), with its
 parameters. The baseline runs on a copy of the file, and prints the same. Both get all reads of joins.py, those of mandates.py by agents
 with no, one and ten principals, and two acts of each kind. They must run the same statements, in the same order, with the same parameters;
-the current time is masked. The program gets each read twice, and the second counts, since the first looks up the roles of the caller. If something differs, it is printed, and the exit status is 1. The program needs symbols.
+the current time is masked. The program gets each read twice; the second counts, since the first looks up the roles of the caller. Before
+each act its caller sends a read. If something differs, it is printed, and the exit status is 1. The program needs symbols.
 """
 import json
 import os
@@ -108,6 +109,7 @@ def compare_acts(watched, steps, known, faults):
     for word, party, role, body in [*joins.enrolments(known, 2, "E"), *joins.registrations(known, 2, "R"), *lodged, *joins.approvals(lodged),
                                     *joins.busy_lodgings(known, 2, "B")]:
         number = numbers.pop(0) if word == "approve" else None
+        watched.send(joins.head("GET", "/mutations", party, role))   # From then on the keeper knows the role of the caller.
         (status, reply), mine = watched.send(joins.head("POST", f"/acts/{word}", party, role, {"mutation": number} if number else body))
         if status != 200:
             raise SystemExit(f"{word}: {status}: {reply}")

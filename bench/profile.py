@@ -5,6 +5,7 @@
                                                          (all five; it needs valgrind, which makes the program some fifty times slower)
     LAND=PROGRAM bench/profile.py ..                     another program than crates/land/out/land, with symbols
     PAGE_SIZE=2048 bench/profile.py ..                   another page size of the files than 4096
+    ADMINISTRATORS=20 bench/profile.py acts              another number of state administrators than one
 
 talk        A register is filled by acts: 20 enrolments, and 10 registrations of a parcel and two rights. Then one request is sent a
             hundred times, and in a second run two hundred times. The figure is the difference, per request: start, set-up and one-time work
@@ -23,6 +24,7 @@ The instructions of a request are divided by the names of functions, each with i
 comparisons, hashes) count for their callers. An opening is divided by a few functions, each with all that it calls except the other ones.
 If several parts call a function, its instructions, and those of its callees, are divided in proportion to the cost of these calls.
 """
+import os
 import re
 import shutil
 import subprocess
@@ -38,6 +40,7 @@ from registers import PROGRAM, square
 
 COUNT, UNITS, ENTRIES, CHANGES = 100, 10, 10000, 10000
 ACTS, FEW_ENTRIES = 40, 1000
+ADMINISTRATORS = int(os.environ.get("ADMINISTRATORS", "1"))
 ROUNDS = 60  # more than the depth of the call graph
 REQUESTS = {
     "a citizen's units": ("GET", "/units", 2, "citizen", None),
@@ -235,6 +238,7 @@ def perform(folder, name, count):
     """Returns the counts of `land serve` on a file with 1,000 entries while it performs a number of acts."""
     file = Path(tempfile.mkdtemp(dir=folder), "entries.land")
     known = registers.of_entries(file, FEW_ENTRIES)
+    registers.add_administrators(file, ADMINISTRATORS - 1)
     is_approval = name == "an approval"
     sent = [joins.head("POST", f"/acts/{word}", party, role, body)
             for word, party, role, body in PERFORMED[name](known, 2 * ACTS if is_approval else count, "Act")]
@@ -246,7 +250,7 @@ def perform(folder, name, count):
 
 
 def acts(folder):
-    print(f"\nThousands of instructions per act, `land serve`, with {FEW_ENTRIES:,} entries:\n")
+    print(f"\nThousands of instructions per act, `land serve`, with {FEW_ENTRIES:,} entries and state administrators: {ADMINISTRATORS}\n")
     table(PERFORMED, [per_request(ACTS, *(perform(folder, name, count) for count in (ACTS, 2 * ACTS))) for name in PERFORMED])
 
 

@@ -130,6 +130,15 @@ def of_entries(path, entries):
     return known
 
 
+def add_administrators(path, count):
+    """Makes a number of citizens of a register of `of_entries` state administrators, from its first stamp on."""
+    base = sqlite3.connect(path)
+    people = base.execute("SELECT party FROM role WHERE role = 'citizen' ORDER BY party LIMIT ?", (count,)).fetchall()
+    put(base, "role", [(party, "stateAdministrator", 1000, OPEN) for party, in people])
+    base.commit()
+    base.close()
+
+
 def add_units(base, owners, count):
     """Adds a number of units per owner at the stamp 3000, the owners taking turns: each unit has a parcel and one entry, all by one
     document."""

@@ -29,7 +29,6 @@ def of_circle(*names):
 
 # Parts of requests, each with the function of land_select, or of its module verdict, that runs it. $1 is the caller, $2 the number in the
 # path, $3 the unit that the JSON of a mutation refers to.
-CALLER = [f"ROLES_OF_PARTY $1 {LAST}"]                                                              # caller::read_caller_and_roles
 GROUPS = of_circle("own/GROUPS")                                                                    # interest::read_names, of a citizen
 PARTIES = of_circle("own/ITSELF", "own/GROUPS", "holder/PARTIES", "group/PARTIES")                  # sight::SightQuery, of a citizen
 UNIT = ["ENTRIES_OF_UNIT $2 now"]                                                                   # interest::read_shown_unit
@@ -41,10 +40,10 @@ RECORD = ["UNIT $2 now"]                                                        
 PARCELS = ["PARCELS_OF_UNIT $2 now"]                                                                # view::read_parcels
 NAMES = ["PARTIES_OF_UNIT $2 now"]                                                                  # of_entries::parties
 
-# The statements of each read by a caller whose role is known (known_roles::is_known; else CALLER comes first), and the functions that run
-# them. view::is_visible or sheet::read_sheet_verdict computes the verdict first, and a denial needs no further statement; then the rows that
-# are not yet cached are read. A list is sight::SightQuery: each selection of the role and the kind, for a citizen over its circle. An object
-# is object::ObjectQuery, a sheet view::UnitViewQuery; lodgers::has_lodged reads a mutation's lodger.
+# The statements of each read by a caller whose role is known (known_roles::is_known; else ROLES_OF_PARTY comes first), and the functions
+# that run them. view::is_visible or sheet::read_sheet_verdict computes the verdict first, and a denial needs no further statement; then the
+# rows that are not yet cached are read. A list is sight::SightQuery: each selection of role and kind, for a citizen over its circle. An
+# object is object::ObjectQuery, a sheet view::UnitViewQuery; lodgers::has_lodged reads a mutation's lodger.
 READS = {
     ("citizen", "list own units"): of_circle("holder/UNITS", "group/UNITS"),                  # SightQuery
     ("citizen", "list visible entries"): of_circle("holder/ENTRIES", "group/ENTRIES"),        # SightQuery
@@ -78,47 +77,35 @@ READS = {
 }
 
 
-def person(number):
-    """A party that an act refers to (slices::parties_and_roles)."""
-    return [f"PARTY {number} {LAST}", f"ROLES_OF_PARTY {number} {LAST}", f"MEMBERS_OF_GROUP {number} {LAST}"]
+def begun(table, number, *cells):
+    """The first version of a new object (land_tables_rows, change_writing::all::change)."""
+    return [f"{table}/BEGIN {number} {' '.join(cells)} stamp"]
 
 
-def unit(number):
-    """A unit that an act refers to (slices::units_and_entries)."""
-    return [f"UNIT {number} {LAST}", f"PARCELS_OF_UNIT {number} {LAST}", f"ENTRIES_OF_UNIT {number} {LAST}"]
+def replaced(table, number, *cells):
+    """The new version of an object: the earlier one is closed, and this one is inserted."""
+    return [f"{table}/CLOSE {number} stamp", *begun(table, number, *cells)]
 
 
-def made(table, number, *cells):
-    """The new version of an object (land_tables_rows, change_writing::all::change): an earlier one is closed, and this one is inserted."""
-    return [f"{table}/CLOSE {number} stamp", f"{table}/BEGIN {number} {' '.join(cells)} stamp"]
-
-
-OFFICE = [f"ADMINISTRATORS 0 {LAST}"]                                                          # slices::slice::read_parties
-OFFICERS = [f"each ADMINISTRATORS {step}" for step in person("ADMINISTRATORS.party")]
-
-# For each act the number of object numbers that it allocates, and the statements after CALLER, since a write forgets the roles of callers
-# (known_roles::forget_roles): slices::slice::slice_at, then
+# For each act the number of object numbers that it allocates, and its statements if the role of the caller is known
+# (known_roles::is_known): slices::slice::slice_at, which reads the parts that the outcome depends on (land_acts, needed_parts), then
 # change_writing::change::write_change (land_tables_rows): parties and roles, units and entries, sources and mutations, the stamp.
 ACTS = {
     # $2 is the name.
-    "enrol": (1, [*OFFICE, *OFFICERS, *made("party", "next+0", "$2", "=naturalPerson"),
-                  "role/CLOSE next+0 =citizen stamp", "role/BEGIN next+0 =citizen stamp", "moments/INSERT stamp next+1"]),
+    "enrol": (1, [*begun("party", "next+0", "$2", "=naturalPerson"), "role/BEGIN next+0 =citizen stamp", "moments/INSERT stamp next+1"]),
     # $2 is the name, $3 the outline, $4 the owner.
-    "register": (4, [*OFFICE, *person("$4"), *OFFICERS, *made("unit", "next+1", "$2", "1"),
-                     *made("parcel", "next+2", "next+1", "=1", "$3", "next+0"),
-                     *made("rrr", "next+3", "next+1", "$4", "=ownership", "1", "1", "-", "-", "-", "-", "next+0"),
-                     *made("source", "next+0", "=administrative", "=Deed"), "moments/INSERT stamp next+4"]),
+    "register": (4, [f"PARTY $4 {LAST}", *begun("unit", "next+1", "$2", "1"), *begun("parcel", "next+2", "next+1", "=1", "$3", "next+0"),
+                     *begun("rrr", "next+3", "next+1", "$4", "=ownership", "1", "1", "-", "-", "-", "-", "next+0"),
+                     *begun("source", "next+0", "=administrative", "=Deed"), "moments/INSERT stamp next+4"]),
     # $2 is the reference, $3 the unit, $4 the receiver, $5 the content.
-    "transfer": (2, [f"MUTATION_LODGED_AS $1 {LAST} $2", *OFFICE, *person("$4"), *OFFICERS, *unit("$3"),
-                     *made("source", "next+0", "=administrative", "=Deed"),
-                     *made("mutation", "next+1", "$1", "$2", "next+0", "stamp", "=transfer", "$5", "=lodged"),
+    "transfer": (2, [f"MUTATION_LODGED_AS $1 {LAST} $2", *begun("source", "next+0", "=administrative", "=Deed"),
+                     *begun("mutation", "next+1", "$1", "$2", "next+0", "stamp", "=transfer", "$5", "=lodged"),
                      "names/BEGIN next+1 $3 stamp", "moments/INSERT stamp next+2"]),
     # $2 is the mutation, $3 its unit, $4 the transferred right, $5 the receiver; caller::read_referenced reads the mutation too.
-    "approve": (1, [f"MUTATION $2 {LAST}", f"MUTATION $2 {LAST}", *OFFICE, *person("$5"), *OFFICERS, *unit("$3"),
-                    f"SOURCE MUTATION.source {LAST}", "rrr/CLOSE next+0 stamp", "rrr/CLOSE $4 stamp",
-                    "rrr/BEGIN next+0 $3 $5 =ownership 1 2 - - - - MUTATION.source stamp",
-                    *made("mutation", "$2", "MUTATION.lodger", "MUTATION.reference", "MUTATION.source", "MUTATION.lodged", "MUTATION.act",
-                          "MUTATION.content", "=approved"), "moments/INSERT stamp next+1"]),
+    "approve": (1, [f"MUTATION $2 {LAST}", f"MUTATION $2 {LAST}", f"PARTY $5 {LAST}", f"UNIT $3 {LAST}", f"ENTRIES_OF_UNIT $3 {LAST}",
+                    "rrr/CLOSE $4 stamp", "rrr/BEGIN next+0 $3 $5 =ownership 1 2 - - - - MUTATION.source stamp",
+                    *replaced("mutation", "$2", "MUTATION.lodger", "MUTATION.reference", "MUTATION.source", "MUTATION.lodged",
+                              "MUTATION.act", "MUTATION.content", "=approved"), "moments/INSERT stamp next+1"]),
 }
 
 
@@ -126,7 +113,7 @@ def definitions():
     """Returns the lines that define all statements and plans for the baseline."""
     lines = [f"sql\t{name}\t{sql}" for name, sql in STATEMENTS.items()]
     plans = [*((": ".join(read), 0, steps) for read, steps in READS.items()),
-             *((act, count, [*CALLER, *steps]) for act, (count, steps) in ACTS.items())]
+             *((act, count, steps) for act, (count, steps) in ACTS.items())]
     for name, count, steps in plans:
         lines.append(f"plan\t{name}\t{count}")
         lines += ["\t".join(([] if step.startswith("each ") else ["run"]) + step.split(" ")) for step in steps]
