@@ -1,8 +1,8 @@
 #!/usr/bin/env python3
 """Where the program spends its time, in instructions, which do not depend on the load of the host.
 
-    bench/profile.py [talk] [serve] [acts] [listing] [opening]
-                                                         (all five; it needs valgrind, which makes the program some fifty times slower)
+    bench/profile.py [talk] [serve] [acts] [listing] [reads] [opening]
+                                                         (all six; it needs valgrind, which makes the program some fifty times slower)
     LAND=PROGRAM bench/profile.py ..                     another program than crates/land/out/land, with symbols
     PAGE_SIZE=2048 bench/profile.py ..                   another page size of the files than 4096
     ADMINISTRATORS=20 bench/profile.py acts              another number of state administrators than one
@@ -14,6 +14,9 @@ serve       The same with `land serve`, which has the register in a new file; th
 acts        An enrolment, a registration, a filing and an approval, by `land serve` on a file with 1,000 entries, from forty and eighty acts,
             as in bench/joins.py.
 listing     A notary's list of all 2,500 units of a file with 10,000 entries, by `land serve`, from ten and twenty lists.
+reads       Each read of bench/joins.py on a file with 1,000 entries, by `land serve` and by the baseline in C (baseline.c), which runs the
+            same SQL statements: from twenty and forty reads. The ratio is that of `land` without HTTP, that is, without the instructions of
+            a request for an unknown path. It needs cc and sqlite3.h.
 opening     `land check` of a file with 10,000 changes, as in bench/check.py: a party and its unit in turn.
 
 Valgrind's callgrind counts the instructions of the process, without the kernel (which reads, writes and waits for the disk) and without
@@ -36,10 +39,12 @@ from pathlib import Path
 
 import joins
 import registers
+import texts
 from registers import PROGRAM, square
 
 COUNT, UNITS, ENTRIES, CHANGES = 100, 10, 10000, 10000
-ACTS, FEW_ENTRIES = 40, 1000
+ACTS, FEW_ENTRIES, READS = 40, 1000, 20
+RUNS_OF_BASELINE = 3  # of a read that is given no time
 ADMINISTRATORS = int(os.environ.get("ADMINISTRATORS", "1"))
 ROUNDS = 60  # more than the depth of the call graph
 REQUESTS = {
@@ -285,7 +290,59 @@ def listing(folder):
     row("all", f"{sum(sums.values()) / 1000:,.1f}", f"{sum(sums.values()) / units:,.0f}")
 
 
-PROFILES = {"talk": partial(requests, talk), "serve": partial(requests, serve), "acts": acts, "listing": listing, "opening": opening}
+def instructions(out):
+    """Returns the instructions that callgrind has counted."""
+    return int(re.search(r"^(?:summary|totals): (\d+)", Path(out).read_text(encoding="utf-8"), re.M)[1])
+
+
+def of_server(folder, file, request, count):
+    """Returns the instructions of `land serve` on a file while it answers a request a number of times, with any status."""
+    out = Path(folder, "server.out")
+    service = joins.Service([*callgrind(out), "serve", "--file", str(file), "--port", "{port}", "--connections", "2"])
+    client = joins.Client(service.port)
+    for _ in range(count):
+        client.send(request)
+    client.close()
+    service.process.wait()
+    joins.Service.running.remove(service)
+    return instructions(out)
+
+
+def of_baseline(folder, program, file, plan, count):
+    """Returns the instructions of the baseline in C on a file while it runs a read a number of times."""
+    out = Path(folder, "baseline.out")
+    baseline = texts.Baseline([*callgrind(out)[:-1], program, str(file), "delete"])
+    for _ in range(count):
+        baseline.read(*plan)
+    baseline.stop()
+    return instructions(out)
+
+
+def reads(folder):
+    missing = texts.missing()
+    if missing:
+        raise SystemExit(missing)
+    file, program, http = Path(folder, "reads.land"), texts.build(folder), None
+    known = registers.of_entries(file, FEW_ENTRIES)
+    copy = shutil.copy(file, f"{file}.baseline")
+    print(f"\nThousands of instructions per read, `land serve` and C SQLite, with {FEW_ENTRIES:,} entries:\n")
+    row("request", "`land`", "C SQLite", "`land` without HTTP / C SQLite")
+    print("|---" * 4 + "|")
+    for party, role, name, path in [*joins.requests_of(known), (known["owner"], "citizen", "view own unit", f"/units/{known['unit']}")]:
+        request, plan = joins.head("GET", path, party, role), (f"{role}: {name}", 0, *joins.values(known, party, path))
+        few, many = (of_server(folder, file, request, count) for count in (READS, 2 * READS))
+        mine = (many - few) / READS
+        if http is None:
+            http = mine
+            row(f"{role}: {name}", f"{mine / 1000:,.1f}", "-", "-")
+            continue
+        few, many = (of_baseline(folder, program, copy, plan, count) for count in (READS, 2 * READS))
+        theirs = (many - few) / READS / RUNS_OF_BASELINE
+        row(f"{role}: {name}", f"{mine / 1000:,.1f}", f"{theirs / 1000:,.1f}", f"{(mine - http) / theirs:.2f}")
+
+
+PROFILES = {"talk": partial(requests, talk), "serve": partial(requests, serve), "acts": acts, "listing": listing, "reads": reads,
+            "opening": opening}
 
 
 def main():
