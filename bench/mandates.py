@@ -116,7 +116,7 @@ class Caller:
         client.close()
         if not self.baseline:
             return served, None, None
-        return served, *self.baseline.read(f"{role}: {name}", SECONDS, *joins.values(self.agent, party, path))
+        return served, *self.baseline.read(texts.plan_of(role, name, self.agent), SECONDS, *joins.values(self.agent, party, path))
 
 
 def measured(callers, place):

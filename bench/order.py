@@ -7,8 +7,9 @@
 `land serve` runs under gdb, which records each SQL statement that the program passes to its sqlite (`Connection::bind`), with its
 parameters. The baseline runs on a copy of the file, and prints the same. Both get all reads of joins.py, those of mandates.py by agents
 with no, one and ten principals, and two acts of each kind. They must run the same statements, in the same order, with the same parameters;
-the current time is masked. The program gets each read twice; the second counts, since the first looks up the roles of the caller. Before
-each act its caller sends a read. If something differs, it is printed, and the exit status is 1. The program needs symbols.
+the current time is masked. The program gets each read twice; the second counts, since the first looks up the roles of the caller and, for a
+list, its mandates. Before each act its caller sends a read. If something differs, it is printed, and the exit status is 1. The program needs
+symbols.
 """
 import json
 import os
@@ -91,6 +92,7 @@ def compare(name, mine, theirs, faults):
 
 def compare_reads(watched, steps, known, requests, faults, of=""):
     import joins
+    import texts
 
     for party, role, name, path in requests:
         if path == "/nothing":
@@ -98,7 +100,7 @@ def compare_reads(watched, steps, known, requests, faults, of=""):
         request = joins.head("GET", path, party, role)
         watched.send(request)   # From then on the keeper knows the role of the caller.
         _, mine = watched.send(request)
-        compare(f"{role}{of}: {name}", mine, steps(f"{role}: {name}", *joins.values(known, party, path)), faults)
+        compare(f"{role}{of}: {name}", mine, steps(texts.plan_of(role, name, known), *joins.values(known, party, path)), faults)
 
 
 def compare_acts(watched, steps, known, faults):

@@ -27,10 +27,15 @@ def of_circle(*names):
     return ["MANDATES_OF_AGENT $1 now", *others, *(f"{name} $1 now" for name in names)]
 
 
+def each(*names):
+    """Statements that are run for the caller."""
+    return [f"{name} $1 now" for name in names]
+
+
 # Parts of requests, each with the function of land_select, or of its module verdict, that runs it. $1 is the caller, $2 the number in the
 # path, $3 the unit that the JSON of a mutation refers to.
 GROUPS = of_circle("own/GROUPS")                                                                    # interest::read_names, of a citizen
-PARTIES = of_circle("own/ITSELF", "own/GROUPS", "holder/PARTIES", "group/PARTIES")                  # sight::SightQuery, of a citizen
+PARTIES = ("own/ITSELF", "own/GROUPS", "holder/PARTIES", "group/PARTIES")                           # sight::SightQuery, of a citizen
 UNIT = ["ENTRIES_OF_UNIT $2 now"]                                                                   # interest::read_shown_unit
 OWN = ["ENTRY $2 now"]                                                                              # interest::is_found_entry_shown
 ENTRY = [*OWN, "ENTRIES_OF_UNIT ENTRY.unit now"]                                                    # interest::read_shown_entry
@@ -42,12 +47,16 @@ NAMES = ["PARTIES_OF_UNIT $2 now"]                                              
 
 # The statements of each read by a caller whose role is known (known_roles::is_known; else ROLES_OF_PARTY comes first), and the functions
 # that run them. view::is_visible or sheet::read_sheet_verdict computes the verdict first, and a denial needs no further statement; then the
-# rows that are not yet cached are read. A list is sight::SightQuery: each selection of role and kind, for a citizen over its circle. An
-# object is object::ObjectQuery, a sheet view::UnitViewQuery; lodgers::has_lodged reads a mutation's lodger.
+# rows that are not yet cached are read. A list is sight::SightQuery: each selection of role and kind, for an agent over its circle. An
+# object is object::ObjectQuery, a sheet view::UnitViewQuery; lodgers::has_lodged reads a mutation's lodger. A citizen is known to hold no
+# mandate (known_roles::holds_no_mandate), an agent is a citizen that holds one: it looks up its principals at each list.
 READS = {
-    ("citizen", "list own units"): of_circle("holder/UNITS", "group/UNITS"),                  # SightQuery
-    ("citizen", "list visible entries"): of_circle("holder/ENTRIES", "group/ENTRIES"),        # SightQuery
-    ("citizen", "list visible parties"): PARTIES,                                             # SightQuery
+    ("citizen", "list own units"): each("holder/UNITS", "group/UNITS"),                       # SightQuery
+    ("citizen", "list visible entries"): each("holder/ENTRIES", "group/ENTRIES"),             # SightQuery
+    ("citizen", "list visible parties"): each(*PARTIES),                                      # SightQuery
+    ("agent", "list own units"): of_circle("holder/UNITS", "group/UNITS"),                    # SightQuery
+    ("agent", "list visible entries"): of_circle("holder/ENTRIES", "group/ENTRIES"),          # SightQuery
+    ("agent", "list visible parties"): of_circle(*PARTIES),                                   # SightQuery
     ("citizen", "view a visible party"): [                                                    # party::is_party_visible, ObjectQuery
         *GROUPS, "VIEWERS_BY_HOLDING $2 now", "PARTY $2 now", "ROLES_OF_PARTY $2 now", "MEMBERS_OF_GROUP $2 now"],
     ("citizen", "view a visible entry"): OWN,                                                 # interest::read_shown_entry
@@ -118,6 +127,11 @@ def definitions():
         lines.append(f"plan\t{name}\t{count}")
         lines += ["\t".join(([] if step.startswith("each ") else ["run"]) + step.split(" ")) for step in steps]
     return lines
+
+
+def plan_of(role, name, known):
+    """Returns the name of the steps of a read. An agent is a caller with principals."""
+    return f"{'agent' if known.get('principals') and ('agent', name) in READS else role}: {name}"
 
 
 def missing():

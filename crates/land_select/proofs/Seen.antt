@@ -23,7 +23,7 @@ use Rattle.land_select.specs.KnownRoles.{HoldsRoleIf}
 use Rattle.land_select.specs.Verdicts.{IsVerdictWith}
 use Rattle.land_select.specs.Views.{AgreesIfGiven}
 use Rattle.land_select.specs.declared.cache.CachedValue.{CachedValue}
-use Rattle.land_select_queries.specs.Joins.Sight.{IsSight}
+use Rattle.land_select_queries.specs.Joins.Sight.{HoldsNoMandateIf, IsSightWith}
 use Rattle.land_select_queries.specs.Lookups.Parts.{ReadsPart}
 use Rattle.land_tables.proofs.LookedAt.{IsLookedAt}
 use Rattle.land_tables.proofs.One.{have_members}
@@ -31,14 +31,14 @@ use Rattle.land_tables.proofs.WrittenTimelines.{stays_last}
 use Rattle.land_tables.specs.Standing.{decoded_timeline}
 use Rattle.sqlite.specs.State.{State}
 
--- the numbers selected at a time are those that the policy lets the caller see in the register at that time
-pub sight_seen : (s : State) (caller : Caller) (kind : Kind) (t u : ℤ) → IsLookedAt t u → (r : Result (List ℕ) StoreFault) → IfOk r (IsResult (IsSight caller kind u) s)
-    → IfOk r (λ it. it ≡ seen_of (register_at (decoded_timeline s.now.trees) t) caller kind)
-sight_seen s caller kind t u place (Ok it) answer =
+-- the numbers selected at a time are those that the policy lets the caller see in the register at that time;
+-- and a caller that is found to hold no mandate holds none in it
+pub sight_seen : (s : State) (caller : Caller) (holds_none : Bool) (kind : Kind) (t u : ℤ) → IsLookedAt t u → (it : List ℕ × Bool) → IsResult (IsSightWith caller holds_none kind u) s it
+    → HoldsNoMandateIf holds_none (register_at (decoded_timeline s.now.trees) t) caller.party → (it.0 ≡ seen_of (register_at (decoded_timeline s.now.trees) t) caller kind) × HoldsNoMandateIf it.1 (register_at (decoded_timeline s.now.trees) t) caller.party
+sight_seen s caller holds_none kind t u place it answer given =
     let tl = decoded_timeline s.now.trees in
     let holds = answer.register.holds in
-    answer.answer holds.listed holds.history holds.holds (register_at tl t) (sound_or_nothing tl t answer.register.sound) (place s answer.register)
-sight_seen s caller kind t u place (Err fault) answer = tt
+    answer.answer holds.listed holds.history holds.holds (register_at tl t) (sound_or_nothing tl t answer.register.sound) (place s answer.register) given
 
 -- a part of the register that is read at a time is that of the register at that time
 pub part_stands : SoundnessByNumber → {T : Type 0} (part : Register → T) (s : State) (t u : ℤ) → IsLookedAt t u → (r : Result T StoreFault) → IfOk r (IsResult (ReadsPart part u) s)

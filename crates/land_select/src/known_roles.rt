@@ -1,10 +1,12 @@
-//! Remembers which roles callers hold, so that the next request does not look them up again.
-ghost use Rattle.std.specs.Prelude.{◌≡◌, true};
+//! Remembers which roles callers hold, and which citizens hold no mandate, so that the next request does not
+//! look them up again.
+ghost use Rattle.std.specs.Prelude.{◌≡◌, int_le, true};
 ghost use Rattle.land_core.specs.Changes.{after};
 ghost use Rattle.land_core.specs.Grants.{grant_of};
 ghost use Rattle.land_core.specs.Register.{holds};
 ghost use Rattle.land_core.specs.declared.register.Register.{Register};
-ghost use Rattle.land_select.specs.KnownRoles.{AreHeldIn, AreKnownIn, HoldsRoleIf, shows_role};
+ghost use Rattle.land_select.specs.KnownRoles.{AreKnownIn, HoldsRoleIf, IsKnownIn, shows_role};
+ghost use Rattle.land_select_queries.specs.Joins.Sight.{HoldsNoMandate, HoldsNoMandateIf};
 
 use land_core::caller::Caller;
 use land_core::change::Change;
@@ -12,14 +14,16 @@ use land_core::roles::{Grant, Roles};
 use land_rules::verdict::Verdict;
 use std::alloc::Global;
 
-/// The greatest number of roles that are remembered.
-const MAX_ROLES: u32 = 1024;
+/// The greatest number of facts that are remembered.
+const MAX_FACTS: u32 = 1024;
 
-/// Roles that callers hold in the latest register, at most `MAX_ROLES`.
+/// Facts on callers that hold in the latest register, at most `MAX_FACTS`.
 #[derive(Debug, Drop)]
 pub(crate) struct KnownRoles {
-    /// The roles.
+    /// Roles that their parties hold.
     pub(crate) roles: Roles,
+    /// Roles whose parties hold no mandate.
+    pub(crate) without_mandates: Roles,
     /// How many were remembered, counting repeats.
     pub(crate) count: u32,
 }
@@ -44,8 +48,29 @@ pub(crate) fn is_known(known: &Option<KnownRoles>, caller: Caller) -> bool
     }
 }
 
-/// Checks if only a caller that holds the role that it claims gets this verdict: all but the denials by rule 1
-/// (not a party) and rule 2 (not in this role).
+/// Checks if no change is later than a time: `last` is the stamp of the latest change.
+pub(crate) fn is_latest(last: i64, at: i64) -> bool
+    ensures { result ≡ int_le last at }
+{
+    last <= at
+}
+
+/// Checks if a caller is known to hold no mandate. Nothing is known of earlier times than the latest.
+pub(crate) fn holds_no_mandate(known: &Option<KnownRoles>, caller: Caller, is_latest: bool) -> bool
+    ensures known { (r : Register) → AreKnownIn r known.now → HoldsNoMandateIf result r caller.party }
+    ensures latest { result ≡ true → is_latest ≡ true }
+{
+    if !is_latest {
+        return false;
+    }
+    match known {
+        Some(it) => it.without_mandates.contains(claimed_role(caller)),
+        None => false,
+    }
+}
+
+/// Checks if only a caller that holds the role that it claims gets this verdict: all but the denials by rule
+/// 1 (not a party) and rule 2 (not in this role).
 fn shows_role(verdict: Verdict) -> bool
     ensures { result ≡ shows_role verdict }
 {
@@ -55,28 +80,53 @@ fn shows_role(verdict: Verdict) -> bool
     }
 }
 
-/// Returns the remembered roles; none of them if there is no room for one more.
+/// Returns the remembered facts; none of them if there is no room for one more.
 fn with_room(alloc: Global, known: Option<KnownRoles>) -> KnownRoles
-    ensures { (r : Register) → AreKnownIn r known → AreHeldIn r result.roles }
+    ensures { (r : Register) → AreKnownIn r known → IsKnownIn r result }
 {
     match known {
-        Some(it) if it.count < MAX_ROLES => it,
+        Some(it) if it.count < MAX_FACTS => it,
         _ => KnownRoles {
             roles: Roles::new(alloc),
+            without_mandates: Roles::new(alloc),
             count: 0,
         },
     }
 }
 
-/// Remembers a role. Remembers none if out of memory.
+/// Remembers a role. Remembers nothing if out of memory.
 fn insert_role(known: KnownRoles, grant: Grant) -> Option<KnownRoles>
-    ensures { (r : Register) → AreHeldIn r known.roles → holds r grant.party grant.role ≡ true
+    ensures { (r : Register) → IsKnownIn r known → holds r grant.party grant.role ≡ true
         → AreKnownIn r result }
 {
-    let KnownRoles { mut roles, count } = known;
+    let KnownRoles {
+        mut roles,
+        without_mandates,
+        count,
+    } = known;
     match roles.insert(grant) {
         Ok(()) => Some(KnownRoles {
             roles,
+            without_mandates,
+            count: count.saturating_add(1),
+        }),
+        Err(_) => None,
+    }
+}
+
+/// Remembers a role whose party holds no mandate. Remembers nothing if out of memory.
+fn insert_without_mandates(known: KnownRoles, grant: Grant) -> Option<KnownRoles>
+    ensures { (r : Register) → IsKnownIn r known → HoldsNoMandate r grant.party → AreKnownIn r result }
+{
+    let KnownRoles {
+        roles,
+        mut without_mandates,
+        count,
+    } = known;
+    match without_mandates.insert(grant) {
+        Ok(()) => Some(KnownRoles {
+            roles,
+            without_mandates,
             count: count.saturating_add(1),
         }),
         Err(_) => None,
@@ -101,12 +151,35 @@ pub(crate) fn remember(
     *known = insert_role(roomy, claimed_role(caller));
 }
 
-/// Forgets all roles if a change ends one. The remembered roles are then correct before and after the change.
-pub(crate) fn forget_ended_roles(known: &mut Option<KnownRoles>, change: &Change)
+/// Remembers that a caller holds no mandate, if it holds none at the latest time.
+pub(crate) fn remember_no_mandate(
+    alloc: Global,
+    known: &mut Option<KnownRoles>,
+    caller: Caller,
+    is_latest: bool,
+    holds_none: bool,
+)
+    ensures { (r : Register) → AreKnownIn r known.old
+        → (is_latest ≡ true → HoldsNoMandateIf holds_none r caller.party) → AreKnownIn r known.new }
+{
+    if !is_latest || !holds_none {
+        return;
+    }
+    let roomy = with_room(alloc, known.take());
+    *known = insert_without_mandates(roomy, claimed_role(caller));
+}
+
+/// Forgets all facts if a change ends a role or gives a mandate. The remembered facts then hold before and
+/// after the change.
+pub(crate) fn forget_outdated(known: &mut Option<KnownRoles>, change: &Change)
     ensures { (r : Register) → AreKnownIn r known.old
         → AreKnownIn r known.new × AreKnownIn (after change.now r) known.new }
 {
     if !change.ended.roles.as_slice().is_empty() {
+        *known = None;
+        return;
+    }
+    if !change.put.mandates.as_slice().is_empty() {
         *known = None;
     }
 }

@@ -3,7 +3,10 @@ ghost use Rattle.std.specs.Prelude.{◌≡◌, ◌≤ℤ◌};
 ghost use Rattle.land_keep.specs.Moments.{last_moment};
 
 use crate::cache::{Cache, cache_for, forget, keep, take_object, take_unit};
-use crate::known_roles::{KnownRoles, forget_ended_roles, is_known, remember};
+use crate::known_roles::{
+    KnownRoles, forget_outdated, holds_no_mandate, is_known, is_latest, remember,
+    remember_no_mandate,
+};
 use crate::object::ObjectQuery;
 use crate::objects::ObjectsQuery;
 use crate::query::execute;
@@ -34,14 +37,16 @@ use std::marker::Model;
 
 /// A keeper on tables of any store. SQL queries select the numbers that a caller sees; lookups by key read
 /// objects, title sheets, the slices of acts and the records that verdicts need. A value that a verdict has
-/// read is cached, so that the reply does not read it again; so are the roles of callers until one ends.
+/// read is cached, so that the reply does not read it again; so are the roles of callers until one ends, and
+/// that citizens hold no mandate until one is given.
 /// In contracts the value of the keeper is that of its tables.
 pub struct SqlKeeper<S: Alter> {
     /// The tables.
     tables: Tables<S>,
     /// The value that the last verdict read, until the next call.
     cache: Option<Cache>,
-    /// The roles that callers hold, until a role ends.
+    /// The roles that callers hold, and the citizens without mandates, until a role ends or a mandate is
+    /// given.
     known: Option<KnownRoles>,
 }
 
@@ -155,12 +160,18 @@ impl<S: Alter> Keeper for SqlKeeper<S> {
         at: i64,
     ) -> Result<NumberList, StoreFault> {
         forget(&mut self.cache);
+        let latest = is_latest(self.tables.last(), at);
+        let holds_none = holds_no_mandate(&self.known, caller, latest);
         let sight = SightQuery {
             caller,
+            holds_none,
             kind,
             moment: at.min(LAST_MOMENT),
         };
-        execute(alloc, &mut self.tables, &sight)
+        let told = execute(alloc, &mut self.tables, &sight)?;
+        let (numbers, is_none) = told;
+        remember_no_mandate(alloc, &mut self.known, caller, latest, is_none);
+        Ok(numbers)
     }
 
     fn object(
@@ -258,7 +269,7 @@ impl<S: Alter> Keeper for SqlKeeper<S> {
 
     fn write(&mut self, alloc: Global, change: &Change, stamp: i64) -> Result<(), StoreFault> {
         forget(&mut self.cache); // The change may be to the cached object.
-        forget_ended_roles(&mut self.known, change);
+        forget_outdated(&mut self.known, change);
         self.tables.write(alloc, change, stamp)
     }
 }

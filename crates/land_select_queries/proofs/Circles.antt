@@ -1,6 +1,9 @@
 -- A citizen sees what its circle selects; for other roles mandates add nothing.
-use Rattle.std.proofs.Common.{◌≡◌, ◌↔◌, ℕ, ℤ, Bool, true, false, ◌&&◌, not, nat_eq, List, refl, sym, ◌∙◌}
+use Rattle.std.proofs.Common.{◌≡◌, ◌↔◌, ℕ, ℤ, Bool, true, false, ◌&&◌, not, nat_eq, List, [], ◌∷◌, ◌||◌, ◌==◌, length, refl, sym, subst, ap, ◌∙◌, IsPermutation}
 use Rattle.std.proofs.lemmas.Bool.{eqb-true, false≢true}
+use Rattle.std.proofs.lemmas.Bool.Decides.{Decides-eqb}
+use Rattle.std.proofs.lemmas.List.{nil_from_length}
+use Rattle.std.proofs.lemmas.List.Sorted.{Contains-permutation, IsPermutation-sym}
 use Rattle.std.proofs.lemmas.Map.Views.{Contains-from_any, list_any-from_Contains}
 use Rattle.std.specs.Bool.{Decides}
 use Rattle.std.specs.Cmp.{nat_eq_equiv}
@@ -19,10 +22,11 @@ use Rattle.land_rules.specs.Denials.Sight.{sees_all}
 use Rattle.land_rules.specs.Laws.{IsSoundOrNothing, SeenListsAreExact, citizen}
 use Rattle.land_rules.specs.Rules.{seen_of}
 use Rattle.land_select_queries.proofs.Ascending.{ascend, same_list}
-use Rattle.land_select_queries.proofs.Containing.{any_decides}
+use Rattle.land_select_queries.proofs.Containing.{any_decides, first, in_nothing}
 use Rattle.land_select_queries.proofs.Seeing.{ascending}
 use Rattle.land_select_queries.proofs.United.{given_by, given_to}
 use Rattle.land_select_queries.specs.Joins.Execution.{AnySelectsFor, AreAll}
+use Rattle.land_select_queries.specs.Joins.Sight.{HoldsNoMandate}
 use Rattle.land_select_queries.specs.Sights.{AnySelects, selections_of}
 use Rattle.land_select_queries.specs.Sights.Laws.{SelectionsAreTheRules}
 use Rattle.land_select_queries.specs.declared.sights.selection.Selection.{Selection}
@@ -61,6 +65,36 @@ module _ (rules : SelectionsAreTheRules) (seen : SeenListsAreExact) (together : 
       back number among =
           let it = (circle_decides number).0 (sym (together r party k number).listed ∙ list_any-from_Contains nat_eq_equiv number _ among) in
           (all number).1 (given_by given t h number callers it.0 ((are it.0).1 it.1) it.2)
+
+or_false : (b : Bool) → (b || false) ≡ b
+or_false true = refl
+or_false false = refl
+
+-- a list of length 0 is empty
+pub none_in : (xs : List ℕ) → (length xs == 0) ≡ true → xs ≡ []
+none_in xs h = nil_from_length xs ((Decides-eqb (length xs) 0).0 h)
+
+-- a list with the members of an empty one is empty
+pub none_permuted : (xs ys : List ℕ) → IsPermutation xs ys → xs ≡ [] → ys ≡ []
+none_permuted xs [] are none = refl
+none_permuted xs (y ∷ ys) are none = absurd (in_nothing y (subst (λ l. Contains l y) none (Contains-permutation (y ∷ ys) xs y (IsPermutation-sym xs (y ∷ ys) are) (first y ys))))
+
+-- a citizen that holds no mandate sees the same without mandates
+pub seen_alone : SeenListsAreExact → CirclesSeeTogether → (r : Register) (party : ℕ) (k : Kind) → HoldsNoMandate r party → seen_of (without_mandates r) (citizen party) k ≡ seen_of r (citizen party) k
+seen_alone seen together r party k none =
+    same_list _ _ (ascending _ (seen (without_mandates r) (citizen party) k).ascending) (ascending _ (seen r (citizen party) k).ascending) (λ number. (forth number, back number))
+  where
+    same : (number : ℕ) → list_any (nat_eq number) (seen_of r (citizen party) k) ≡ list_any (nat_eq number) (seen_of (without_mandates r) (citizen party) k)
+    same number =
+        (together r party k number).listed
+        ∙ ap (λ others. list_any (λ p. list_any (nat_eq number) (seen_of (without_mandates r) (citizen p) k)) (party ∷ others)) none
+        ∙ or_false (list_any (nat_eq number) (seen_of (without_mandates r) (citizen party) k))
+
+    forth : (number : ℕ) → Contains (seen_of (without_mandates r) (citizen party) k) number → Contains (seen_of r (citizen party) k) number
+    forth number among = Contains-from_any eqb-true number _ (same number ∙ list_any-from_Contains nat_eq_equiv number _ among)
+
+    back : (number : ℕ) → Contains (seen_of r (citizen party) k) number → Contains (seen_of (without_mandates r) (citizen party) k) number
+    back number among = Contains-from_any eqb-true number _ (sym (same number) ∙ list_any-from_Contains nat_eq_equiv number _ among)
 
 -- a caller in the role of a citizen is a citizen
 pub citizen_is : (party : ℕ) (role : Role) → is_role role Citizen ≡ true → ◌≡◌ {A = Caller} (citizen party) (record { party = party; role = role })

@@ -14,6 +14,7 @@ ghost use Rattle.land_tables_validity.specs.NumbersInUse.{is_used, is_rank_in_ra
 ghost use Rattle.land_tables_validity.specs.NumbersInUse.{passes_since};
 
 use crate::moments::in_order;
+use land_core::limits::LAST_NEXT;
 use land_core::rrr::RrrRecord;
 use land_tables_history::history::History;
 use land_tables_history::moment::Moment;
@@ -56,7 +57,7 @@ fn are_numbers_left(moments: &[Moment]) -> bool
     ensures { result ≡ are_numbers_left moments.now }
 {
     for moment in moments {
-        if 1_000_000_001 < moment.next {
+        if LAST_NEXT < moment.next {
             return false;
         }
     }

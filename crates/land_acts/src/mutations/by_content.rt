@@ -5,11 +5,12 @@ ghost use Rattle.land_acts.specs.Mutations.ByContent.{content_refusals};
 ghost use Rattle.land_acts.specs.Mutations.ByContent.{has_room};
 ghost use Rattle.land_acts.specs.Mutations.Planning.{first_refusal_of};
 
-use crate::mutations::planning::{NUMBERS_END, Slice, numbers_from};
+use crate::mutations::planning::{Slice, numbers_from};
 use crate::mutations::refusal::Refusal;
 use crate::mutations::{discharge, merge, mortgage, subdivide, transfer};
 use land_core::change::Change;
 use land_core::content::Content;
+use land_core::limits::LAST_NEXT;
 use land_core::sequence::{NumberList, Sequence};
 use std::alloc::{AllocError, Global};
 
@@ -79,7 +80,7 @@ pub fn made(alloc: Global, slice: &Slice, content: &Content) -> Result<NumberLis
 pub fn has_room(slice: &Slice, content: &Content) -> bool
     ensures { result ≡ has_room slice.now content.now }
 {
-    slice.next <= NUMBERS_END
+    slice.next <= LAST_NEXT
         && match content {
             Content::Mortgage(it) => mortgage::greatest_rank(slice, it.unit) < 1_000_000_000,
             _ => true,

@@ -8,14 +8,12 @@ ghost use Rattle.land_acts.specs.Mutations.Planning.{would_exceed_entries};
 use land_core::change::Done;
 use land_core::contents::rrr_count;
 use land_core::duplicate::Duplicate;
+use land_core::limits::LAST_NEXT;
 use land_core::register::Register;
 use land_core::sequence::{NumberList, Sequence};
 use land_core::source::{SourceKind, SourceRecord};
 use land_core::text::Text;
 use std::alloc::{AllocError, Global};
-
-/// Objects have numbers below this one.
-pub(crate) const NUMBERS_END: u64 = 1_000_000_001;
 
 /// The records of a register that planning an act may read.
 pub type Slice = Register;
@@ -24,7 +22,7 @@ pub type Slice = Register;
 pub fn runs_out_of_numbers(slice: &Slice, count: u128) -> bool
     ensures { result ≡ runs_out_of_numbers slice.now count }
 {
-    u128::from(NUMBERS_END) < u128::from(slice.next).saturating_add(count)
+    u128::from(LAST_NEXT) < u128::from(slice.next).saturating_add(count)
 }
 
 /// Returns whether a unit would have more than 256 entries with one more.

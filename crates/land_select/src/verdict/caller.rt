@@ -65,8 +65,8 @@ fn read_caller_and_roles<S: Alter>(
     Ok((there, roles))
 }
 
-/// Reads if a caller exists at a time, and roles that decide if it holds the one that it claims. Nothing is read
-/// for a caller that is known to hold it.
+/// Reads if a caller exists at a time, and roles that decide if it holds the one that it claims. Nothing is
+/// read for a caller that is known to hold it.
 fn caller_and_roles<S: Alter>(
     alloc: Global,
     conn: &mut Connection<S>,
@@ -198,8 +198,8 @@ fn is_read(ask: &Ask) -> bool
     }
 }
 
-/// Returns the verdict of the standing rules on a request that only reads, of a caller that holds the role that
-/// it claims.
+/// Returns the verdict of the standing rules on a request that only reads, of a caller that holds the role
+/// that it claims.
 fn holder_verdict(caller: Caller, past: bool) -> Verdict
     ensures { result ≡ holder_verdict caller past }
 {

@@ -7,7 +7,7 @@ ghost use Rattle.land_tables_schema.specs.Connections.{HasRegisterTables, Leaves
 use crate::joins::running::known_or_zero;
 use crate::lookups::record_rows::read;
 use crate::lookups::texts;
-use crate::lookups::within::BEYOND;
+use land_core::limits::LAST_NEXT;
 use land_core::party::PartyRecord;
 use land_core::sequence::Sequence;
 use land_tables_history::version::Version;
@@ -62,9 +62,9 @@ fn rows_within<S: Alter>(
     conn.query_all(
         texts::PARTIES_OF_ENTRIES,
         &[
-            of_number(first.min(BEYOND)),
+            of_number(first.min(LAST_NEXT)),
             of_moment(at),
-            of_number(last.min(BEYOND)),
+            of_number(last.min(LAST_NEXT)),
         ],
     )
 }

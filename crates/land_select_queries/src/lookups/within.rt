@@ -14,6 +14,7 @@ use crate::lookups::record_rows::read;
 use crate::lookups::texts;
 use land_core::duplicate::Duplicate;
 use land_core::kind::Kind;
+use land_core::limits::LAST_NEXT;
 use land_core::records::Records;
 use land_core::sequence::Sequence;
 use land_tables_history::part::part_at;
@@ -23,9 +24,6 @@ use land_tables_rows::reading::from_row::FromRow;
 use land_tables_schema::rows::cells::{of_moment, of_number};
 use sqlite::{Alter, Connection, Error, Row};
 use std::alloc::Global;
-
-/// A number above the number of each object.
-pub(crate) const BEYOND: u64 = 1_000_000_001;
 
 /// Returns the SQL statement that selects a range of a kind. Parameter 1 is its first number, parameter 3 its
 /// last number, and parameter 2 the time in Unix milliseconds.
@@ -59,9 +57,9 @@ fn rows_of<S: Alter>(
     conn.query_all(
         text_within(kind),
         &[
-            of_number(first.min(BEYOND)),
+            of_number(first.min(LAST_NEXT)),
             of_moment(at),
-            of_number(last.min(BEYOND)),
+            of_number(last.min(LAST_NEXT)),
         ],
     )
 }

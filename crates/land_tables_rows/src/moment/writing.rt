@@ -6,6 +6,7 @@ ghost use Rattle.land_tables_rows.specs.Reading.Cells.{is_next};
 ghost use Rattle.land_tables_rows.specs.Writing.Holding.{IsMoment};
 ghost use Rattle.land_tables_schema.specs.Connections.{HasRegisterTables, SameReference};
 
+use land_core::limits::LAST_NEXT;
 use land_tables_schema::rows::tables as rows;
 use sqlite::{Alter, Error, Transaction};
 
@@ -13,7 +14,7 @@ use sqlite::{Alter, Error, Transaction};
 pub fn fits(next: u64) -> bool
     ensures { result ≡ is_next next }
 {
-    2 <= next && next <= 1_000_000_001
+    2 <= next && next <= LAST_NEXT
 }
 
 /// Inserts a moment at which the register changed, with the number that the next new object takes after that.

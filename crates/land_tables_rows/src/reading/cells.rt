@@ -9,9 +9,10 @@ ghost use Rattle.sqlite_value.specs.Order.{column};
 ghost use Rattle.sqlite_value.specs.Value.{owned};
 
 use land_core::content::is_amount;
-use land_core::limits::{LAST_MOMENT, is_number};
+use land_core::limits::{LAST_MOMENT, LAST_NEXT, is_number};
 use land_core::text::Text;
 use land_fraction::Fraction;
+use land_tables_history::version::NEVER;
 use land_wire_json::bodies::content::currency_of;
 use land_wire_json::bodies::fields::{label_of, name_of};
 use land_wire_json::bodies::wire_fault::WireFault;
@@ -100,7 +101,7 @@ pub fn next_at(row: &Row, at: usize) -> Result<u64, WireFault>
     ensures { result ≡ next_in (column row.now at) }
 {
     let next = natural_at(row, at)?;
-    if 2 <= next && next <= 1_000_000_001 {
+    if 2 <= next && next <= LAST_NEXT {
         Ok(next)
     } else {
         Err(WireFault::Number)
@@ -154,7 +155,7 @@ pub fn end_at(row: &Row, at: usize) -> Result<i64, WireFault>
     ensures { result ≡ end_in (column row.now at) }
 {
     let end = integer_at(row, at)?;
-    if 0 <= end && end <= 4_102_444_800_000 {
+    if 0 <= end && end <= NEVER {
         Ok(end)
     } else {
         Err(WireFault::Number)

@@ -13,5 +13,5 @@ invariant_of-self g c live =
     let was_live : IsHonestAndOpen (IsHonest g.S.Store old) old.is_closed = (c.write.ensures.was live.0, was_open old.is_closed c.write.new.self.is_closed c.write.result c.write.ensures.closes live.1) in (
       subst (IsCacheOf (held g.S.Store c.write.new.self)) (sym c.forget.ensures) tt,
       known_when_written c.write.result (held g.S.Store old) (held g.S.Store c.write.new.self) c.args.change.now _ _ (c.write.ensures.ok live) (c.write.ensures.err live)
-          (c.forget_ended_roles.ensures (last_register (held g.S.Store old)) (c.self.invariant was_live).1),
+          (c.forget_outdated.ensures (last_register (held g.S.Store old)) (c.self.invariant was_live).1),
     )
