@@ -1,11 +1,12 @@
 //! The act `register`: a unit is added with its first parcels and rights.
 ghost use Rattle.std.specs.Prelude.{◌≡◌, ◌≤◌, ◌+◌, true, length, map as map_list, IfOk};
 ghost use Rattle.land_acts.specs.Mutations.Numbering.{with_numbers_from, numbers_from};
-ghost use Rattle.land_acts.specs.Mutations.Planning.{IsPlanOf, first_refusal_of, numbers_end};
+ghost use Rattle.land_acts.specs.Mutations.Planning.{IsPlanOf, first_refusal_of};
 ghost use Rattle.land_acts.specs.Registering.{new_count, new_parcel_record, register_refusals};
 ghost use Rattle.land_acts.specs.Registering.{register_change};
 ghost use Rattle.land_acts.specs.Registering.{register_done, new_right_record};
 ghost use Rattle.land_core.specs.Acts.{is_new_unit};
+ghost use Rattle.land_core.specs.Numbers.{last_next};
 
 use crate::first_rights::{
     are_types_too_fine, are_types_whole, has_right_twice, lists_absent_party,
@@ -70,7 +71,7 @@ pub(crate) fn plan_of(
     stamp: i64,
 ) -> Result<(Change, Done), AllocError>
     requires formed { is_new_unit it.now ≡ true }
-    requires room { slice.now.next + new_count it.now ≤ numbers_end }
+    requires room { slice.now.next + new_count it.now ≤ last_next }
     ensures { IfOk result (IsPlanOf (register_change slice.now it.now)
         (register_done slice.now it.now stamp)) }
 {
@@ -110,7 +111,7 @@ fn numbered_parcels(
     source: u64,
     first: u64,
 ) -> Result<Sequence<(u64, ParcelRecord)>, AllocError>
-    requires { first + length parcels.now ≤ numbers_end }
+    requires { first + length parcels.now ≤ last_next }
     ensures { IfOk result
         (λ it. it ≡ with_numbers_from first (map_list (new_parcel_record unit source) parcels.now)) }
 {
@@ -137,7 +138,7 @@ fn numbered_rights(
     source: u64,
     first: u64,
 ) -> Result<Sequence<(u64, RrrRecord)>, AllocError>
-    requires { first + length rights.now ≤ numbers_end }
+    requires { first + length rights.now ≤ last_next }
     ensures { IfOk result
         (λ it. it ≡ with_numbers_from first (map_list (new_right_record unit source) rights.now)) }
 {

@@ -19,11 +19,11 @@ use Rattle.land_commands.specs.declared.fixed_clock.FixedClock.{FixedClock}
 use Rattle.land_commands.specs.declared.words.command.Command.{Command}
 use Rattle.land_commands.specs.declared.words.words_fault.WordsFault.{WordsFault}
 use Rattle.land_commands.specs.declared.words.words_fault.WordsFault.TheVariants as words
+use Rattle.land_core.specs.Numbers.{last_moment}
 use Rattle.land_desk.specs.Serving.{ServesByRun}
 use Rattle.land_desk.specs.declared.serve.DeskFault.{DeskFault}
 use Rattle.land_desk.specs.declared.serve.Served.{Served}
 use Rattle.land_keep.specs.Machine as machine
-use Rattle.land_keep.specs.Moments.{last_moment}
 use Rattle.land_keep.specs.Timeline.{new_timeline}
 use Rattle.land_pool.specs.Endings.{Ending}
 use Rattle.sqlite.specs.Held.{Held}

@@ -1,8 +1,8 @@
 //! The command `digest`: prints the digest of the history of a register.
 ghost use Rattle.std.specs.Prelude.{◌≡◌, string_bytes, unwrap_or, IfOk};
 ghost use Rattle.land_commands.specs.Digesting.{DigestsRegister, OpensContents, contents_text};
+ghost use Rattle.land_core.specs.Numbers.{last_moment};
 ghost use Rattle.land_digest.specs.Laws.{HasIntervals};
-ghost use Rattle.land_keep.specs.Moments.{last_moment};
 
 use crate::host::Host;
 use crate::program_fault::ProgramFault;

@@ -2,13 +2,13 @@
 use Rattle.std.proofs.Common.{◌≡◌, Bool, false, refl, sym, ap, ◌∙◌, subst, inl, inr, Option, Some, None, Result, Err}
 use Rattle.std.specs.Prelude.{ℤ, ◌⊎◌, MatchOption}
 use Rattle.std.proofs.lemmas.Bool.{false≢true}
+use Rattle.land_core.specs.Numbers.{IsMoment}
 use Rattle.land_core.specs.declared.ask.Request.{Request}
 use Rattle.land_desk.specs.Responses.{HasValidMoment}
 use Rattle.land_desk.specs.Serving.{ForwardSimulation, StepIfHonest, HandlesOr501}
 use Rattle.land_keep.proofs.Steps.{finished_element}
 use Rattle.land_keep.specs.Keeping.{IsStateOf, CommitsStep, SheetHasRequestedMoment, ReportsClosing, apply_pending}
 use Rattle.land_keep.specs.Machine.{StepOrFault, State, at_of}
-use Rattle.land_keep.specs.Moments.{IsMoment}
 use Rattle.land_keep.specs.Timeline.{Timeline}
 use Rattle.land_keep.specs.declared.prepared.Prepared.{Prepared}
 use Rattle.land_keep.specs.declared.reply.Reply.{Reply}

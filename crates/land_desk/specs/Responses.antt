@@ -1,11 +1,11 @@
 -- HTTP responses, as bytes (RFC 9112, sections 4 and 5).
 use Rattle.std.specs.Prelude.{◌≡◌, ℕ, Bool, List, [], ◌++◌, length, codes, decimal, Some, ◌⊎◌, if◌then◌else◌}
+use Rattle.land_core.specs.Numbers.{IsMoment}
 use Rattle.land_desk.specs.declared.response.Medium.{Medium}
 use Rattle.land_desk.specs.declared.response.Medium.TheVariants.{Json, Sheet}
 use Rattle.land_desk.specs.declared.response.Status.{Status}
 use Rattle.land_desk.specs.declared.response.Status.TheVariants.{Ok, BadRequest, Forbidden, Conflict}
 use Rattle.land_desk.specs.declared.response.Status.TheVariants.{Unavailable}
-use Rattle.land_keep.specs.Moments.{IsMoment}
 use Rattle.land_keep.specs.declared.reply.Reply.{Reply}
 use Rattle.land_keep.specs.declared.reply.Reply.TheVariants as reply
 use Rattle.land_keep.specs.declared.view.View.{View}

@@ -10,6 +10,7 @@ use Rattle.land_acts.specs.declared.mutations.refusal.Planned.{Planned}
 use Rattle.land_acts.specs.declared.mutations.refusal.Planned.TheVariants.{New, Repeat}
 use Rattle.land_acts.specs.declared.mutations.refusal.Refusal.{Refusal}
 use Rattle.land_core.specs.Acts.{is_well_formed}
+use Rattle.land_core.specs.Numbers.{IsMoment, last_moment}
 use Rattle.land_core.specs.Register.{holds, stands}
 use Rattle.land_core.specs.declared.act.Act.{Act}
 use Rattle.land_core.specs.declared.ask.Ask.{Ask}
@@ -20,7 +21,7 @@ use Rattle.land_core.specs.declared.kind.Kind.TheVariants as kind
 use Rattle.land_keep.specs.Faults.{number_of}
 use Rattle.land_keep.specs.Keeping.{CanWrite, Closes, AnswersByStep, CommitsStep, Commits, RunsToState, SheetHasRequestedMoment, SheetHasMoment, ReportsClosing, apply_pending, prepared_of}
 use Rattle.land_keep.specs.Machine.{Run, State, StepOrFault, Next, step, next_if_allowed, outcome_next, verdict_at, at_of, moment_of, now_of, stamp_of}
-use Rattle.land_keep.specs.Moments.{IsMoment, last_moment, now_after, stamp_after}
+use Rattle.land_keep.specs.Moments.{now_after, stamp_after}
 use Rattle.land_keep.specs.Timeline.{Timeline, last_stamp, last_register, register_at}
 use Rattle.land_keep.specs.declared.prepared.Prepared.{Prepared}
 use Rattle.land_keep.specs.declared.prepared.Writing.{Writing}

@@ -6,11 +6,11 @@ use Rattle.land_acts.specs.Mutations.Planning.{number_of}
 use Rattle.land_acts.specs.declared.mutations.refusal.Planned.{Planned}
 use Rattle.land_acts.specs.declared.mutations.refusal.Planned.TheVariants.{New, Repeat}
 use Rattle.land_acts.specs.declared.mutations.refusal.Refusal.{Refusal}
+use Rattle.land_core.specs.Numbers.{IsMoment, last_moment}
 use Rattle.land_core.specs.declared.ask.Ask.{Ask}
 use Rattle.land_core.specs.declared.ask.Request.{Request}
 use Rattle.land_core.specs.declared.change.Change.{Change}
 use Rattle.land_keep.specs.Machine.{StepOrFault, Next, Run, State, at_of, step, written}
-use Rattle.land_keep.specs.Moments.{IsMoment, last_moment}
 use Rattle.land_keep.specs.Timeline.{Timeline, last_stamp, last_register}
 use Rattle.land_keep.specs.declared.prepared.Prepared.{Prepared}
 use Rattle.land_keep.specs.declared.prepared.Writing.{Writing}

@@ -1,13 +1,7 @@
 -- Moments, in Unix milliseconds: now from a reading of the clock, and the stamps of changes.
-use Rattle.std.specs.Prelude.{◌||◌, Option, Some, None, ℤ, pos, ◌+ℤ◌, ◌≤ℤ◌, int_lt, if◌then◌else◌}
+use Rattle.std.specs.Prelude.{◌||◌, Option, Some, None, ℤ, pos, ◌+ℤ◌, int_lt, if◌then◌else◌}
 use Rattle.std.specs.Int.{int_min, int_max}
-
--- the last moment: the end of the year 2099 UTC, in Unix milliseconds
-abbrev pub last_moment : ℤ
-last_moment = pos 4102444799999
-
-abbrev pub IsMoment : ℤ → Type 0
-IsMoment t = (pos 0 ≤ℤ t) × (t ≤ℤ last_moment)
+use Rattle.land_core.specs.Numbers.{last_moment}
 
 -- a reading below 0 counts as 0
 abbrev pub reading_of : ℤ → ℤ

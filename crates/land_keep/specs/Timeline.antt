@@ -3,10 +3,10 @@ use Rattle.std.specs.Prelude.{◌≤◌, List, [], ◌∷◌, Option, Some, None
 use Rattle.std.specs.Prelude.{if◌then◌else◌}
 use Rattle.std.specs.Option.{option_map}
 use Rattle.std.specs.List.{AllByRecursion}
+use Rattle.land_core.specs.Numbers.{IsMoment}
 use Rattle.land_core.specs.Register.{nothing, new_register}
 use Rattle.land_core.specs.Soundness.{IsSound}
 use Rattle.land_core.specs.declared.register.Register.{Register}
-use Rattle.land_keep.specs.Moments.{IsMoment}
 use Rattle.land_keep.specs.declared.timeline.Version.{Version}
 
 abbrev pub Timeline : Type 0

@@ -1,10 +1,10 @@
 //! Keepers of the register through time.
 ghost use Rattle.std.specs.Prelude.{◌≡◌, ◌≤ℤ◌, Bool, IfOk, IfSome, OnOk, OnErr};
 ghost use Rattle.land_acts.specs.Slices.{needed_slice_of, slice_of};
+ghost use Rattle.land_core.specs.Numbers.{last_moment};
 ghost use Rattle.land_core.specs.Register.{object_at};
 ghost use Rattle.land_keep.specs.Keeping.{Closes, CanWrite, IsHonestAndOpen};
 ghost use Rattle.land_keep.specs.Machine.{verdict_at, moment_of, written};
-ghost use Rattle.land_keep.specs.Moments.{last_moment};
 ghost use Rattle.land_keep.specs.Named.{objects_at};
 ghost use Rattle.land_keep.specs.Sheets.{view_at};
 ghost use Rattle.land_keep.specs.Timeline.{Timeline, IsSoundTimeline, last_stamp, last_register, register_at};

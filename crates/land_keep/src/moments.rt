@@ -1,7 +1,8 @@
 //! Now, and the stamp of a change.
 ghost use Rattle.std.specs.Prelude.{◌≡◌, ◌≤ℤ◌};
+ghost use Rattle.land_core.specs.Numbers.{last_moment};
 ghost use Rattle.land_keep.specs.Machine.{at_of};
-ghost use Rattle.land_keep.specs.Moments.{last_moment, now_after, stamp_after};
+ghost use Rattle.land_keep.specs.Moments.{now_after, stamp_after};
 
 use land_core::ask::Ask;
 use land_core::limits::LAST_MOMENT;

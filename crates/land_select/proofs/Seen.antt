@@ -3,6 +3,7 @@ use Rattle.std.proofs.Common.{◌≡◌, ◌∙◌, ap, refl, sym, Bool, true, f
 use Rattle.std.proofs.lemmas.Int.{ints}
 use Rattle.std.specs.Prelude.{ℤ, int_lt}
 use Rattle.land_core.specs.Laws.{SoundnessByNumber}
+use Rattle.land_core.specs.Numbers.{IsMoment, last_moment}
 use Rattle.land_core.specs.declared.act.Act.{Act}
 use Rattle.land_core.specs.declared.ask.Ask.{Ask}
 use Rattle.land_core.specs.declared.caller.Caller.{Caller}
@@ -11,7 +12,6 @@ use Rattle.land_core.specs.declared.register.Register.{Register}
 use Rattle.land_keep.proofs.Timelines.{last_is_moment, sound_or_nothing}
 use Rattle.land_keep.specs.Keeping.{Closes}
 use Rattle.land_keep.specs.Machine.{moment_of, verdict_at}
-use Rattle.land_keep.specs.Moments.{IsMoment, last_moment}
 use Rattle.land_keep.specs.Timeline.{last_register, register_at}
 use Rattle.land_keep.specs.declared.store_fault.StoreFault.{StoreFault}
 use Rattle.land_rules.specs.Rules.{seen_of, verdict_of}

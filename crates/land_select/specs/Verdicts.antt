@@ -6,6 +6,7 @@ use Rattle.std.specs.Prelude.{◌≡◌, ◌&&◌, ℕ, ℤ, Bool, true, false, 
 use Rattle.std.specs.Prelude.{option_and_then, if◌then◌else◌}
 use Rattle.land_core.specs.Entries.{entries_where}
 use Rattle.land_core.specs.Grants.{Grants, grant_of, has_grant}
+use Rattle.land_core.specs.Numbers.{last_moment}
 use Rattle.land_core.specs.Register.{holds, stands}
 use Rattle.land_core.specs.declared.ask.Ask.{Ask}
 use Rattle.land_core.specs.declared.ask.Ask.TheVariants as ask
@@ -14,7 +15,6 @@ use Rattle.land_core.specs.declared.kind.Kind.TheVariants as kind
 use Rattle.land_core.specs.declared.kind.PartyKind.TheVariants.{NaturalPerson}
 use Rattle.land_core.specs.declared.party.PartyRecord.{PartyRecord}
 use Rattle.land_core.specs.declared.register.Register.{Register}
-use Rattle.land_keep.specs.Moments.{last_moment}
 use Rattle.land_rules.specs.Denials.Standing.{IsEnough}
 use Rattle.land_rules.specs.Laws.{IsSoundOrNothing}
 use Rattle.land_rules.specs.Rules.{sees_only_present, verdict_of}

@@ -1,6 +1,6 @@
 //! The indexed keeper.
 ghost use Rattle.std.specs.Prelude.{◌≡◌, ◌≤ℤ◌};
-ghost use Rattle.land_keep.specs.Moments.{last_moment};
+ghost use Rattle.land_core.specs.Numbers.{last_moment};
 
 use crate::cache::{Cache, cache_for, forget, keep, take_object, take_unit};
 use crate::known_roles::{

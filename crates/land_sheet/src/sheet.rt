@@ -1,6 +1,6 @@
 //! Writes title sheets line by line.
 ghost use Rattle.std.specs.Prelude.{◌≡◌, IfOk, string_bytes};
-ghost use Rattle.land_keep.specs.Moments.{IsMoment};
+ghost use Rattle.land_core.specs.Numbers.{IsMoment};
 ghost use Rattle.land_sheet.specs.Appending.{AppendsText};
 ghost use Rattle.land_sheet.specs.Dates.{parts_of};
 ghost use Rattle.land_sheet.specs.Sheets.{IsSheet, area_line, checked_line, date_part, end_line, head_lines};

@@ -7,8 +7,8 @@ use Rattle.std.proofs.lemmas.List.Elements.{All-cons, All-nil, All-from_recursio
 use Rattle.std.proofs.lemmas.List.Sorted.{All-permutation, IsPermutation-refl, IsPermutation-sym, length_permutation}
 use Rattle.std.specs.List.{All, AllByRecursion, IsDistinct}
 use Rattle.std.specs.Ordering.{int_eq}
+use Rattle.land_core.specs.Numbers.{IsMoment, last_moment}
 use Rattle.land_core.specs.declared.mandates.Mandate.{Mandate}
-use Rattle.land_keep.specs.Moments.{IsMoment, last_moment}
 use Rattle.land_keep.specs.Timeline.{last_register, last_stamp}
 use Rattle.land_tables.proofs.Tellings.{read_stands, tells, told_reordered}
 use Rattle.land_tables.specs.Adopting.{HoldsNoRegister, IsReadFrom, IsNotOfVersion, IsRefused, IsRegisterTo}

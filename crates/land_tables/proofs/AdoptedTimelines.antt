@@ -11,13 +11,13 @@ use Rattle.std.specs.Ordering.{int_eq, nat_cmp}
 use Rattle.land_core.specs.Entries.{are_distinct}
 use Rattle.land_core.specs.Grants.{grant_cmp, grants_in}
 use Rattle.land_core.specs.Mandates.{mandate_cmp, mandates_in}
+use Rattle.land_core.specs.Numbers.{IsMoment, last_moment}
 use Rattle.land_core.specs.Register.{nothing}
 use Rattle.land_core.specs.Soundness.{IsSound}
 use Rattle.land_core.specs.declared.mandates.Mandate.{Mandate}
 use Rattle.land_core.specs.declared.mutation.MutationRecord.{MutationRecord}
 use Rattle.land_core.specs.declared.register.Register.{Register}
 use Rattle.land_core.specs.declared.roles.Grant.{Grant}
-use Rattle.land_keep.specs.Moments.{IsMoment, last_moment}
 use Rattle.land_keep.specs.Timeline.{IsSoundTimeline, IncreasesFrom, last_stamp}
 use Rattle.land_keep.specs.declared.timeline.Version.{Version as Begun}
 use Rattle.land_tables.proofs.Between.{all_ended, all_later, none_after, none_standing, reached, same_standing}

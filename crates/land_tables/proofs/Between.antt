@@ -6,7 +6,7 @@ use Rattle.std.proofs.lemmas.Int.{ints}
 use Rattle.std.specs.List.{AllByRecursion, list_all}
 use Rattle.std.specs.Ordering.{int_eq}
 use Rattle.std.proofs.lemmas.Cmp.{int_eq_equiv}
-use Rattle.land_keep.specs.Moments.{last_moment}
+use Rattle.land_core.specs.Numbers.{last_moment}
 use Rattle.land_keep.specs.Timeline.{IncreasesFrom, last_from}
 use Rattle.land_keep.specs.declared.timeline.Version.{Version as Begun}
 use Rattle.land_tables.proofs.One.{found_at, none_later}

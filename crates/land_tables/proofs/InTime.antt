@@ -4,7 +4,7 @@ use Rattle.std.specs.Prelude.{ℤ, pos, ◌≤ℤ◌, int_le, int_lt}
 use Rattle.std.proofs.lemmas.Int.{ints}
 use Rattle.std.specs.List.{list_all}
 use Rattle.std.proofs.lemmas.Bool.{and_parts}
-use Rattle.land_keep.specs.Moments.{last_moment}
+use Rattle.land_core.specs.Numbers.{last_moment}
 use Rattle.land_tables_history.specs.Moments.{follows, last, latest_from}
 use Rattle.land_tables_history.specs.declared.moment.Moment.{Moment}
 use Rattle.land_tables_validity.specs.CoverageSpans.{are_in_range}

@@ -11,9 +11,9 @@ use Rattle.std.proofs.lemmas.Cmp.{int_eq_equiv, nat_eq_equiv}
 use Rattle.land_core.proofs.Booleans.{or_true}
 use Rattle.land_core.specs.Entries.{are_distinct}
 use Rattle.land_core.specs.Laws.{SoundnessByNumber}
+use Rattle.land_core.specs.Numbers.{IsMoment}
 use Rattle.land_core.specs.Soundness.{IsSound}
 use Rattle.land_core.specs.declared.register.Register.{Register}
-use Rattle.land_keep.specs.Moments.{IsMoment}
 use Rattle.land_keep.specs.Timeline.{IsIncreasing, IsSoundTimeline, IncreasesFrom, Timeline}
 use Rattle.land_keep.specs.declared.timeline.Version.{Version}
 use Rattle.land_tables.proofs.IntervalOrders.{all_alike}

@@ -4,9 +4,9 @@ use Rattle.std.specs.FinMap as map
 use Rattle.std.specs.Ordering.{nat_cmp}
 use Rattle.std.proofs.lemmas.List.Elements.{All-cons, All-nil}
 use Rattle.land_core.proofs.NewRegister.{new_is_sound}
+use Rattle.land_core.specs.Numbers.{IsMoment}
 use Rattle.land_core.specs.Register.{new_register}
 use Rattle.land_core.specs.declared.mutation.MutationRecord.{MutationRecord}
-use Rattle.land_keep.specs.Moments.{IsMoment}
 use Rattle.land_keep.specs.Timeline.{IsSoundTimeline, new_timeline}
 use Rattle.land_tables.proofs.Tellings.{tells}
 use Rattle.land_tables.proofs.ToldIntervals.{told_intervals}

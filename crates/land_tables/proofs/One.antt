@@ -4,10 +4,10 @@ use Rattle.std.specs.Prelude.{ℤ, ◌≤ℤ◌, int_le, fold, unwrap_or, if◌t
 use Rattle.std.specs.List.{AllByRecursion}
 use Rattle.std.specs.Option.{option_map}
 use Rattle.land_core.specs.Laws.{SoundnessByNumber}
+use Rattle.land_core.specs.Numbers.{IsMoment}
 use Rattle.land_core.specs.Register.{nothing}
 use Rattle.land_core.specs.Soundness.{IsSound}
 use Rattle.land_core.specs.declared.register.Register.{Register}
-use Rattle.land_keep.specs.Moments.{IsMoment}
 use Rattle.land_keep.specs.Timeline.{IsIncreasing, IsSoundTimeline, IncreasesFrom, Timeline, register_at}
 use Rattle.land_keep.specs.declared.timeline.Version.{Version}
 use Rattle.land_tables.proofs.Latest.{last_is_last, next_is}

@@ -2,13 +2,13 @@
 use Rattle.std.proofs.Common.{◌≡◌, ◌≢◌, ◌⊎◌, inl, inr, [], ◌∷◌, Bool, true, false, Result, Ok, Err, ℕ, refl, sym, ap, subst, ◌∙◌, IsTrue, arith}
 use Rattle.std.specs.Prelude.{ℤ, ◌≤ℤ◌}
 use Rattle.std.proofs.lemmas.Int.{ints}
+use Rattle.land_core.specs.Numbers.{last_moment}
 use Rattle.land_core.specs.declared.change.Change.{Change}
 use Rattle.land_core.specs.declared.register.Register.{Register}
 use Rattle.land_keep.proofs.Past.{change_stands}
 use Rattle.land_keep.specs.Keeping.{CanWrite, IsHonestAndOpen}
 use Rattle.land_keep.specs.Laws.{WritingKeepsSound}
 use Rattle.land_keep.specs.Machine.{written}
-use Rattle.land_keep.specs.Moments.{last_moment}
 use Rattle.land_keep.specs.Timeline.{IsSoundTimeline, Timeline, last_register, last_stamp}
 use Rattle.land_keep.specs.declared.store_fault.StoreFault.{StoreFault}
 use Rattle.land_keep.specs.declared.store_fault.StoreFault.TheVariants.{Store}

@@ -5,12 +5,12 @@ use Rattle.std.proofs.lemmas.Int.{by_lt_z, ints}
 use Rattle.std.proofs.lemmas.List.Sorted.{IsPermutation-cons, IsPermutation-to_front, IsPermutation-trans}
 use Rattle.land_acts.proofs.Accepted.{accepted_once}
 use Rattle.land_core.specs.Changes.{after}
+use Rattle.land_core.specs.Numbers.{IsMoment, last_moment}
 use Rattle.land_core.specs.declared.change.Change.{Change}
 use Rattle.land_keep.proofs.Past as past
 use Rattle.land_keep.proofs.Timelines.{last_is_sound}
 use Rattle.land_keep.specs.Keeping.{CanWrite}
 use Rattle.land_keep.specs.Machine.{written}
-use Rattle.land_keep.specs.Moments.{IsMoment, last_moment}
 use Rattle.land_keep.specs.Timeline.{IsSoundTimeline, Timeline, last_register, last_stamp, register_at}
 use Rattle.land_keep.specs.declared.timeline.Version.{Version}
 use Rattle.land_tables.proofs.PutMutations.{accepted_puts}

@@ -1,8 +1,8 @@
 -- The decoded tables of a store, and the tests that they pass.
 use Rattle.std.specs.Prelude.{◌≡◌, ◌<ℤ◌, ◌==◌, ℕ, Bool, true, false, List, [], ◌∷◌, Result, Ok, Err, Some}
 use Rattle.std.specs.Prelude.{None, ⊤}
+use Rattle.land_core.specs.Numbers.{last_moment}
 use Rattle.land_core.specs.declared.mandates.Mandate.{Mandate}
-use Rattle.land_keep.specs.Moments.{last_moment}
 use Rattle.land_tables.specs.declared.fault.AdoptFault.{AdoptFault}
 use Rattle.land_tables.specs.declared.fault.AdoptFault.TheVariants as fault
 use Rattle.land_tables.specs.declared.table_contents.TableContents.{TableContents}

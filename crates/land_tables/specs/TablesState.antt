@@ -1,8 +1,8 @@
 -- The state of `Tables`, which hold a register's timeline, and the effect of calls on it.
 use Rattle.std.specs.Prelude.{◌≡◌, ◌⊎◌, ◌≤ℤ◌, ℕ, ℤ, pos, Bool, true, false, [], ◌∷◌, IsTrue, refl}
 use Rattle.std.specs.Coded.{Coded, code_by, coded×, coded_ℕ, coded_ℤ, coded_bool}
+use Rattle.land_core.specs.Numbers.{last_moment}
 use Rattle.land_keep.specs.Keeping.{IsHonestAndOpen}
-use Rattle.land_keep.specs.Moments.{last_moment}
 use Rattle.land_keep.specs.Timeline.{IsSoundTimeline, Timeline, last_register, last_stamp, new_timeline}
 use Rattle.land_tables.specs.Standing.{HoldsTimeline, decoded_timeline}
 use Rattle.land_tables_history.specs.Intervals.{has_intervals}

@@ -4,7 +4,7 @@ pub mod Laws
 pub mod Writing
 use Rattle.std.specs.Prelude.{◌≡◌, true, ℤ, int_le, List, [], ◌∷◌, map, if◌then◌else◌}
 use Rattle.std.specs.List.Sorted.{IsPermutation}
-use Rattle.land_keep.specs.Moments.{IsMoment}
+use Rattle.land_core.specs.Numbers.{IsMoment}
 use Rattle.land_keep.specs.Timeline.{Timeline, last_stamp, register_at}
 use Rattle.land_keep.specs.declared.timeline.Version.{Version}
 use Rattle.land_tables_history.specs.History as history

@@ -1,11 +1,10 @@
 //! Writes a change of the register and commits it.
 ghost use Rattle.std.specs.Prelude.{◌≡◌, ◌≢◌, ◌&&◌, ◌≤ℤ◌, pos, false, int_le, IsTrue, Err, OnErr, OnOk};
-ghost use Rattle.land_keep.specs.Moments.{last_moment};
+ghost use Rattle.land_core.specs.Numbers.{IsMoment, last_moment};
 ghost use Rattle.land_keep.specs.declared.store_fault.StoreFault.TheVariants as store;
 ghost use Rattle.land_tables.specs.Calls.{IsSafeWrite, MayWriteChange};
 ghost use Rattle.land_tables.specs.TablesState.{HoldsRegister};
 ghost use Rattle.land_tables_rows.specs.Recording.Whole.{WritesChange, fits_change};
-ghost use Rattle.land_tables_rows.specs.Writing.Holding.{IsMoment};
 ghost use Rattle.land_tables_schema.specs.Connections.{HasRegisterTables};
 ghost use Rattle.sqlite.specs.Held.{state};
 ghost use Rattle.sqlite.specs.State.{HasCleanDisk, Survives};

@@ -1,6 +1,6 @@
 //! Migrates a register from schema version 1 to 2.
 ghost use Rattle.std.specs.Prelude.{◌≡◌, ◌≢◌, ◌⊎◌, ◌≤ℤ◌, false, IfErr, IfOk, IsTrue, OnErr, OnOk};
-ghost use Rattle.land_keep.specs.Moments.{last_moment};
+ghost use Rattle.land_core.specs.Numbers.{last_moment};
 ghost use Rattle.land_tables.specs.Calls.{CommitsNothing, IsCommittedIfOpen, IsLeftIfOpen};
 ghost use Rattle.land_tables.specs.Migrating.{IsMigration};
 ghost use Rattle.land_tables.specs.declared.fault.AdoptFault.TheVariants as why;

@@ -1,6 +1,6 @@
 //! Opens a store as a register file.
 ghost use Rattle.std.specs.Prelude.{◌≡◌, ◌≢◌, ◌⊎◌, ◌≤ℤ◌, IfOk};
-ghost use Rattle.land_keep.specs.Moments.{last_moment};
+ghost use Rattle.land_core.specs.Numbers.{last_moment};
 ghost use Rattle.land_tables.specs.Adopting.{AreRegisterContents, IsValidation, IsRefusedBy, IsRegisterTo};
 ghost use Rattle.land_tables.specs.Adopting.{latest_of};
 ghost use Rattle.land_tables.specs.Calls.{CommitsNothing, IsCommittedIfOpen, IsLeftIfOpen, ReadsStore};

@@ -1,6 +1,6 @@
 //! The keeper that reads whole tables: each call reads the register at its moment.
 ghost use Rattle.std.specs.Prelude.{◌≡◌, ◌≤ℤ◌};
-ghost use Rattle.land_keep.specs.Moments.{last_moment};
+ghost use Rattle.land_core.specs.Numbers.{last_moment};
 
 use crate::tables::Tables;
 use land_acts::slice::{Slice, needed_slice_of, slice_of};

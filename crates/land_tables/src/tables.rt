@@ -1,8 +1,8 @@
 //! Tables that hold the register's timeline.
 ghost use Rattle.std.specs.Prelude.{◌≡◌, ◌≢◌, ◌≤ℤ◌, true, false, Err, IfErr, IfOk, IsTrue, OnErr, OnOk};
+ghost use Rattle.land_core.specs.Numbers.{last_moment};
 ghost use Rattle.land_keep.specs.Keeping.{CanWrite, Closes};
 ghost use Rattle.land_keep.specs.Machine.{written};
-ghost use Rattle.land_keep.specs.Moments.{last_moment};
 ghost use Rattle.land_keep.specs.Timeline.{IsSoundTimeline, last_register, last_stamp, new_timeline};
 ghost use Rattle.land_keep.specs.Timeline.{register_at};
 ghost use Rattle.land_keep.specs.declared.store_fault.StoreFault.TheVariants as store;

@@ -1,6 +1,6 @@
 //! Validates the decoded tables.
 ghost use Rattle.std.specs.Prelude.{◌≡◌, ◌≤ℤ◌, true, Some, IfOk};
-ghost use Rattle.land_keep.specs.Moments.{last_moment};
+ghost use Rattle.land_core.specs.Numbers.{last_moment};
 ghost use Rattle.land_tables.specs.TableContents.{IsEditionOf, IsValidated, IsLatest, is_one_edition};
 ghost use Rattle.land_tables.specs.TableContents.{is_version};
 ghost use Rattle.land_tables_history.specs.Intervals.{has_intervals};

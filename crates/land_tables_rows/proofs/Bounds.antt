@@ -1,9 +1,9 @@
 -- Lemmas about successful decoding and about moments.
 use Rattle.std.proofs.Common.{◌≡◌, ◌&&◌, ◌≤ℤ◌, ℤ, pos, Bool, true, false, int_le, if◌then◌else◌, Ok, Err, Result, refl, arith}
 use Rattle.std.proofs.lemmas.Int.{ints}
+use Rattle.land_core.specs.Numbers.{IsMoment}
 use Rattle.land_tables_history.specs.Open.{never}
 use Rattle.land_tables_rows.specs.Reading.Cells.{end_in, moment_in}
-use Rattle.land_tables_rows.specs.Writing.Holding.{IsMoment}
 use Rattle.land_wire_json.specs.Bodies.WireFaults.{◌>>=◌}
 use Rattle.land_wire_json.specs.declared.bodies.wire_fault.WireFault.{WireFault}
 use Rattle.land_wire_json.specs.declared.bodies.wire_fault.WireFault.TheVariants as fault

@@ -5,13 +5,12 @@ use Rattle.std.proofs.lemmas.Int.{ints}
 use Rattle.std.specs.Str.{is_utf8}
 use Rattle.std.proofs.lemmas.Bool.{and_parts}
 use Rattle.land_core.specs.Contents.{is_amount}
-use Rattle.land_core.specs.Numbers.{is_number}
+use Rattle.land_core.specs.Numbers.{IsMoment, is_number, last_moment}
 use Rattle.land_fraction.specs.Answer.{fraction_of}
 use Rattle.land_fraction.specs.Laws.{SameFractionLaw}
 use Rattle.land_fraction.specs.Ratio.{Ratio, IsFraction, over}
 use Rattle.land_tables_history.proofs.MomentOrder.{le_true}
 use Rattle.land_tables_rows.proofs.Stepping.{same_value, stepped}
-use Rattle.land_tables_rows.specs.Cells.Closable.{IsMoment}
 use Rattle.land_tables_rows.specs.Cells.Texts.{is_storable}
 use Rattle.land_tables_rows.specs.Reading.Cells.{allowed, amount_in, end_in, integer_in, moment_in, natural_in, natural_of, null_in, number_in, share_in, text_in, until_most}
 use Rattle.land_tables_schema.specs.Rows.Versions.{never, whole}
@@ -38,23 +37,23 @@ unfolding amount_in natural_in
 amount_is_read n e = rw e refl
 
 -- the last moment, and the open end
-before_the_end : (z : ℤ) → z ≤ℤ pos 4102444799999 → z ≤ℤ pos 4102444800000
+before_the_end : (z : ℤ) → z ≤ℤ last_moment → z ≤ℤ never
 before_the_end z h = omega (arith, ints)
 
-pub between_is_read : (z : ℤ) → int_le (pos 0) z ≡ true → int_le z (pos 4102444799999) ≡ true → moment_in (Int z) ≡ Ok z
+pub between_is_read : (z : ℤ) → int_le (pos 0) z ≡ true → int_le z last_moment ≡ true → moment_in (Int z) ≡ Ok z
 unfolding moment_in
 between_is_read z from to = rw (from, to) refl
 
 pub moment_is_read : (z : ℤ) → IsMoment z → moment_in (Int z) ≡ Ok z
-moment_is_read z h = between_is_read z (le_true (pos 0) z h.first) (le_true z (pos 4102444799999) h.last)
+moment_is_read z h = between_is_read z (le_true (pos 0) z h.0) (le_true z last_moment h.1)
 
-end_is_read : (z : ℤ) → int_le (pos 0) z ≡ true → int_le z (pos 4102444800000) ≡ true → end_in (Int z) ≡ Ok z
+end_is_read : (z : ℤ) → int_le (pos 0) z ≡ true → int_le z never ≡ true → end_in (Int z) ≡ Ok z
 unfolding end_in
 end_is_read z from to = rw (from, to) refl
 
 -- a moment is a valid end of a lifespan
 pub ends : (z : ℤ) → IsMoment z → end_in (Int z) ≡ Ok z
-ends z h = end_is_read z (le_true (pos 0) z h.first) (le_true z (pos 4102444800000) (before_the_end z h.last))
+ends z h = end_is_read z (le_true (pos 0) z h.0) (le_true z never (before_the_end z h.1))
 
 pub never_is_read : end_in (Int never) ≡ Ok never
 unfolding end_in

@@ -1,13 +1,14 @@
 -- Rows whose last two columns are the lifespan: how versions decode when they begin and when they are closed.
 use Rattle.std.proofs.Common.{◌≡◌, ◌&&◌, ℕ, suc, ℤ, [], ◌∷◌, ◌++◌, Bool, true, false, if◌then◌else◌, Ok, Result, refl, sym, ap, ap₂, ◌∙◌}
 use Rattle.std.specs.Ordering.{int_eq}
+use Rattle.land_core.specs.Numbers.{IsMoment}
 use Rattle.land_tables_history.specs.Changed.{opened_version, closed_version}
 use Rattle.land_tables_history.specs.Open.{never}
 use Rattle.land_tables_history.specs.declared.version.Version.{Version}
 use Rattle.land_tables_rows.proofs.Bounds.{bound, end_reads, moment_reads, same_end, same_moment, same_ok, until_says}
 use Rattle.land_tables_rows.proofs.Writes as write
 use Rattle.land_tables_rows.specs.Reading.Cells.{end_in, moment_in}
-use Rattle.land_tables_rows.specs.Writing.Holding.{Begins, Closes, IsMoment, Reading}
+use Rattle.land_tables_rows.specs.Writing.Holding.{Begins, Closes, Reading}
 use Rattle.land_tables_schema.specs.Rows.Forms.{InsertsVersion, Form, UpdatesRows}
 use Rattle.land_tables_schema.specs.Rows.ReadQueries.{columns_from}
 use Rattle.land_tables_schema.specs.Rows.Versions as rows

@@ -6,12 +6,13 @@ use Rattle.std.proofs.lemmas.Int.{ints}
 use Rattle.std.proofs.lemmas.List.{append_assoc, map-append}
 use Rattle.std.proofs.lemmas.List.Sorted.{IsPermutation-map, IsPermutation-append_comm, IsPermutation-append_left, IsPermutation-trans}
 use Rattle.std.proofs.lemmas.List.Sums.{fold-append}
+use Rattle.land_core.specs.Numbers.{IsMoment}
 use Rattle.land_tables_history.proofs.OneByOne.{closed_each}
 use Rattle.land_tables_history.specs.Changed.{opened_version, closed_version}
 use Rattle.land_tables_history.specs.Open.{never}
 use Rattle.land_tables_history.specs.declared.version.Version.{Version}
 use Rattle.land_tables_rows.specs.Recording.{BeginsAll, Changes}
-use Rattle.land_tables_rows.specs.Writing.Holding.{Begins, Closes, IsMoment, Keeps, Reading}
+use Rattle.land_tables_rows.specs.Writing.Holding.{Begins, Closes, Keeps, Reading}
 use Rattle.land_tables_schema.proofs.Steps.{step_fails, step_then, was_clean}
 use Rattle.land_tables_schema.specs.Schemas.{IsSchemaV2}
 use Rattle.land_tables_schema.specs.Rows.Forms.{KeepsOthers}

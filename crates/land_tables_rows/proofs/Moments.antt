@@ -1,11 +1,11 @@
 -- A decoded moment is the one that was written.
 use Rattle.std.proofs.Common.{◌≡◌, [], ◌∷◌, true, Ok, refl, sym}
+use Rattle.land_core.specs.Numbers.{IsMoment}
 use Rattle.land_tables_history.specs.declared.moment.Moment as history
 use Rattle.land_tables_rows.proofs.Bounds.{bound, moment_reads}
 use Rattle.land_tables_rows.proofs.WrittenCells.{cons, moment_cell, next_cell, next_reads}
 use Rattle.land_tables_rows.specs.Moment.Reading.{moment_row_in}
 use Rattle.land_tables_rows.specs.Reading.Cells.{is_next, moment_in, next_in}
-use Rattle.land_tables_rows.specs.Writing.Holding.{IsMoment}
 use Rattle.land_tables_schema.specs.Rows.ReadQueries.{numbered_cells}
 use Rattle.land_tables_schema.specs.Rows.Moments.{Moment, moment_row}
 use Rattle.sqlite_value.specs.Order.{Row, column}

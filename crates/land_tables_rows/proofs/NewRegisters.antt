@@ -4,6 +4,7 @@ use Rattle.std.proofs.lemmas.Int.{ints}
 use Rattle.std.proofs.lemmas.Str.{IsUtf8-from_is_utf8}
 use Rattle.std.specs.Str.{IsUtf8, chars, is_utf8}
 use Rattle.land_core.specs.Grants.{grant_of}
+use Rattle.land_core.specs.Numbers.{IsMoment}
 use Rattle.land_core.specs.declared.kind.PartyKind.TheVariants.{NonNaturalPerson}
 use Rattle.land_core.specs.declared.party.PartyRecord.{PartyRecord}
 use Rattle.land_core.specs.declared.role.Role.TheVariants.{StateAdministrator}
@@ -30,7 +31,6 @@ use Rattle.land_tables_rows.specs.Rrr.Reading.{rrr_in}
 use Rattle.land_tables_rows.specs.Source.Reading.{source_in}
 use Rattle.land_tables_rows.specs.Unit.Reading.{unit_in}
 use Rattle.land_tables_rows.specs.Writing.History.{HoldsHistory}
-use Rattle.land_tables_rows.specs.Writing.Holding.{IsMoment}
 use Rattle.land_tables_rows.specs.Writing.Laws.{NewRowsHoldNewRegister}
 use Rattle.land_tables_rows.specs.Writing.NewHistory.{new_history, new_moments}
 use Rattle.land_tables_schema.specs.Rows.Held.{HoldsRows, new_rows}

@@ -3,7 +3,7 @@ use Rattle.std.proofs.Common.{◌≡◌, ◌&&◌, ◌==◌, ◌^◌, ℕ, ℤ, 
 use Rattle.std.specs.Bool.{⊤}
 use Rattle.std.proofs.lemmas.Bool.{and_parts}
 use Rattle.land_core.specs.Contents.{is_amount, is_currency}
-use Rattle.land_core.specs.Numbers.{is_number}
+use Rattle.land_core.specs.Numbers.{is_number, IsMoment}
 use Rattle.land_core.specs.Texts.{are_words}
 use Rattle.land_core.specs.declared.rrr.Class.{Class}
 use Rattle.land_core.specs.declared.rrr.Class.TheVariants as class
@@ -14,7 +14,7 @@ use Rattle.land_tables_rows.proofs.CellReadings.{amount_is, amount_is_read, end_
 use Rattle.land_tables_rows.proofs.Closings.{IsReadAs, closing}
 use Rattle.land_tables_rows.proofs.Stepping.{same_value, stepped}
 use Rattle.land_tables_rows.proofs.WordReadings.{class_is_read}
-use Rattle.land_tables_rows.specs.Cells.Closable.{IsMoment, is_numbered}
+use Rattle.land_tables_rows.specs.Cells.Closable.{is_numbered}
 use Rattle.land_tables_rows.specs.Cells.Laws.{RrrCellsDecode, RrrsReadBack}
 use Rattle.land_tables_rows.specs.Cells.Texts.{is_storable}
 use Rattle.land_tables_rows.specs.Reading.Cells.{amount_in, currency_in, end_in, moment_in, natural_in, null_in, number_in, share_in, text_in, words_in}

@@ -3,6 +3,7 @@ use Rattle.std.specs.Prelude.{ℕ, ℤ, Bool, true, not, ◌&&◌, nat_lt, List,
 use Rattle.std.specs.Prelude.{if◌then◌else◌}
 use Rattle.std.specs.List.{list_all}
 use Rattle.std.specs.Ordering.{int_eq}
+use Rattle.land_core.specs.Numbers.{last_next}
 use Rattle.land_core.specs.Units.{rank_of}
 use Rattle.land_core.specs.declared.rrr.RrrRecord.{RrrRecord}
 use Rattle.land_tables_history.specs.declared.history.History.{History}
@@ -38,7 +39,7 @@ passes_since test moments v = test v.what (next_since moments v.since)
 
 -- numbers are left at each commit
 abbrev pub are_numbers_left : List Moment → Bool
-are_numbers_left moments = list_all (λ m. not (nat_lt 1000000001 m.next)) moments
+are_numbers_left moments = list_all (λ m. not (nat_lt last_next m.next)) moments
 
 -- numbers are left, and all numbers and ranks are in range when their versions start
 abbrev pub are_all_in_range : List Moment → History → Bool

@@ -4,12 +4,12 @@ use Rattle.std.specs.Prelude.{⊤, ◌≤ℤ◌}
 use Rattle.std.proofs.lemmas.Int.{ints}
 use Rattle.http_header.specs.FieldValue.{FieldValue}
 use Rattle.http_header.specs.HeaderMap.{Entries}
+use Rattle.land_core.specs.Numbers.{IsMoment, last_moment}
 use Rattle.land_core.specs.declared.ask.Ask.{Ask}
 use Rattle.land_core.specs.declared.ask.Ask.TheVariants as ask
 use Rattle.land_core.specs.declared.ask.Request.{Request}
 use Rattle.land_core.specs.declared.caller.Caller.{Caller}
 use Rattle.land_keep.specs.Machine.{at_of}
-use Rattle.land_keep.specs.Moments.{IsMoment, last_moment}
 use Rattle.land_wire.specs.Acts.{act_in}
 use Rattle.land_wire.specs.Fields.{caller_in}
 use Rattle.land_wire.specs.Laws.{BodiesOfReadsAreIgnored, GetsDoNothing, OtherMethodsRequestActs, QueryMomentsAreValid, RequestMomentsAreValid, IsExplicitMoment, requests_act}

@@ -1,7 +1,6 @@
 -- Decimal numbers and moments in header fields and request targets.
 use Rattle.std.specs.Prelude.{ℕ, ℤ, pos, int_lt, List, Result, Ok, Err, if◌then◌else◌}
-use Rattle.land_core.specs.Numbers.{is_number}
-use Rattle.land_keep.specs.Moments.{last_moment}
+use Rattle.land_core.specs.Numbers.{is_number, last_moment}
 use Rattle.land_wire_json.specs.Bodies.Decimals.{digits_in}
 use Rattle.land_wire_json.specs.Bodies.WireFaults.{◌>>=◌, or_fault}
 use Rattle.land_wire_json.specs.declared.bodies.wire_fault.WireFault.{WireFault}

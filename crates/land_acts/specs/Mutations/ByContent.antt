@@ -12,12 +12,12 @@ use Rattle.land_acts.specs.Mutations.Transferring.{new_rights, number_after}
 use Rattle.land_acts.specs.declared.mutations.refusal.Refusal.{Refusal}
 use Rattle.land_acts.specs.declared.mutations.transfer.HeldRight.{HeldRight}
 use Rattle.land_core.specs.Changes.{no_change}
+use Rattle.land_core.specs.Numbers.{last_next}
 use Rattle.land_core.specs.declared.change.Change.{Change}
 use Rattle.land_core.specs.declared.content.Content.{Content}
 use Rattle.land_core.specs.declared.content.Content.TheVariants as content
 use Rattle.land_core.specs.declared.content.Transfer.{Transfer}
 use Rattle.land_core.specs.declared.register.Register.{Register}
-use Rattle.land_acts.specs.Mutations.Planning.{numbers_end}
 
 -- the refusals of a content with their conditions, in ascending order
 abbrev pub content_refusals : Register → Content → Option ℤ → List (Refusal × Bool)
@@ -57,8 +57,8 @@ content_made r (content.Discharge it) = []
 abbrev pub StaysInRange : Register → Content → Type 0
 StaysInRange r (content.Transfer it) =
     (from : HeldRight) → right_at r it.unit it.right ≡ Some from
-    → number_after r (right_of_receiver r it from) ≤ numbers_end
-StaysInRange r (content.Subdivision it) = r.next + subdivision_count r it ≤ numbers_end
+    → number_after r (right_of_receiver r it from) ≤ last_next
+StaysInRange r (content.Subdivision it) = r.next + subdivision_count r it ≤ last_next
 StaysInRange r (content.Merger it) = r.next ≤ 1000000000
 StaysInRange r (content.Mortgage it) = (r.next ≤ 1000000000) × (next_rank r it.unit ≤ 1000000000)
 StaysInRange r (content.Discharge it) = Unit

@@ -3,6 +3,7 @@ use Rattle.std.specs.Prelude.{◌≡◌, ℕ, ◌+◌, ℤ, Bool, List, [], ◌�
 use Rattle.std.specs.Prelude.{if◌then◌else◌}
 use Rattle.land_acts.specs.declared.mutations.refusal.Refusal.{Refusal}
 use Rattle.land_acts.specs.declared.mutations.refusal.Refusal.TheVariants as refusal
+use Rattle.land_core.specs.Numbers.{last_next}
 use Rattle.land_core.specs.Units.{rrr_count}
 use Rattle.land_core.specs.declared.change.Change.{Change}
 use Rattle.land_core.specs.declared.change.Done.{Done}
@@ -39,13 +40,9 @@ number_of refusal.NoMemory = 501
 abbrev pub IsPlanOf : Change → Done → Change × Done → Type 0
 IsPlanOf change done plan = (plan.0 ≡ change) × (plan.1 ≡ done)
 
--- objects have numbers below this one
-abbrev pub numbers_end : ℕ
-numbers_end = 1000000001
-
 -- whether `count` new objects would need more numbers
 abbrev pub runs_out_of_numbers : Register → ℕ → Bool
-runs_out_of_numbers r count = nat_lt numbers_end (r.next + count)
+runs_out_of_numbers r count = nat_lt last_next (r.next + count)
 
 -- whether a unit would have more than 256 entries with `more` new ones
 abbrev pub would_exceed_entries : Register → (unit more : ℕ) → Bool

@@ -2,8 +2,8 @@
 ghost use Rattle.std.specs.Prelude.{◌≡◌, ◌≤◌, ◌+◌, IfOk};
 ghost use Rattle.land_acts.specs.Mutations.Numbering.{numbers_from};
 ghost use Rattle.land_acts.specs.Mutations.Planning.{document_source, done_on, runs_out_of_numbers};
-ghost use Rattle.land_acts.specs.Mutations.Planning.{numbers_end};
 ghost use Rattle.land_acts.specs.Mutations.Planning.{would_exceed_entries};
+ghost use Rattle.land_core.specs.Numbers.{last_next};
 
 use land_core::change::Done;
 use land_core::contents::rrr_count;
@@ -34,7 +34,7 @@ pub fn would_exceed_entries(slice: &Slice, unit: u64) -> bool
 
 /// Returns `count` numbers, starting at `first`. The only error is out of memory.
 pub fn numbers_from(alloc: Global, first: u64, count: u64) -> Result<NumberList, AllocError>
-    requires { first + count ≤ numbers_end }
+    requires { first + count ≤ last_next }
     ensures { IfOk result (λ it. it ≡ numbers_from first count) }
 {
     let numbers = (first..first + count).collect::<Vec<u64>>(alloc)?;

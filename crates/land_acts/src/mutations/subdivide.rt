@@ -5,13 +5,14 @@ ghost use Rattle.std.specs.Option.{option_map_or};
 ghost use Rattle.land_acts.specs.Mutations.Areas.{outlines_at};
 ghost use Rattle.land_acts.specs.Mutations.Grounds.{are_same_ground};
 ghost use Rattle.land_acts.specs.Mutations.Numbering.{with_numbers_from};
-ghost use Rattle.land_acts.specs.Mutations.Planning.{first_refusal_of, numbers_end};
+ghost use Rattle.land_acts.specs.Mutations.Planning.{first_refusal_of};
 ghost use Rattle.land_acts.specs.Mutations.Subdividing.{all_parts, copies_made, list_entries_of};
 ghost use Rattle.land_acts.specs.Mutations.Subdividing.{has_parcel_in};
 ghost use Rattle.land_acts.specs.Mutations.Subdividing.{in_unit, origin_of, outlines_of, count_other_parcels};
 ghost use Rattle.land_acts.specs.Mutations.Subdividing.{parcels_made, count_staying, subdivision_change};
 ghost use Rattle.land_acts.specs.Mutations.Subdividing.{subdivision_count, subdivision_refusals, units_made};
 ghost use Rattle.land_acts.specs.Mutations.Subdividing.{would_have_many_parcels};
+ghost use Rattle.land_core.specs.Numbers.{last_next};
 
 use crate::mutations::grounds::{are_same_ground, outlines_at, outlines_of_parts};
 use crate::mutations::planning::{Slice, runs_out_of_numbers};
@@ -135,7 +136,7 @@ pub(crate) fn change(
     source: u64,
     it: &Subdivision,
 ) -> Result<Change, AllocError>
-    requires { slice.now.next + subdivision_count slice.now it.now ≤ numbers_end }
+    requires { slice.now.next + subdivision_count slice.now it.now ≤ last_next }
     ensures { IfOk result (λ change. change ≡ subdivision_change slice.now source it.now) }
 {
     let units = units_made(alloc, slice, it)?;
@@ -156,7 +157,7 @@ fn units_made(
     slice: &Slice,
     it: &Subdivision,
 ) -> Result<Sequence<(u64, UnitRecord)>, AllocError>
-    requires { slice.now.next + subdivision_count slice.now it.now ≤ numbers_end }
+    requires { slice.now.next + subdivision_count slice.now it.now ≤ last_next }
     ensures { IfOk result (λ units. units ≡ units_made (origin_of slice.now 0 it.now) slice.now.next
         (all_parts it.now)) }
 {
@@ -181,7 +182,7 @@ fn parcels_made(
     source: u64,
     it: &Subdivision,
 ) -> Result<Sequence<(u64, ParcelRecord)>, AllocError>
-    requires { slice.now.next + subdivision_count slice.now it.now ≤ numbers_end }
+    requires { slice.now.next + subdivision_count slice.now it.now ≤ last_next }
     ensures { IfOk result (λ parcels. parcels
         ≡ parcels_made (origin_of slice.now source it.now) slice.now.next (all_parts it.now)) }
 {
@@ -226,7 +227,7 @@ fn copies_made(
     slice: &Slice,
     it: &Subdivision,
 ) -> Result<Sequence<(u64, RrrRecord)>, AllocError>
-    requires { slice.now.next + subdivision_count slice.now it.now ≤ numbers_end }
+    requires { slice.now.next + subdivision_count slice.now it.now ≤ last_next }
     ensures { IfOk result (λ copies. copies
         ≡ copies_made (origin_of slice.now 0 it.now) slice.now.next (all_parts it.now)) }
 {
@@ -251,7 +252,7 @@ fn push_copies(
     unit: u64,
     new_unit: u64,
 ) -> Result<(), AllocError>
-    requires { new_unit + 2 + length (list_entries_of slice.now unit) ≤ numbers_end }
+    requires { new_unit + 2 + length (list_entries_of slice.now unit) ≤ last_next }
     ensures { OnOk result (rrrs.new ≡ rrrs.old
         ++ with_numbers_from (new_unit + 2) (map_list (in_unit new_unit) (list_entries_of slice.now unit))) }
 {

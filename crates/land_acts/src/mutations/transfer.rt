@@ -1,7 +1,7 @@
 //! The content `transfer`: a share of a right goes to another party.
 ghost use Rattle.std.specs.Prelude.{◌≡◌, ◌≤◌, ◌++◌, ◌∷◌, [], nat_lt, false, is_none, IfOk, OnOk};
 ghost use Rattle.std.specs.Option.{option_map_or};
-ghost use Rattle.land_acts.specs.Mutations.Planning.{first_refusal_of, numbers_end};
+ghost use Rattle.land_acts.specs.Mutations.Planning.{first_refusal_of};
 ghost use Rattle.land_acts.specs.Mutations.Transferring.{are_too_fine, are_too_fine_after, are_too_many};
 ghost use Rattle.land_acts.specs.Mutations.Transferring.{ended_rights, right_of_receiver, right_at};
 ghost use Rattle.land_acts.specs.Mutations.Transferring.{right_by_party, right_in_unit};
@@ -14,6 +14,7 @@ ghost use Rattle.land_acts.specs.Mutations.Transferring.{remaining_share};
 ghost use Rattle.land_acts.specs.Mutations.Transferring.{transfer_refusals};
 ghost use Rattle.land_acts.specs.declared.mutations.refusal.Refusal.TheVariants.{ClockOut, SameParty};
 ghost use Rattle.land_core.specs.Changes.{after};
+ghost use Rattle.land_core.specs.Numbers.{last_next};
 ghost use Rattle.land_core.specs.Units.{rrr_count, type_shares};
 ghost use Rattle.land_fraction.specs.Wholeness.{common_of};
 
@@ -336,7 +337,7 @@ pub(crate) fn change(
     it: &Transfer,
     from: &HeldRight,
 ) -> Result<Change, AllocError>
-    requires { number_after slice.now (right_of_receiver slice.now it.now from.now) ≤ numbers_end }
+    requires { number_after slice.now (right_of_receiver slice.now it.now from.now) ≤ last_next }
     ensures { IfOk result (λ change. change ≡ move_change slice.now source it.now from.now) }
 {
     let mut change = change_of_entries(alloc, slice, source, it, from)?;

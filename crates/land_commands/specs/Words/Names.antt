@@ -12,9 +12,9 @@ use Rattle.land_commands.specs.declared.words.choices.Choices.{Choices}
 use Rattle.land_commands.specs.declared.words.command.Command.{Command}
 use Rattle.land_commands.specs.declared.words.words_fault.WordsFault.{WordsFault}
 use Rattle.land_commands.specs.declared.words.words_fault.WordsFault.TheVariants.{Refused, NoMemory}
+use Rattle.land_core.specs.Numbers.{last_moment}
 use Rattle.land_core.specs.declared.caller.Caller.{Caller}
 use Rattle.land_core.specs.declared.role.Role.{Role}
-use Rattle.land_keep.specs.Moments.{last_moment}
 
 -- An option found by `clap` has a value that is this number, in the range of the option.
 pub record HasNumber (rows : List Row) (option : Text) (least most number : ℤ) : Type 0 where

@@ -5,7 +5,7 @@ use Rattle.clap.specs.declared.builder.arg.Arg.{Arg}
 use Rattle.clap.specs.declared.builder.value_parser.ValueParser.{ValueParser}
 use Rattle.clap.specs.declared.builder.value_parser.ValueParser.TheVariants as parser
 use Rattle.land_commands.specs.Words.Choices.{Places}
-use Rattle.land_keep.specs.Moments.{last_moment}
+use Rattle.land_core.specs.Numbers.{last_moment}
 
 -- `--NAME VALUE`: an option with one value, which the parser accepts.
 abbrev pub option_rule : (name : Text) → (is_required : Bool) → ValueParser → Rule

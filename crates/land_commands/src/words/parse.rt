@@ -7,7 +7,7 @@ ghost use Rattle.land_commands.specs.Words.Names.{IsNumberOr, IsOptionNumber};
 ghost use Rattle.land_commands.specs.Words.Names.{HasOptionsOf};
 ghost use Rattle.land_commands.specs.Words.Names.{IsReading, IsFaultOfError};
 ghost use Rattle.land_commands.specs.Words.PlainCommands.{order_of};
-ghost use Rattle.land_keep.specs.Moments.{last_moment};
+ghost use Rattle.land_core.specs.Numbers.{last_moment};
 
 use crate::words::choices::all_choices;
 use crate::words::clap_matches::{matches, number_of, subcommand_found, text_of};

@@ -2,7 +2,7 @@
 use Rattle.std.specs.Prelude.{◌≡◌, true, ℤ, List, Some}
 use Rattle.std.specs.List.{All}
 use Rattle.std.specs.List.Sorted.{IsPermutation}
-use Rattle.land_keep.specs.Moments.{IsMoment}
+use Rattle.land_core.specs.Numbers.{IsMoment}
 use Rattle.land_keep.specs.Timeline.{IsSoundTimeline, Timeline, last_register, last_stamp, register_at}
 use Rattle.land_tables.specs.Timelines.{RepresentsTimeline, timeline_of}
 use Rattle.land_tables_history.specs.History as history

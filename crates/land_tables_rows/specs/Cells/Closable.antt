@@ -1,6 +1,7 @@
 -- The decoded value of a row after its current version is closed.
-use Rattle.std.specs.Prelude.{◌≡◌, ◌≤ℤ◌, ℕ, ℤ, pos, ◌&&◌, ◌==◌, Bool, Result, Ok, if◌then◌else◌}
+use Rattle.std.specs.Prelude.{◌≡◌, ℕ, ℤ, ◌&&◌, ◌==◌, Bool, Result, Ok, if◌then◌else◌}
 use Rattle.std.specs.Ordering.{int_eq}
+use Rattle.land_core.specs.Numbers.{IsMoment}
 use Rattle.land_tables_history.specs.declared.version.Version.{Version}
 use Rattle.land_tables_schema.specs.Rows.Forms.{Form}
 use Rattle.land_tables_schema.specs.Rows.ReadQueries.{columns_from}
@@ -8,11 +9,6 @@ use Rattle.land_tables_schema.specs.Rows.Versions as laid
 use Rattle.land_tables_schema.specs.Rows.Versions.{closed_version, never}
 use Rattle.land_wire_json.specs.declared.bodies.wire_fault.WireFault.{WireFault}
 use Rattle.sqlite_value.specs.Order.{Row}
-
--- a moment: Unix time in milliseconds, from 1970 to the end of 2099
-pub record IsMoment (stamp : ℤ) : Type 0 where
-  pub first : pos 0 ≤ℤ stamp
-  pub last : stamp ≤ℤ pos 4102444799999
 
 -- closes a current version at a moment if it matches; every other version is unchanged
 abbrev pub ended : {A : Type 0} → (A → Bool) → ℤ → Version A → Version A

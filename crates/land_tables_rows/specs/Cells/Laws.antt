@@ -1,5 +1,6 @@
 -- Laws of written cells, each over the definitions only.
 use Rattle.std.specs.Prelude.{◌≡◌, ℕ, ℤ, true, Ok}
+use Rattle.land_core.specs.Numbers.{IsMoment}
 use Rattle.land_core.specs.Words.{act_word, party_word, role_word, source_word, state_word}
 use Rattle.land_core.specs.declared.content.Content.{Content}
 use Rattle.land_core.specs.declared.kind.PartyKind.{PartyKind}
@@ -9,7 +10,7 @@ use Rattle.land_core.specs.declared.parcel.ParcelRecord.{ParcelRecord}
 use Rattle.land_core.specs.declared.role.Role.{Role}
 use Rattle.land_core.specs.declared.rrr.RrrRecord.{RrrRecord}
 use Rattle.land_core.specs.declared.source.SourceKind.{SourceKind}
-use Rattle.land_tables_rows.specs.Cells.Closable.{DecodesCells, IsMoment, is_numbered}
+use Rattle.land_tables_rows.specs.Cells.Closable.{DecodesCells, is_numbered}
 use Rattle.land_tables_rows.specs.Mutation.Cells.{IsExactMutation, fits_mutation, mutation_row_of}
 use Rattle.land_tables_rows.specs.Mutation.Reading.{mutation_in}
 use Rattle.land_tables_rows.specs.Parcel.Cells.{IsExactParcel, fits_parcel, parcel_row_of}

@@ -3,7 +3,7 @@ use Rattle.std.specs.Prelude.{ℕ, ℤ, pos, ◌&&◌, Bool, true, int_le, List,
 use Rattle.std.specs.List.{list_all}
 use Rattle.std.specs.Str.{is_utf8}
 use Rattle.land_core.specs.Contents.{is_well_formed_content}
-use Rattle.land_core.specs.Numbers.{is_number}
+use Rattle.land_core.specs.Numbers.{is_number, last_moment}
 use Rattle.land_core.specs.Texts.{is_reference}
 use Rattle.land_core.specs.Words.{act_word, state_word}
 use Rattle.land_core.specs.declared.content.Content.{Content}
@@ -48,7 +48,7 @@ is_content_kept (content.Discharge it) = true
 
 -- a moment: Unix time in milliseconds
 abbrev pub is_moment : ℤ → Bool
-is_moment z = int_le (pos 0) z && int_le z (pos 4102444799999)
+is_moment z = int_le (pos 0) z && int_le z last_moment
 
 -- its numbers, its reference and its content are within their limits, and it was lodged at a moment
 abbrev pub fits_mutation : ℕ × MutationRecord → Bool

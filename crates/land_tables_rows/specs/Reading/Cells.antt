@@ -4,10 +4,11 @@ use Rattle.std.specs.Prelude.{ℕ, ℤ, pos, negsuc, ◌&&◌, ◌==◌, Bool, t
 use Rattle.std.specs.Prelude.{Ok, Err, if◌then◌else◌, ⊤}
 use Rattle.std.specs.Str.{is_utf8}
 use Rattle.land_core.specs.Contents.{is_amount, is_currency}
-use Rattle.land_core.specs.Numbers.{is_number}
+use Rattle.land_core.specs.Numbers.{is_number, last_moment, last_next}
 use Rattle.land_core.specs.Texts.{are_words, is_label, is_name, is_reference, is_title}
 use Rattle.land_fraction.specs.Answer.{fraction_of}
 use Rattle.land_fraction.specs.Ratio.{Ratio, over}
+use Rattle.land_tables_history.specs.Open.{never}
 use Rattle.land_wire_json.specs.Bodies.Fields.{require_text}
 use Rattle.land_wire_json.specs.Bodies.Shares.{share_or_fault}
 use Rattle.land_wire_json.specs.Bodies.WireFaults.{◌>>=◌}
@@ -58,7 +59,7 @@ number_in cell = natural_in cell >>= allowed is_number
 
 -- the number that the next new object takes
 abbrev pub is_next : ℕ → Bool
-is_next n = nat_le 2 n && nat_le n 1000000001
+is_next n = nat_le 2 n && nat_le n last_next
 
 unfoldable pub next_in : Value → Result ℕ WireFault
 next_in cell = natural_in cell >>= allowed is_next
@@ -80,11 +81,11 @@ abbrev pub until_most : ℤ → ℤ → Result ℤ WireFault
 until_most most z = if int_le (pos 0) z && int_le z most then Ok z else Err fault.Number
 
 unfoldable pub moment_in : Value → Result ℤ WireFault
-moment_in cell = integer_in cell >>= until_most (pos 4102444799999)
+moment_in cell = integer_in cell >>= until_most last_moment
 
 -- the end of a lifespan: a moment, or never, one millisecond after the last moment
 unfoldable pub end_in : Value → Result ℤ WireFault
-end_in cell = integer_in cell >>= until_most (pos 4102444800000)
+end_in cell = integer_in cell >>= until_most never
 
 -- ---- shares
 

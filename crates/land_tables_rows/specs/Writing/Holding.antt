@@ -1,5 +1,5 @@
 -- The content of a table of versions, by its decoded rows, and the effect of a statement on it.
-use Rattle.std.specs.Prelude.{◌≡◌, ◌≤ℤ◌, ℕ, ℤ, pos, Bool, List, ◌∷◌, map, Result, Ok, IsPermutation}
+use Rattle.std.specs.Prelude.{◌≡◌, ℕ, ℤ, Bool, List, ◌∷◌, map, Result, Ok, IsPermutation}
 use Rattle.land_tables_history.specs.Changed.{opened_version, closed_version}
 use Rattle.land_tables_history.specs.declared.version.Version.{Version}
 use Rattle.land_tables_schema.specs.Rows.Forms.{AreNumbered, KeepsOthers}
@@ -50,7 +50,3 @@ pub record HoldsOneMore {X : Type 0} (table : Table) (said : Row → Result X Wi
   pub told : (xs : List X) → HoldsNumbered table said old.trees xs
       → HoldsNumbered table said new.trees (x ∷ xs)
   pub kept : KeepsOthers table old.trees new.trees
-
--- a moment: Unix time in milliseconds, from 1970 to the end of 2099
-abbrev pub IsMoment : ℤ → Type 0
-IsMoment t = (pos 0 ≤ℤ t) × (t ≤ℤ pos 4102444799999)

@@ -1,10 +1,11 @@
 //! Loops that begin versions and that close them.
 ghost use Rattle.std.specs.Prelude.{◌≡◌, ◌++◌, IsTrue, map};
 ghost use Rattle.std.specs.List.{list_all, list_any};
+ghost use Rattle.land_core.specs.Numbers.{IsMoment};
 ghost use Rattle.land_tables_history.specs.Written.{existing};
 ghost use Rattle.land_tables_rows.specs.Effects.{Performs};
 ghost use Rattle.land_tables_rows.specs.Recording.{BeginsAll, Changes};
-ghost use Rattle.land_tables_rows.specs.Writing.Holding.{Closes, IsMoment};
+ghost use Rattle.land_tables_rows.specs.Writing.Holding.{Closes};
 ghost use Rattle.land_tables_schema.specs.Connections.{HasRegisterTables, SameReference};
 
 use crate::change_writing::versioned::{Closable, HasKey, Versioned};

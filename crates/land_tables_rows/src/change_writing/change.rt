@@ -1,11 +1,11 @@
 //! Writes a whole change to the register's tables.
 ghost use Rattle.std.specs.Prelude.{◌≡◌, IsTrue};
+ghost use Rattle.land_core.specs.Numbers.{IsMoment};
 ghost use Rattle.land_tables_history.specs.Written.{written_history};
 ghost use Rattle.land_tables_rows.specs.Effects.{Performs};
 ghost use Rattle.land_tables_rows.specs.Recording.Whole.{RewritesTables, WritesChange, fits_change};
 ghost use Rattle.land_tables_rows.specs.Recording.Whole.{fits_units_and_entries};
 ghost use Rattle.land_tables_rows.specs.Recording.Whole.{fits_sources_and_mutations, fits_parties_and_roles};
-ghost use Rattle.land_tables_rows.specs.Writing.Holding.{IsMoment};
 ghost use Rattle.land_tables_schema.specs.Connections.{HasRegisterTables, SameReference};
 
 use crate::change_writing::kinds::{fit_kind, groups_fit};

@@ -2,7 +2,7 @@
 ghost use Rattle.std.specs.FinMap as map;
 ghost use Rattle.std.specs.List.{list_all, list_any};
 ghost use Rattle.std.specs.Prelude.{◌≡◌, ◌++◌, IsTrue, map as map_list};
-ghost use Rattle.land_core.specs.Numbers.{is_number};
+ghost use Rattle.land_core.specs.Numbers.{is_number, IsMoment};
 ghost use Rattle.land_tables_history.specs.Changed.{is_changed, listed_members, named_by, new_mutations};
 ghost use Rattle.land_tables_history.specs.Written.{existing};
 ghost use Rattle.land_tables_rows.specs.Effects.{Performs};
@@ -11,7 +11,6 @@ ghost use Rattle.land_tables_rows.specs.Mutation.Cells.{fits_mutation};
 ghost use Rattle.land_tables_rows.specs.Naming.Writing.{namings};
 ghost use Rattle.land_tables_rows.specs.Recording.{BeginsAll, Changes};
 ghost use Rattle.land_tables_rows.specs.Recording.Whole.{fits_group, fits_kind};
-ghost use Rattle.land_tables_rows.specs.Writing.Holding.{IsMoment};
 ghost use Rattle.land_tables_schema.specs.Connections.{HasRegisterTables, SameReference};
 
 use crate::change_writing::all::{all_fit, all_keys_fit, begin_all, change, close_all, close_put};

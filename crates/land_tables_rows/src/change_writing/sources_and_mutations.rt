@@ -1,9 +1,9 @@
 //! Writes sources and mutations, and the links of new mutations to units.
 ghost use Rattle.std.specs.Prelude.{IsTrue};
+ghost use Rattle.land_core.specs.Numbers.{IsMoment};
 ghost use Rattle.land_tables_rows.specs.Effects.{Performs};
 ghost use Rattle.land_tables_rows.specs.Recording.Whole.{RewritesTables, written_sources_and_mutations};
 ghost use Rattle.land_tables_rows.specs.Recording.Whole.{fits_sources_and_mutations};
-ghost use Rattle.land_tables_rows.specs.Writing.Holding.{IsMoment};
 ghost use Rattle.land_tables_schema.specs.Connections.{HasRegisterTables, SameReference};
 
 use crate::change_writing::kinds::{begin_names, change_kind};

@@ -1,9 +1,9 @@
 //! Writes units, parcels, and the entries of units.
 ghost use Rattle.std.specs.Prelude.{IsTrue};
+ghost use Rattle.land_core.specs.Numbers.{IsMoment};
 ghost use Rattle.land_tables_rows.specs.Effects.{Performs};
 ghost use Rattle.land_tables_rows.specs.Recording.Whole.{RewritesTables, written_units_and_entries};
 ghost use Rattle.land_tables_rows.specs.Recording.Whole.{fits_units_and_entries};
-ghost use Rattle.land_tables_rows.specs.Writing.Holding.{IsMoment};
 ghost use Rattle.land_tables_schema.specs.Connections.{HasRegisterTables, SameReference};
 
 use crate::change_writing::kinds::change_kind;

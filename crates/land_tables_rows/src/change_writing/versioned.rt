@@ -1,7 +1,8 @@
 //! Records that have versions in a table.
 ghost use Rattle.std.specs.Prelude.{◌≡◌, ℕ, Bool, IsTrue};
+ghost use Rattle.land_core.specs.Numbers.{IsMoment};
 ghost use Rattle.land_tables_rows.specs.Effects.{Performs};
-ghost use Rattle.land_tables_rows.specs.Writing.Holding.{Begins, Closes, IsMoment, Reading};
+ghost use Rattle.land_tables_rows.specs.Writing.Holding.{Begins, Closes, Reading};
 ghost use Rattle.land_tables_schema.specs.Connections.{HasRegisterTables, SameReference};
 
 use sqlite::{Alter, Error, Transaction};

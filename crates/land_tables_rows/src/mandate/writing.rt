@@ -1,9 +1,10 @@
 //! Mandates that parties have given.
 ghost use Rattle.std.specs.Prelude.{◌≡◌, ◌<◌, ◌^◌, IsTrue};
+ghost use Rattle.land_core.specs.Numbers.{IsMoment};
 ghost use Rattle.land_tables_history.specs.Intervals.{is_same_mandate};
 ghost use Rattle.land_tables_rows.specs.Effects.{Performs};
 ghost use Rattle.land_tables_rows.specs.Mandate.Writing.{fits_mandate, mandates};
-ghost use Rattle.land_tables_rows.specs.Writing.Holding.{Begins, Closes, IsMoment};
+ghost use Rattle.land_tables_rows.specs.Writing.Holding.{Begins, Closes};
 ghost use Rattle.land_tables_schema.specs.Connections.{HasRegisterTables, SameReference};
 
 use land_core::limits::is_number;

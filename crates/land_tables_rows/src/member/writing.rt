@@ -1,8 +1,9 @@
 //! Members of groups (LA_PartyMember).
 ghost use Rattle.std.specs.Prelude.{◌≡◌, ◌<◌, ◌^◌, IsTrue, nat_eq};
+ghost use Rattle.land_core.specs.Numbers.{IsMoment};
 ghost use Rattle.land_tables_rows.specs.Effects.{Performs};
 ghost use Rattle.land_tables_rows.specs.Member.Writing.{fits_member, members};
-ghost use Rattle.land_tables_rows.specs.Writing.Holding.{Begins, Closes, IsMoment};
+ghost use Rattle.land_tables_rows.specs.Writing.Holding.{Begins, Closes};
 ghost use Rattle.land_tables_schema.specs.Connections.{HasRegisterTables, SameReference};
 
 use land_core::limits::is_number;

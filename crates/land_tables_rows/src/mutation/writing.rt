@@ -1,9 +1,10 @@
 //! Mutations.
 ghost use Rattle.std.specs.Prelude.{◌≡◌, ◌<◌, ◌^◌, IsTrue, nat_eq};
+ghost use Rattle.land_core.specs.Numbers.{IsMoment};
 ghost use Rattle.land_tables_rows.specs.Effects.{Performs};
 ghost use Rattle.land_tables_rows.specs.Mutation.Cells.{fits_mutation};
 ghost use Rattle.land_tables_rows.specs.Mutation.Writing.{mutations};
-ghost use Rattle.land_tables_rows.specs.Writing.Holding.{Begins, Closes, IsMoment};
+ghost use Rattle.land_tables_rows.specs.Writing.Holding.{Begins, Closes};
 ghost use Rattle.land_tables_schema.specs.Connections.{HasRegisterTables, SameReference};
 
 use crate::cells::laws::mutations_read_back;

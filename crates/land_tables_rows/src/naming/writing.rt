@@ -1,8 +1,9 @@
 //! Links of mutations to units. A link is never closed: it exists as long as its mutation.
 ghost use Rattle.std.specs.Prelude.{◌≡◌, IsTrue};
+ghost use Rattle.land_core.specs.Numbers.{IsMoment};
 ghost use Rattle.land_tables_rows.specs.Effects.{Performs};
 ghost use Rattle.land_tables_rows.specs.Naming.Writing.{fits_naming, namings};
-ghost use Rattle.land_tables_rows.specs.Writing.Holding.{Begins, IsMoment};
+ghost use Rattle.land_tables_rows.specs.Writing.Holding.{Begins};
 ghost use Rattle.land_tables_schema.specs.Connections.{HasRegisterTables, SameReference};
 
 use land_core::limits::is_number;

@@ -1,9 +1,10 @@
 //! Parcels (LA_SpatialUnit).
 ghost use Rattle.std.specs.Prelude.{◌≡◌, ◌<◌, ◌^◌, IsTrue, nat_eq};
+ghost use Rattle.land_core.specs.Numbers.{IsMoment};
 ghost use Rattle.land_tables_rows.specs.Effects.{Performs};
 ghost use Rattle.land_tables_rows.specs.Parcel.Cells.{fits_parcel};
 ghost use Rattle.land_tables_rows.specs.Parcel.Writing.{parcels};
-ghost use Rattle.land_tables_rows.specs.Writing.Holding.{Begins, Closes, IsMoment};
+ghost use Rattle.land_tables_rows.specs.Writing.Holding.{Begins, Closes};
 ghost use Rattle.land_tables_schema.specs.Connections.{HasRegisterTables, SameReference};
 
 use crate::cells::laws::parcels_read_back;

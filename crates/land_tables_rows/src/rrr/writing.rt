@@ -1,9 +1,10 @@
 //! The entries of units: rights, restrictions, responsibilities and mortgages (LA_RRR).
 ghost use Rattle.std.specs.Prelude.{◌≡◌, ◌<◌, ◌^◌, IsTrue, nat_eq};
+ghost use Rattle.land_core.specs.Numbers.{IsMoment};
 ghost use Rattle.land_tables_rows.specs.Effects.{Performs};
 ghost use Rattle.land_tables_rows.specs.Rrr.Cells.{fits_rrr};
 ghost use Rattle.land_tables_rows.specs.Rrr.Writing.{rrrs};
-ghost use Rattle.land_tables_rows.specs.Writing.Holding.{Begins, Closes, IsMoment};
+ghost use Rattle.land_tables_rows.specs.Writing.Holding.{Begins, Closes};
 ghost use Rattle.land_tables_schema.specs.Connections.{HasRegisterTables, SameReference};
 
 use crate::cells::laws::rrrs_read_back;

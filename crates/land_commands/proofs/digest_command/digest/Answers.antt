@@ -5,8 +5,8 @@ use Rattle.std.specs.Prelude.{unwrap_or}
 use Rattle.land_commands.proofs.Digests.{digest_unsaid, passed_intervals}
 use Rattle.land_commands.specs.Digesting.{contents_text}
 use Rattle.land_commands.specs.Filed.{IsTruncated}
-use Rattle.land_keep.specs.Moments.{last_moment}
 use Rattle.land_commands.proofs.digest_command.digest.Goals as goal
+use Rattle.land_core.specs.Numbers.{last_moment}
 
 pub digest_line-requires : goal.digest_line-requires
 digest_line-requires g c = passed_intervals c.in_ok-opened.opened.1 c.in_ok-opened.ensures.passes

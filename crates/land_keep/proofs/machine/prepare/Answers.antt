@@ -3,10 +3,11 @@ use Rattle.std.specs.Prelude.{int_lt, unwrap_or, FitsSigned}
 use Rattle.std.specs.Int.{w64}
 use Rattle.std.proofs.lemmas.Int.{to_z-of_z}
 use Rattle.std.proofs.lemmas.Result.{IfOk-weaker}
+use Rattle.land_core.specs.Numbers.{IsMoment}
 use Rattle.land_keep.proofs.Steps.{now_is_moment, opens, role_is_held, shows_asked, step_allowed, step_denied, step_late, without_change_leads}
 use Rattle.land_keep.specs.Keeping.{SheetHasRequestedMoment, SheetHasMoment}
 use Rattle.land_keep.specs.Machine.{at_of, now_of, moment_of, verdict_at}
-use Rattle.land_keep.specs.Moments.{IsMoment, now_after}
+use Rattle.land_keep.specs.Moments.{now_after}
 use Rattle.land_keep.specs.declared.prepared.Prepared.{Prepared}
 use Rattle.land_keep.specs.declared.reply.Reply.{Reply}
 use Rattle.land_keep.specs.declared.reply.Reply.TheVariants as reply

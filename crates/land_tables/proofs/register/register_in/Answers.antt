@@ -2,7 +2,7 @@ use Rattle.std.proofs.Common.{arith, of_z, pos, rules, subst, to_z, w64, ◌≡�
 use Rattle.std.proofs.lemmas.Int.{ints}
 use Rattle.std.specs.Prelude.{ℤ}
 use Rattle.std.specs.Int.{int_min}
-use Rattle.land_keep.specs.Moments.{last_moment}
+use Rattle.land_core.specs.Numbers.{last_moment}
 use Rattle.land_tables.proofs.ReadBack.{not_before, read_moment, read_nothing, read_register}
 use Rattle.land_tables.specs.Calls.{IsSafeRead}
 use Rattle.land_tables.specs.Standing.{ReadsAt}

@@ -3,8 +3,8 @@ use Rattle.std.specs.Prelude.{ℤ, pos, ◌≤ℤ◌, FitsSigned, unwrap_or}
 use Rattle.std.specs.Int.{w64}
 use Rattle.std.specs.Option.{option_map}
 use Rattle.std.proofs.lemmas.Int.{to_z-of_z}
+use Rattle.land_core.specs.Numbers.{last_moment}
 use Rattle.land_keep.proofs.Timelines.{last_is_moment}
-use Rattle.land_keep.specs.Moments.{last_moment}
 use Rattle.land_keep.specs.Timeline.{last_stamp}
 use Rattle.land_keep.specs.declared.timeline.Version.{Version}
 use Rattle.land_keep.proofs.plain_keeper.PlainKeeperKeeper.last.Goals as goal

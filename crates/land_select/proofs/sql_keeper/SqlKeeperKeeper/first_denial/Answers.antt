@@ -1,9 +1,9 @@
 use Rattle.std.proofs.Common.{of_z, rules, subst, sym, to_z, w64, ◌≡◌}
 use Rattle.std.specs.Prelude.{ℤ, int_lt}
 use Rattle.std.specs.Int.{int_min}
+use Rattle.land_core.specs.Numbers.{last_moment}
 use Rattle.land_keep.proofs.Steps.{opens}
 use Rattle.land_keep.specs.Machine.{moment_of}
-use Rattle.land_keep.specs.Moments.{last_moment}
 use Rattle.land_keep.specs.Timeline.{Timeline, last_register, register_at}
 use Rattle.land_select.proofs.KnownRoles.{still_known, verdict_shows}
 use Rattle.land_select.proofs.Seen.{verdict_told}

@@ -1,7 +1,7 @@
 use Rattle.std.proofs.Common.{of_z, rules, subst, sym, to_z, w64, ◌≡◌, ◌∙◌}
 use Rattle.std.specs.Int.{int_min}
+use Rattle.land_core.specs.Numbers.{last_moment}
 use Rattle.land_core.specs.Register.{object_at}
-use Rattle.land_keep.specs.Moments.{last_moment}
 use Rattle.land_select.proofs.KnownRoles.{still_known}
 use Rattle.land_select.proofs.Seen.{part_stands}
 use Rattle.land_select.specs.Cache.{IsCacheOf}

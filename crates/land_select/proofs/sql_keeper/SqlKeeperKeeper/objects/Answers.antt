@@ -1,6 +1,6 @@
 use Rattle.std.proofs.Common.{of_z, rules, to_z, w64, ◌≡◌, subst, sym}
 use Rattle.std.specs.Int.{int_min}
-use Rattle.land_keep.specs.Moments.{last_moment}
+use Rattle.land_core.specs.Numbers.{last_moment}
 use Rattle.land_keep.specs.Named.{objects_at}
 use Rattle.land_select.proofs.KnownRoles.{still_known}
 use Rattle.land_select.proofs.Seen.{part_stands}

@@ -1,9 +1,9 @@
 use Rattle.std.proofs.Common.{of_z, rules, subst, sym, to_z, w64, ◌≡◌, ◌∙◌, true}
 use Rattle.std.specs.Int.{int_min}
 use Rattle.std.specs.Prelude.{int_le}
+use Rattle.land_core.specs.Numbers.{last_moment}
 use Rattle.land_keep.proofs.Steps.{opens}
 use Rattle.land_keep.specs.Keeping.{IsHonestAndOpen}
-use Rattle.land_keep.specs.Moments.{last_moment}
 use Rattle.land_keep.specs.Timeline.{Timeline, last_register, last_stamp}
 use Rattle.land_select.proofs.KnownRoles.{none_now, none_then, reaches, still_known}
 use Rattle.land_select.proofs.Seen.{sight_seen}

@@ -1,8 +1,8 @@
 use Rattle.std.proofs.Common.{ap, of_z, rules, subst, sym, to_z, w64, ◌≡◌, ◌∙◌}
 use Rattle.std.specs.Int.{int_min}
+use Rattle.land_core.specs.Numbers.{last_moment}
 use Rattle.land_core.specs.declared.kind.Kind.TheVariants as kind
 use Rattle.land_keep.proofs.Steps.{opens}
-use Rattle.land_keep.specs.Moments.{last_moment}
 use Rattle.land_keep.specs.Sheets.{view_at}
 use Rattle.land_keep.specs.Timeline.{register_at}
 use Rattle.land_select.proofs.KnownRoles.{still_known}

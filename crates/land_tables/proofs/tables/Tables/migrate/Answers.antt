@@ -1,6 +1,6 @@
 use Rattle.std.proofs.Common.{◌≡◌, false, of_z, to_z, w64, refl, rules, subst, sym}
 use Rattle.std.specs.Prelude.{ℤ, ◌≤ℤ◌}
-use Rattle.land_keep.specs.Moments.{last_moment}
+use Rattle.land_core.specs.Numbers.{last_moment}
 use Rattle.land_tables.proofs.Adopted.{refused_holds_none}
 use Rattle.land_tables.proofs.Migrations.{err_leaves, held_rests, same_leaves, stays_same}
 use Rattle.land_tables.specs.TablesState.{IsConsistentState}

@@ -1,7 +1,7 @@
 use Rattle.std.proofs.Common.{false, of_z, rules, subst, sym, to_z, w64, Err, Ok, ◌≡◌, ◌≢◌, ◌≤ℤ◌}
 use Rattle.std.specs.Prelude.{ℤ}
+use Rattle.land_core.specs.Numbers.{last_moment}
 use Rattle.land_keep.specs.Machine.{written}
-use Rattle.land_keep.specs.Moments.{last_moment}
 use Rattle.land_keep.specs.declared.store_fault.StoreFault.TheVariants.{Store}
 use Rattle.land_tables.proofs.Written.{crash_written, leaves_either, rests, text_written, timeline_written, whole_unwritten, whole_written}
 use Rattle.land_tables.specs.Calls.{IsSafeWrite, MayWriteChange}

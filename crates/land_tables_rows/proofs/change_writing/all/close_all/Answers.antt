@@ -1,8 +1,9 @@
 use Rattle.std.proofs.Common.{◌≡◌, ◌+◌, ◌++◌, ◌∷◌, [], arith, of_z, refl, rules, subst, sym, take, to_z, w64, Ok, ◌∙◌}
 use Rattle.std.proofs.lemmas.Grind.{common_steps}
 use Rattle.std.specs.List.{list_any}
+use Rattle.land_core.specs.Numbers.{IsMoment}
 use Rattle.land_tables_rows.proofs.Loops.{land_stays, more_closed, none_closed, one_closed}
-use Rattle.land_tables_rows.specs.Writing.Holding.{Closes, IsMoment}
+use Rattle.land_tables_rows.specs.Writing.Holding.{Closes}
 use Rattle.land_tables_schema.proofs.Steps.{no_step, step_fails, step_says, step_then}
 use Rattle.sqlite.specs.Held.{state}
 use Rattle.land_tables_rows.proofs.change_writing.all.close_all.Goals as goal

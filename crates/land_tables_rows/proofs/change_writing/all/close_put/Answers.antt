@@ -2,10 +2,11 @@ use Rattle.std.proofs.Common.{◌≡◌, ◌<◌, ◌≤◌, ℕ, ◌+◌, ◌++
 use Rattle.std.proofs.lemmas.Grind.{common_steps}
 use Rattle.std.proofs.lemmas.List.{map-append}
 use Rattle.std.specs.List.{list_any}
+use Rattle.land_core.specs.Numbers.{IsMoment}
 use Rattle.land_tables_history.specs.Written.{existing}
 use Rattle.land_tables_rows.proofs.Existing.{existing_more, new_more}
 use Rattle.land_tables_rows.proofs.Loops.{land_stays, more_closed, none_closed, one_closed}
-use Rattle.land_tables_rows.specs.Writing.Holding.{Closes, IsMoment}
+use Rattle.land_tables_rows.specs.Writing.Holding.{Closes}
 use Rattle.land_tables_schema.proofs.Steps.{no_step, step_fails, step_says, step_then}
 use Rattle.land_tables_schema.specs.Steps.{IsTransactionStep}
 use Rattle.sqlite.specs.Held.{state}

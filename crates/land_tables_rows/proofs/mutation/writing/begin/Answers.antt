@@ -21,5 +21,5 @@ returns-clause-step g c =
     let e : ℕ × MutationRecord = (c.args.number, c.args.mutation.now) in
     let first : IsTransactionStep c.begin.result (InsertsVersion mutations (opened_version (mutation_of c.mutation_cells.result) c.args.since)) old new = rw (since) at c.begin.ensures.step in
     let step : IsTransactionStep c.begin.result (InsertsVersion mutations (opened_version (mutation_row_of e) c.args.since)) old new = subst (λ r. IsTransactionStep c.begin.result (InsertsVersion mutations (opened_version r c.args.since)) old new) c.mutation_cells.ensures.row first in
-    let reads = c.mutations_read_back.ensures e c.args.since c.requires.fits c.content_is_exact.ensures (record { first = c.requires.moment.0; last = c.requires.moment.1 }) in
+    let reads = c.mutations_read_back.ensures e c.args.since c.requires.fits c.content_is_exact.ensures c.requires.moment in
     step_says old new c.begin.result step (λ clean adds. begins table.mutation 8 mutation_cells mutation_in is_mutation mutation_cells_decode (mutation_row_of e) e c.args.since reads old.now new.now adds)

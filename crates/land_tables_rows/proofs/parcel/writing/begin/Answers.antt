@@ -22,5 +22,5 @@ returns-clause-step g c =
     let e : ℕ × ParcelRecord = (c.args.number, c.args.parcel.now) in
     let first : IsTransactionStep c.begin.result (InsertsVersion parcels (opened_version (parcel_of c.in_ok-cells.cells) c.args.since)) old new = rw (c.as_str.ensures.value, since) at c.begin.ensures.step in
     let step : IsTransactionStep c.begin.result (InsertsVersion parcels (opened_version (parcel_row_of e) c.args.since)) old new = subst (λ r. IsTransactionStep c.begin.result (InsertsVersion parcels (opened_version r c.args.since)) old new) c.in_ok-cells.ensures.row first in
-    let reads = c.parcels_read_back.ensures e c.args.since c.requires.fits c.points.ensures.sound (record { first = c.requires.moment.0; last = c.requires.moment.1 }) in
+    let reads = c.parcels_read_back.ensures e c.args.since c.requires.fits c.points.ensures.sound c.requires.moment in
     step_says old new c.begin.result step (λ clean adds. begins table.parcel 5 parcel_cells parcel_in is_parcel parcel_cells_decode (parcel_row_of e) e c.args.since reads old.now new.now adds)

@@ -21,5 +21,5 @@ returns-clause-step g c =
     let e : ℕ × RrrRecord = (c.args.number, c.args.entry.now) in
     let first : IsTransactionStep c.begin.result (InsertsVersion rrrs (opened_version (rrr_of c.rrr_cells.result) c.args.since)) old new = rw (since) at c.begin.ensures.step in
     let step : IsTransactionStep c.begin.result (InsertsVersion rrrs (opened_version (rrr_row_of e) c.args.since)) old new = subst (λ r. IsTransactionStep c.begin.result (InsertsVersion rrrs (opened_version r c.args.since)) old new) c.rrr_cells.ensures.row first in
-    let reads = c.rrrs_read_back.ensures e c.args.since c.requires.fits c.class_is_exact.ensures (record { first = c.requires.moment.0; last = c.requires.moment.1 }) in
+    let reads = c.rrrs_read_back.ensures e c.args.since c.requires.fits c.class_is_exact.ensures c.requires.moment in
     step_says old new c.begin.result step (λ clean adds. begins table.rrr 11 rrr_cells rrr_in is_rrr rrr_cells_decode (rrr_row_of e) e c.args.since reads old.now new.now adds)
