@@ -214,8 +214,8 @@ parts_of_content (content.Merger it) = record no_parts { units = true; parcels =
 parts_of_content (content.Mortgage it) = record no_parts { parties = true; roles = true; units = true }
 parts_of_content (content.Discharge it) = record no_parts { units = true }
 
--- the parts on which the outcome of an act depends, by the mutations in its slice. Another state administrator
--- matters only if the act ends that role
+-- the parts on which the outcome of an act depends, by the mutations in its slice. Another state
+-- administrator matters only if the act ends that role
 abbrev pub needed_parts : FinMap nat_cmp MutationRecord → Act → SliceParts
 needed_parts mutations (act.Enrol it) = no_parts
 needed_parts mutations (act.Group it) = record no_parts { parties = true }

@@ -8,8 +8,8 @@ use land_core::mutation::MutationRecord;
 use land_core::records::Records;
 use land_core::role::Role;
 
-/// Which parts a slice includes. The mutations, the mandate, the entry of a lift and the next number are always
-/// included.
+/// Which parts a slice includes. The mutations, the mandate, the entry of a lift and the next number are
+/// always included.
 #[derive(Clone, Copy)]
 pub struct SliceParts {
     /// The parties to which the act refers.

@@ -51,8 +51,8 @@ SendsResponse bytes close_after old new (Err desk.Write) = (n : ℕ) × Appends 
 SendsResponse bytes close_after old new (Err desk.Read) = ⊥
 SendsResponse bytes close_after old new (Err desk.NoMemory) = ⊥
 
--- Serving the first item of a stream, by at most one transition. `input` and `left`: its bytes before and after,
--- if they are known.
+-- Serving the first item of a stream, by at most one transition. `input` and `left`: its bytes before and
+-- after, if they are known.
 abbrev pub ServesNext : {C : Type 0} → Transition C → (input left : Option (List ℕ)) → State C → State C
     → (old new : Option (List ℕ)) → Result AfterItem DeskFault → Type 0
 ServesNext step input left from to old new (Ok next_item.Eof) =

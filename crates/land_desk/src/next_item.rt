@@ -52,9 +52,9 @@ pub enum AfterItem {
 
 /// Serves the first item of `buffer` followed by the bytes of `reader`, and removes its bytes from `buffer`.
 ///
-/// Does not read once the item is complete. Errors: those of `DeskFault`. After `Read` and `NoMemory` nothing was
-/// answered and no byte is lost: the bytes that were read are in `buffer`, and the item can be served later. So a
-/// reader that does not block may fail where it would.
+/// Does not read once the item is complete. Errors: those of `DeskFault`. After `Read` and `NoMemory` nothing
+/// was answered and no byte is lost: the bytes that were read are in `buffer`, and the item can be served
+/// later. So a reader that does not block may fail where it would.
 pub fn serve_next_item<R: Read, W: Write, K: Keeper, C: Clock>(
     alloc: Global,
     router: &Router<Endpoint>,

@@ -1,8 +1,8 @@
 -- How connections ended.
 use Rattle.std.specs.Prelude.{◌≡◌, ℕ, nat_eq, Bool, List, [], ◌∷◌, ◌++◌, Option, Some, None, if◌then◌else◌}
 
--- A connection that ended: its number, whether it was served completely, and the bytes that its writer held when
--- it was accepted and when it ended.
+-- A connection that ended: its number, whether it was served completely, and the bytes that its writer held
+-- when it was accepted and when it ended.
 pub record Ending : Type 0 where
   pub number : ℕ
   pub complete : Bool
@@ -21,6 +21,8 @@ RecordsAll (Some all) None endings = ⊥
 RecordsAll (Some all) (Some more) endings = more ≡ all ++ endings
 
 -- This ending was recorded.
-abbrev pub Records : (old new : Option (List Ending)) → (number : ℕ) → (complete : Bool) → (fresh written : Option (List ℕ)) → Type 0
+abbrev pub Records : (old new : Option (List Ending)) → (number : ℕ) → (complete : Bool)
+    → (fresh written : Option (List ℕ)) → Type 0
 Records old new number complete fresh written =
-    RecordsAll old new (record { number = number; complete = complete; fresh = fresh; written = written } ∷ [])
+    RecordsAll old new
+    (record { number = number; complete = complete; fresh = fresh; written = written } ∷ [])

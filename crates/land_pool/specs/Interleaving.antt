@@ -1,7 +1,8 @@
--- Many connections served at once: one run of the register machine, and for each connection the replies to its
--- items, in their order.
-use Rattle.std.specs.Prelude.{◌≡◌, ◌≢◌, ℕ, ℤ, ◌<◌, ◌≤◌, nat_eq, Bool, true, false, List, [], ◌∷◌, ◌++◌, length, map}
-use Rattle.std.specs.Prelude.{Option, Some, None, IfSome, Result, Ok, Err, ◌⊎◌, slice_get, if◌then◌else◌}
+-- Many connections served at once: one run of the register machine, and for each connection the replies to
+-- its items, in their order.
+use Rattle.std.specs.Prelude.{◌≡◌, ◌≢◌, ℕ, ℤ, ◌<◌, ◌≤◌, nat_eq, Bool, true, false, List, [], ◌∷◌, ◌++◌}
+use Rattle.std.specs.Prelude.{length, map, Option, Some, None, IfSome, Result, Ok, Err, ◌⊎◌, slice_get}
+use Rattle.std.specs.Prelude.{if◌then◌else◌}
 use Rattle.std.specs.Io.KnownBytes.{Appends}
 use Rattle.land_desk.specs.Serving.{AnswersItem, Exchange, StepOf, all_sent, closing}
 use Rattle.land_keep.specs.Machine.{State}
@@ -17,11 +18,13 @@ pub record Numbered : Type 0 where
   pub number : ℕ
   pub exchange : Exchange
 
--- These items are answered one after another, whichever connections they are from, and none by a closed store.
+-- These items are answered one after another, whichever connections they are from, and none by a closed
+-- store.
 abbrev pub IsRunOf : {C : Type 0} → (reads : C → ℤ → C → Type 0) → State C → List Numbered → State C → Type 0
 IsRunOf reads from [] to = to ≡ from
 IsRunOf {C} reads from (t ∷ ts) to =
-    (mid : State C) × (from.closed ≡ false) × AnswersItem (StepOf reads) from t.exchange mid × IsRunOf reads mid ts to
+    (mid : State C) × (from.closed ≡ false) × AnswersItem (StepOf reads) from t.exchange mid
+    × IsRunOf reads mid ts to
 
 -- The exchanges of one connection, in their order.
 abbrev pub exchanges_of : ℕ → List Numbered → List Exchange
@@ -40,7 +43,8 @@ BeginsWithItems bytes (x ∷ xs) rest =
 abbrev pub AreAllItems : List ℕ → List Exchange → Type 0
 AreAllItems bytes [] = bytes ≡ []
 AreAllItems bytes (x ∷ xs) =
-    (mid : List ℕ) × IsItem bytes x.item mid × (closing x ≡ true → xs ≡ []) × (closing x ≡ false → AreAllItems mid xs)
+    (mid : List ℕ) × IsItem bytes x.item mid × (closing x ≡ true → xs ≡ [])
+    × (closing x ≡ false → AreAllItems mid xs)
 
 -- These are the first items of the bytes.
 abbrev pub AreFirstItems : List ℕ → List Exchange → Type 0
@@ -50,8 +54,8 @@ AreFirstItems bytes xs = AreAllItems bytes xs ⊎ ((rest : List ℕ) × BeginsWi
 abbrev pub WritesPrefix : (old new : Option (List ℕ)) → List Exchange → (unsent : List ℕ) → Type 0
 WritesPrefix old new xs unsent = (sent : List ℕ) × Appends old new sent × (all_sent xs ≡ sent ++ unsent)
 
--- A connection was served completely: each of its items was answered, and each response was written. Or it was
--- broken off: its first items were answered, and a prefix of the responses was written.
+-- A connection was served completely: each of its items was answered, and each response was written. Or it
+-- was broken off: its first items were answered, and a prefix of the responses was written.
 abbrev pub IsServed : (complete : Bool) → (bytes old new : Option (List ℕ)) → List Exchange → Type 0
 IsServed true bytes old new xs = IfSome bytes (λ all. AreAllItems all xs) × Appends old new (all_sent xs)
 IsServed false bytes old new xs =
@@ -61,16 +65,18 @@ IsServed false bytes old new xs =
 pub record Accepted : Type 0 where
   pub bytes : Option (List ℕ)
 
--- A connection with these exchanges ended at most once, and was served as its ending reports. Of one that has not
--- ended, the first items were answered.
+-- A connection with these exchanges ended at most once, and was served as its ending reports. Of one that has
+-- not ended, the first items were answered.
 abbrev pub IsServedAs : Accepted → List Exchange → List Ending → Type 0
 IsServedAs c xs [] = IfSome c.bytes (λ all. AreFirstItems all xs)
 IsServedAs c xs (e ∷ []) = IsServed e.complete c.bytes e.fresh e.written xs
 IsServedAs c xs (e ∷ f ∷ es) = ⊥
 
 -- Each accepted connection is served, and no exchange and no ending is of another one.
-pub record EachIsServed (accepted : List Accepted) (log : List Numbered) (endings : List Ending) : Type 0 where
-  pub served : (k : ℕ) (c : Accepted) → slice_get accepted k ≡ Some c → IsServedAs c (exchanges_of k log) (endings_of k endings)
+pub record EachIsServed (accepted : List Accepted) (log : List Numbered) (endings : List Ending)
+    : Type 0 where
+  pub served : (k : ℕ) (c : Accepted) → slice_get accepted k ≡ Some c
+      → IsServedAs c (exchanges_of k log) (endings_of k endings)
   pub no_exchange : (k : ℕ) → length accepted ≤ k → exchanges_of k log ≡ []
   pub no_ending : (k : ℕ) → length accepted ≤ k → endings_of k endings ≡ []
 

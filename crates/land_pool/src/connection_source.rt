@@ -29,7 +29,8 @@ pub trait ConnectionSource {
         ensures coming { coming self.new ≡ coming self.old }
         ensures ended { ended self.new ≡ ended self.old };
 
-    /// Accepts the next connection, which `next_ready` calls by this key. Returns an error if none is pending.
+    /// Accepts the next connection, which `next_ready` calls by this key. Returns an error if none is
+    /// pending.
     fn accept(&mut self, key: usize) -> io::Result<(Self::Reader, Self::Writer)>
         ensures coming { Accepts (coming self.old) (coming self.new) (brought Self.Reader.remaining result) }
         ensures ended { ended self.new ≡ ended self.old }

@@ -1,5 +1,6 @@
 //! An open connection.
-ghost use Rattle.std.specs.Prelude.{◌≡◌, ◌≤◌, ◌<◌, ◌+◌, Some, [], true, false, ℕ, List, Option, length, take, drop};
+ghost use Rattle.std.specs.Prelude.{◌≡◌, ◌≤◌, ◌<◌, ◌+◌, Some, [], true, false, ℕ, List, Option};
+ghost use Rattle.std.specs.Prelude.{length, take, drop};
 ghost use Rattle.std.specs.Io.KnownBytes.{Appends, prepend_known};
 ghost use Rattle.land_desk.specs.Keepers.{ServesFirst};
 ghost use Rattle.land_desk.specs.Serving.{Exchange};
@@ -275,8 +276,8 @@ fn is_complete(finished: bool, output: &[u8]) -> bool
     finished && output.is_empty()
 }
 
-/// Writes a prefix of the output and removes it. Returns `false` if the writer failed. Frees the capacity that a
-/// long reply needed.
+/// Writes a prefix of the output and removes it. Returns `false` if the writer failed. Frees the capacity
+/// that a long reply needed.
 fn write_some<W: Write>(writer: &mut W, output: &mut Vec<u8>) -> bool
     ensures { (n : ℕ) × Appends (W.contents writer.old) (W.contents writer.new) (take n output.old.items)
         × (output.new.items ≡ drop n output.old.items) }

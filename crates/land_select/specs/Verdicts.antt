@@ -56,9 +56,9 @@ pub record IsOfCaller (r : Register) (caller : Caller) (there : Bool) (roles : G
   pub party : there ≡ stands r kind.Party caller.party
   pub role : has_grant roles (grant_of caller.party caller.role) ≡ holds r caller.party caller.role
 
--- If the tables hold a history that at time t represents a register, sound or empty, in which a caller that is
--- known to hold the role that it claims does so: whether the caller exists, and roles that decide if it holds
--- that role.
+-- If the tables hold a history that at time t represents a register, sound or empty, in which a caller that
+-- is known to hold the role that it claims does so: whether the caller exists, and roles that decide if it
+-- holds that role.
 abbrev pub IsCallerWithRoles : Caller → (is_held : Bool) → (t : ℤ) → Trees → Bool × Grants → Type 0
 IsCallerWithRoles caller is_held t db it = HoldsOfHistory db (λ h. (r : Register) → IsSoundOrNothing r
     → IsRegisterAt t h r → HoldsRoleIf is_held r caller → IsOfCaller r caller it.0 it.1)
@@ -69,8 +69,8 @@ IsEvidence caller is_held a t db it = HoldsOfHistory db (λ h. (r : Register) �
     → IsRegisterAt t h r → HoldsRoleIf is_held r caller → IsEnough it r caller a)
 
 -- If the tables hold a history, the verdict is the one on the request, by the register at the last moment and
--- the register at time t, each sound or empty; and the cached value is correct for the latter. A caller that is
--- known to hold the role that it claims does so at the last moment.
+-- the register at time t, each sound or empty; and the cached value is correct for the latter. A caller that
+-- is known to hold the role that it claims does so at the last moment.
 abbrev pub IsVerdictWith : Caller → (is_held : Bool) → Ask → (past : Bool) → (t : ℤ) → Trees
     → Verdict × CachedValue → Type 0
 IsVerdictWith caller is_held a past t db it =

@@ -254,7 +254,8 @@ impl Query<Sequence<NamedObject>> for ObjectsQuery<'_> {
     ghost use Rattle.land_keep.specs.Named.{objects_at};
     ghost use Rattle.land_select_queries.specs.Lookups.Parts.{ReadsPart};
 
-    ghost results = { λ it db found. ReadsPart (λ r. objects_at r it.kind it.numbers.now) it.moment db found };
+    ghost results = { λ it db found.
+        ReadsPart (λ r. objects_at r it.kind it.numbers.now) it.moment db found };
 
     fn run<S: Alter>(
         &self,

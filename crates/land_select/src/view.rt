@@ -74,7 +74,8 @@ fn read_parcels<S: Alter>(
     at: i64,
 ) -> Result<Sequence<Parcel>, ReadFault>
     requires has_tables { HasRegisterTables S.Store conn.old }
-    ensures reads_only { ReadsTables S.Store result (ReadsPart (λ r. parcels_at r unit) at) conn.old conn.new }
+    ensures reads_only { ReadsTables S.Store result
+        (ReadsPart (λ r. parcels_at r unit) at) conn.old conn.new }
     ensures autocommit { LeavesAutocommit conn.old conn.new }
 {
     let found = of_unit::parcels(alloc, conn, unit, at)?;
@@ -342,7 +343,8 @@ impl Query<Option<View>> for UnitViewQuery<'_> {
     ghost use Rattle.land_select.specs.Cache.{IsValueOf};
     ghost use Rattle.land_select.specs.Views.{AgreesIfGiven};
 
-    ghost results = { λ it db shown. AgreesIfGiven (λ r. IsValueOf r it.caller kinds.Unit it.unit it.found.now)
+    ghost results = { λ it db shown.
+        AgreesIfGiven (λ r. IsValueOf r it.caller kinds.Unit it.unit it.found.now)
         (λ r. view_at r it.caller it.unit it.moment) it.moment db shown };
 
     fn run<S: Alter>(

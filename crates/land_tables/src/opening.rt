@@ -25,7 +25,8 @@ use land_tables_schema::rows::openness::is_open;
 use sqlite::{Alter, Connection};
 use std::alloc::Global;
 
-/// Reads a store of schema version 2 and validates it. Returns its contents and the moment of its last change.
+/// Reads a store of schema version 2 and validates it. Returns its contents and the moment of its last
+/// change.
 fn validate_v2<S: Alter>(
     alloc: Global,
     conn: &mut Connection<S>,

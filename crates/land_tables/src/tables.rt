@@ -58,7 +58,8 @@ impl<S: Alter> Model for Tables<S> {
 
     ghost view = { λ t. record { conn = t.conn; last = t.last; next = t.next; is_closed = t.is_closed } };
 
-    ghost invariant = { λ t. IsTablesState S.Store (record { conn = t.conn; last = t.last; next = t.next; is_closed = t.is_closed }) };
+    ghost invariant = { λ t. IsTablesState S.Store
+        (record { conn = t.conn; last = t.last; next = t.next; is_closed = t.is_closed }) };
 }
 
 impl<S: Alter + Drop> Drop for Tables<S> {
@@ -143,8 +144,8 @@ impl<S: Alter> Tables<S> {
         }
     }
 
-    /// Opens a store as a register file as `adopt` does, with the same errors. Also returns the contents of its
-    /// tables.
+    /// Opens a store as a register file as `adopt` does, with the same errors. Also returns the contents of
+    /// its tables.
     pub fn adopt_with_contents(
         alloc: Global,
         conn: Connection<S>,
@@ -209,9 +210,11 @@ impl<S: Alter> Tables<S> {
             (λ t. Survives (state S.Store conn) (state S.Store t.conn)
             (IsMigratedFrom (state S.Store conn).now)) }
         ensures crash { IfErr result
-            (λ e. Survives (state S.Store conn) (state S.Store e.0) (IsMigratedFrom (state S.Store conn).now)) }
+            (λ e. Survives (state S.Store conn) (state S.Store e.0)
+            (IsMigratedFrom (state S.Store conn).now)) }
         ensures rests { IfOk result (CrashKeeps S.Store) }
-        ensures either { IfErr result (λ e. CrashLeavesOldOrMigrated (state S.Store conn) (state S.Store e.0)) }
+        ensures either { IfErr result
+            (λ e. CrashLeavesOldOrMigrated (state S.Store conn) (state S.Store e.0)) }
     {
         let mut conn = conn;
         if conn.is_autocommit() {

@@ -124,7 +124,8 @@ pub fn serve_calls(
     clock: &mut ClockReadings,
 ) -> Result<(), ServiceFault>
     ensures { (xs : List Connection) × IsServedCount (length xs) connections result
-        × (map (λ x. x.bytes) xs ≡ take (length xs) (map (λ call. Some call.brings.now) calls.old.calls.now)) }
+        × (map (λ x. x.bytes) xs ≡ take (length xs)
+        (map (λ call. Some call.brings.now) calls.old.calls.now)) }
 {
     serve_connections(alloc, calls, connections, keeper, clock)
 }

@@ -404,7 +404,8 @@ fn receive(
     from: &HeldRight,
 ) -> Result<(), AllocError>
     ensures { OnOk result (rrrs.new ≡ rrrs.old
-        ++ entries_of_receiver slice.now source it.now from.now (right_of_receiver slice.now it.now from.now)) }
+        ++ entries_of_receiver slice.now source it.now from.now
+        (right_of_receiver slice.now it.now from.now)) }
 {
     let Some(to) = right_of_receiver(slice, it, from) else {
         let entry = right_entry(it.unit, it.receiver, from.right_type, it.share, source);
@@ -442,7 +443,8 @@ pub(crate) fn made(
     it: &Transfer,
     from: &HeldRight,
 ) -> Result<NumberList, AllocError>
-    ensures { IfOk result (λ made. made ≡ new_rights slice.now (right_of_receiver slice.now it.now from.now)) }
+    ensures { IfOk result (λ made.
+        made ≡ new_rights slice.now (right_of_receiver slice.now it.now from.now)) }
 {
     match right_of_receiver(slice, it, from) {
         Some(_) => Ok(Sequence::new(alloc)),

@@ -16,6 +16,10 @@ abbrev pub IsNumeralIn : (digits : Text) → (least most number : ℕ) → Type 
 IsNumeralIn digits least most number =
     IsNumeral 10 digits × (digits_value 10 digits ≡ number) × (least ≤ number) × (number ≤ most)
 
+-- Decimal digits of a moment, in Unix milliseconds.
+abbrev pub IsMomentNumeral : (digits : Text) (moment : ℕ) → Type 0
+IsMomentNumeral digits moment = IsNumeralIn digits 0 4102444799999 moment
+
 -- A value of an option is not empty and does not start with a hyphen.
 abbrev pub IsPlainText : Text → Type 0
 IsPlainText [] = ⊥
@@ -36,7 +40,7 @@ FaultlessWordsLaw =
 -- `talk --clock MS` names `talk`, if MS is a moment in decimal digits, for any name of the program.
 abbrev pub PlainTalkLaw : Type 0
 PlainTalkLaw =
-    (choices : Choices) (program digits : Text) (moment : ℕ) → IsNumeralIn digits 0 4102444799999 moment
+    (choices : Choices) (program digits : Text) (moment : ℕ) → IsMomentNumeral digits moment
     → NamesBy choices (program ∷ codes "talk" ∷ codes "--clock" ∷ digits ∷ []) (to_talk (pos moment))
 
 -- `new --file FILE`, `check --file FILE` and `migrate --file FILE` name these commands with that file.
@@ -77,11 +81,11 @@ abbrev pub PlainExtractLaw : Type 0
 PlainExtractLaw =
     (choices : Choices) (program file clock_digits party_digits : Text) (clock party : ℕ)
     (role : Role) (kind : Kind)
-    → AreChoiceWords choices → IsPlainText file → IsNumeralIn clock_digits 0 4102444799999 clock
+    → AreChoiceWords choices → IsPlainText file → IsMomentNumeral clock_digits clock
     → IsNumeralIn party_digits 1 1000000000 party
     → NamesBy choices (program ∷ codes "extract" ∷ extract_words file clock_digits party_digits role kind)
     (to_extract file (pos clock) party role kind None)
-    × ((at_digits : Text) (at : ℕ) → IsNumeralIn at_digits 0 4102444799999 at
+    × ((at_digits : Text) (at : ℕ) → IsMomentNumeral at_digits at
     → NamesBy choices (program ∷ codes "extract"
     ∷ (extract_words file clock_digits party_digits role kind ++ codes "--at" ∷ at_digits ∷ []))
     (to_extract file (pos clock) party role kind (Some (pos at))))
@@ -92,6 +96,6 @@ abbrev pub PlainDigestLaw : Type 0
 PlainDigestLaw =
     (choices : Choices) (program file : Text) → IsPlainText file
     → NamesBy choices (program ∷ codes "digest" ∷ codes "--file" ∷ file ∷ []) (to_digest file None)
-    × ((at_digits : Text) (at : ℕ) → IsNumeralIn at_digits 0 4102444799999 at
+    × ((at_digits : Text) (at : ℕ) → IsMomentNumeral at_digits at
     → NamesBy choices (program ∷ codes "digest" ∷ codes "--file" ∷ file ∷ codes "--at" ∷ at_digits ∷ [])
     (to_digest file (Some (pos at))))

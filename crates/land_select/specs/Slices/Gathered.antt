@@ -4,7 +4,8 @@ use Rattle.std.specs.Prelude.{if◌then◌else◌}
 use Rattle.std.specs.FinMap as map
 use Rattle.std.specs.FinMap.{FinMap}
 use Rattle.std.specs.Ordering.{nat_cmp}
-use Rattle.land_acts.specs.Slices.{all_parts, includes_party, includes_unit, mutations_in_slice, names_mandate}
+use Rattle.land_acts.specs.Slices.{all_parts, includes_party, includes_unit, mutations_in_slice}
+use Rattle.land_acts.specs.Slices.{names_mandate}
 use Rattle.land_acts.specs.Slices.{needed_parts, slice_with}
 use Rattle.land_acts.specs.declared.slice_parts.SliceParts.{SliceParts}
 use Rattle.land_core.specs.Entries.{entries_where, with_entries}

@@ -337,9 +337,10 @@ fn parts_to_read(needed_only: bool, mutations: &Records<MutationRecord>, act: &A
     }
 }
 
-/// Reads the slice for an act at a time, in Unix milliseconds, with the given next number, or only the part of
-/// it that the outcome of the act depends on. Only records of the numbers that the act refers to, and those of
-/// its caller, are read. Returns error 520 only if the tables hold no history, and 501 if out of memory.
+/// Reads the slice for an act at a time, in Unix milliseconds, with the given next number, or only the part
+/// of it that the outcome of the act depends on. Only records of the numbers that the act refers to, and
+/// those of its caller, are read. Returns error 520 only if the tables hold no history, and 501 if out of
+/// memory.
 pub fn slice_at<S: Alter>(
     alloc: Global,
     conn: &mut Connection<S>,
@@ -352,7 +353,8 @@ pub fn slice_at<S: Alter>(
     requires open { IsUsable S.Store conn.old }
     requires has_tables { HasRegisterTables S.Store conn.old }
     ensures reads_only { ReadsTables S.Store result
-        (λ db it. HoldsOfRegister (λ r. r.next ≡ next → it ≡ read_slice_of needed_only r caller act.now) at db)
+        (λ db it.
+        HoldsOfRegister (λ r. r.next ≡ next → it ≡ read_slice_of needed_only r caller act.now) at db)
         conn.old conn.new }
     ensures autocommit { LeavesAutocommit conn.old conn.new }
 {

@@ -112,7 +112,8 @@ pub(crate) fn is_pending<S: Alter>(
     requires open { IsUsable S.Store conn.old }
     requires has_tables { HasRegisterTables S.Store conn.old }
     ensures reads_only { ReadsTables S.Store result
-        (IsFactWith (λ r. is_visible_by_pending r caller kind number) caller kind number at) conn.old conn.new }
+        (IsFactWith (λ r. is_visible_by_pending r caller kind number) caller kind number at)
+        conn.old conn.new }
     ensures autocommit { LeavesAutocommit conn.old conn.new }
 {
     soundness_by_number();

@@ -43,5 +43,6 @@ IsSightGiven party principals kind t db numbers = HoldsOfHistory db
 -- and if the second part is true, the caller holds no mandate.
 abbrev pub IsSightWith : Caller → (holds_none : Bool) → Kind → (t : ℤ) → Trees → List ℕ × Bool → Type 0
 IsSightWith caller holds_none kind t db it = HoldsOfHistory db
-    (λ h. (r : Register) → IsSoundOrNothing r → IsRegisterAt t h r → HoldsNoMandateIf holds_none r caller.party
+    (λ h. (r : Register) → IsSoundOrNothing r → IsRegisterAt t h r
+    → HoldsNoMandateIf holds_none r caller.party
     → (it.0 ≡ seen_of r caller kind) × HoldsNoMandateIf it.1 r caller.party)

@@ -42,7 +42,8 @@ fn sight_without_mandates<S: Alter>(
 ) -> Result<NumberList, ReadFault>
     requires open { IsUsable S.Store conn.old }
     requires has_tables { HasRegisterTables S.Store conn.old }
-    ensures reads_only { ReadsTables S.Store result (IsSightWithoutMandates caller kind at) conn.old conn.new }
+    ensures reads_only { ReadsTables S.Store result
+        (IsSightWithoutMandates caller kind at) conn.old conn.new }
     ensures unreadable { FailsOnlyWithoutHistory S.Store result conn.old conn.new }
     ensures autocommit { LeavesAutocommit conn.old conn.new }
 {
@@ -62,7 +63,8 @@ fn sight_of_parties<S: Alter>(
 ) -> Result<NumberList, ReadFault>
     requires open { IsUsable S.Store conn.old }
     requires has_tables { HasRegisterTables S.Store conn.old }
-    ensures reads_only { ReadsTables S.Store result (IsSightGiven party principals kind at) conn.old conn.new }
+    ensures reads_only { ReadsTables S.Store result
+        (IsSightGiven party principals kind at) conn.old conn.new }
     ensures unreadable { FailsOnlyWithoutHistory S.Store result conn.old conn.new }
     ensures autocommit { LeavesAutocommit conn.old conn.new }
 {
@@ -125,7 +127,8 @@ pub fn sight_and_mandates<S: Alter>(
 ) -> Result<(NumberList, bool), ReadFault>
     requires open { IsUsable S.Store conn.old }
     requires has_tables { HasRegisterTables S.Store conn.old }
-    ensures reads_only { ReadsTables S.Store result (IsSightWith caller holds_none kind at) conn.old conn.new }
+    ensures reads_only { ReadsTables S.Store result
+        (IsSightWith caller holds_none kind at) conn.old conn.new }
     ensures unreadable { FailsOnlyWithoutHistory S.Store result conn.old conn.new }
     ensures autocommit { LeavesAutocommit conn.old conn.new }
 {

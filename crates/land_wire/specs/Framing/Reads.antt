@@ -15,8 +15,8 @@ abbrev pub StaysWithin : (limit : ℕ) → (buffer new_buffer : List ℕ) → Ty
 StaysWithin limit buffer new_buffer =
     (most : ℕ) → limit ≤ most → length buffer ≤ most → length new_buffer ≤ most
 
--- the most bytes that reading an item keeps in the buffer: the longest head, the longest body, and the rest of
--- a chunk of 1024 bytes
+-- the most bytes that reading an item keeps in the buffer: the longest head, the longest body, and the rest
+-- of a chunk of 1024 bytes
 abbrev pub input_limit : ℕ
 input_limit = max_head_length + body_limit + 1023
 

@@ -128,7 +128,8 @@ fn amount_in(value: &Value) -> Result<u64, WireFault>
 }
 
 fn currency_at(alloc: Global, value: &Value) -> Result<Text, WireFault>
-    ensures { Returns (λ text. text) result (require_text_at is_currency (codes "currency") (view value.now)) }
+    ensures { Returns (λ text. text) result
+        (require_text_at is_currency (codes "currency") (view value.now)) }
 {
     currency_of(alloc, text_at(value, "currency")?)
 }

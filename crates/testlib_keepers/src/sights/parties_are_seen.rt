@@ -56,8 +56,8 @@ impl Seen {
     }
 }
 
-/// Returns if a keeper's verdict on a view is the expected rule, and the reads of the store. The keeper of the
-/// scenario remembers the roles of those who acted in it, a new keeper on its tables remembers none.
+/// Returns if a keeper's verdict on a view is the expected rule, and the reads of the store. The keeper of
+/// the scenario remembers the roles of those who acted in it, a new keeper on its tables remembers none.
 fn read_by_keeper(alloc: Global, view: &Seen) -> Result<(bool, Reads), Stop> {
     let mut keeper = SqlKeeper::new(play_register(alloc)?.into_tables());
     let ask = Ask::View {
