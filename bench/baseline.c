@@ -1,7 +1,10 @@
 /* The baseline in C: runs the SQL statements of the requests to `land` on a register's file with libsqlite3, and prints their time.
 
        cc -O2 -Wall -Wextra -o baseline bench/baseline.c -lsqlite3
-       baseline FILE JOURNAL       (JOURNAL is delete, which is fastest for reads, or wal, which is fastest for writes)
+       baseline FILE JOURNAL       (JOURNAL is delete, which is fastest for reads, wal, which is fastest for writes, or marked)
+
+   With marked the journal is wal, and each commit is marked as `land` marks it: after the commit and its sync, one byte of the log is
+   written and synced, so that each commit syncs twice. The byte is one that the log has, so the log stays valid.
 
    It reads lines of words separated by tabs (texts.py writes them). The last three commands print a result:
 
@@ -18,12 +21,14 @@
    number; or SQL.COLUMN, a column of the last result of another statement: of the row for which this one is run, otherwise of the first
    row. All rows are read, with all their columns. A text column is copied only if a later cell refers to its result. */
 #define _GNU_SOURCE
+#include <fcntl.h>
 #include <sqlite3.h>
 #include <stdarg.h>
 #include <stdio.h>
 #include <stdlib.h>
 #include <string.h>
 #include <time.h>
+#include <unistd.h>
 
 enum { MOST_STATEMENTS = 128, MOST_PLANS = 64, MOST_STEPS = 32, MOST_CELLS = 16, MOST_STORED = 1 << 15, MOST_BYTES = 1 << 20 };
 enum { MOST_RUNS = 1 << 17 };
@@ -67,6 +72,8 @@ static char bytes[MOST_BYTES];
 static size_t stored_count, byte_count, run_statements, run_rows;
 static sqlite3_int64 last, next, moment;
 static sqlite3_stmt *begin, *commit;
+/* The log as a file of its own, if commits are marked; otherwise -1. */
+static int marked = -1;
 
 __attribute__((noreturn, format(printf, 1, 2))) static void stop(const char *format, ...)
 {
@@ -366,12 +373,22 @@ static void run_read(struct plan *plan)
     run_steps(plan);
 }
 
+/* Writes a byte of the log once more, and syncs. */
+static void mark_commit(void)
+{
+    char byte;
+    check(pread(marked, &byte, 1, 0) == 1 && pwrite(marked, &byte, 1, 0) == 1, "the log cannot be written");
+    check(fdatasync(marked) == 0, "the log cannot be synced");
+}
+
 static void run_act(struct plan *plan)
 {
     moment = later(last + 1);
     run_once(begin);
     run_steps(plan);
     run_once(commit);
+    if (marked >= 0)
+        mark_commit();
     last = moment;
     next += plan->made;
 }
@@ -472,14 +489,28 @@ static void execute_line(char *line)
     execute(words, count);
 }
 
+/* Opens the log of a file, whose commits are then marked. The first transaction makes the log. */
+static void open_log(const char *file)
+{
+    char log[4096];
+    check(snprintf(log, sizeof log, "%s-wal", file) < (int)sizeof log, "the name of the file is too long");
+    check_sqlite(sqlite3_exec(base, "BEGIN IMMEDIATE; PRAGMA user_version = 0; COMMIT", NULL, NULL, NULL) == SQLITE_OK, file);
+    marked = open(log, O_RDWR | O_CLOEXEC);
+    check(marked >= 0, "the log cannot be opened");
+}
+
 /* Opens the file exclusively; each commit is synchronous. */
 static void open_base(const char *file, const char *journal)
 {
     char pragmas[128];
-    snprintf(pragmas, sizeof pragmas, "PRAGMA locking_mode = exclusive; PRAGMA journal_mode = %s; PRAGMA synchronous = full", journal);
+    int is_marked = strcmp(journal, "marked") == 0;
+    snprintf(pragmas, sizeof pragmas, "PRAGMA locking_mode = exclusive; PRAGMA journal_mode = %s; PRAGMA synchronous = full",
+             is_marked ? "wal" : journal);
     check(sqlite3_config(SQLITE_CONFIG_SINGLETHREAD) == SQLITE_OK && sqlite3_config(SQLITE_CONFIG_MEMSTATUS, 0) == SQLITE_OK, "sqlite3_config");
     check_sqlite(sqlite3_open_v2(file, &base, SQLITE_OPEN_READWRITE, NULL) == SQLITE_OK, file);
     check_sqlite(sqlite3_exec(base, pragmas, NULL, NULL, NULL) == SQLITE_OK, pragmas);
+    if (is_marked)
+        open_log(file);
     begin = prepared("BEGIN IMMEDIATE");
     commit = prepared("COMMIT");
 }
@@ -497,8 +528,8 @@ int main(int count, char **words)
 {
     char *line = NULL;
     size_t capacity = 0;
-    if (count != 3 || (strcmp(words[2], "delete") != 0 && strcmp(words[2], "wal") != 0))
-        stop("usage: baseline FILE delete|wal");
+    if (count != 3 || (strcmp(words[2], "delete") != 0 && strcmp(words[2], "wal") != 0 && strcmp(words[2], "marked") != 0))
+        stop("usage: baseline FILE delete|wal|marked");
     open_base(words[1], words[2]);
     read_last();
     while (getline(&line, &capacity, stdin) > 0) {

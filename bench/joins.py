@@ -24,8 +24,9 @@ alternate between the sides. A request that takes more than 10 milliseconds is n
 
 Then the acts, in milliseconds, one at a time, with the sides taking turns: the median of the medians of five runs, and the mean CPU time,
 on a keep-alive connection and with a new connection per request. The baseline runs the reads and writes of the act in one transaction,
-plans nothing, and gets the values to write. All three wait for the disk at each commit, which strace counts if it is installed, and `land
-check` validates all files afterwards. PostgreSQL or the baseline is skipped if it is not installed or cannot be built.
+plans nothing, and gets the values to write. It has two columns: with one sync per commit, and with two, as `land` has (baseline.c, marked);
+Python has one. strace counts the syncs if it is installed, and `land check` validates all files afterwards. PostgreSQL or the baseline is
+skipped if it is not installed or cannot be built.
 """
 import contextlib
 import glob
@@ -538,6 +539,8 @@ def without_log(file):
     return file
 
 
+# The journals of the baseline for acts, each with the head of its column.
+BASELINES = {"wal": "C SQLite: no HTTP, JSON, policy", "marked": "C SQLite, two syncs per commit"}
 KINDS = ("enrolment", "registration", "filing, by 20 lodgers in turn", "approval", "filing, by the lodger of all earlier ones")
 
 
@@ -552,14 +555,16 @@ def run_of_acts(sides, known, tag):
 def acts(file, known, program):
     """Prints the table of acts, which change the files. Returns for each act its name, the kind of connection, and the figures of
     `land`."""
+    journals = BASELINES if program else {}
+    files = [shutil.copy(file, f"{file}.{journal}") for journal in journals]
     services = [land(file), python(file + ".python")]
-    baseline = texts.Baseline([program, file + ".baseline", "wal"]) if program else None
-    names = ["`land`: HTTP, policy, JSON", *(["C SQLite: no HTTP, JSON, policy"] if baseline else []), "Python: HTTP, JSON, few checks"]
+    baselines = [texts.Baseline([program, *call]) for call in zip(files, journals)]
+    names = ["`land`: HTTP, policy, JSON", *journals.values(), "Python: HTTP, JSON, few checks"]
     print("\n" + header(["act", "connection", *(word for name in names for word in (name, "CPU time"))]))
     figures = []
     for is_keep_alive, way in ((True, "keep-alive"), (False, "new")):
         mine, theirs = (Served(service, is_keep_alive) for service in services)
-        sides = [mine, *([InProcess(baseline)] if baseline else []), theirs]
+        sides = [mine, *map(InProcess, baselines), theirs]
         runs = [run_of_acts(sides, known, f"{way} {run}") for run in range(RUNS)]
         for side in sides:
             side.stop()
@@ -569,10 +574,10 @@ def acts(file, known, program):
             figures.append((name, way, *row[:2]))
     for service in services:
         service.stop()
-    if baseline:
+    for baseline in baselines:
         baseline.stop()
     check(file)
-    for other in ([file + ".baseline"] if baseline else []) + [file + ".python"]:
+    for other in [*files, file + ".python"]:
         check(without_log(other))
     return figures
 
@@ -608,8 +613,8 @@ def waits_of_land(file, count):
     return counted(file + ".log")
 
 
-def waits_of_baseline(file, count, program):
-    baseline = texts.Baseline([*traced(file + ".log"), program, file, "wal"])
+def waits_of_baseline(file, count, program, journal):
+    baseline = texts.Baseline([*traced(file + ".log"), program, file, journal])
     enrol_all(InProcess(baseline), count)
     baseline.stop()
     return counted(file + ".log")
@@ -622,11 +627,11 @@ def waits(file, program):
         print("\nWaits for the disk are not counted: strace is not installed")
         return
     print("\n## Waits for the disk when a file is opened, receives enrolments and is closed, by `strace`\n")
-    print(header(["enrolments", "`land`: fsync, fdatasync", "C SQLite: fsync, fdatasync"]))
+    print(header(["enrolments", "`land`: fsync, fdatasync", "C SQLite: fsync, fdatasync", "with two syncs"]))
     for count in (0, ACTS, 2 * ACTS):
         mine = waits_of_land(shutil.copy(file, f"{file}.{count}"), count)
-        theirs = waits_of_baseline(shutil.copy(file, f"{file}.{count}.baseline"), count, program)
-        print(f"| {count} | {mine} | {theirs} |", flush=True)
+        theirs = (waits_of_baseline(shutil.copy(file, f"{file}.{count}.{journal}"), count, program, journal) for journal in BASELINES)
+        print(f"| {count} | {mine} | {' | '.join(theirs)} |", flush=True)
 
 
 def main():
