@@ -16,7 +16,8 @@ acts        An enrolment, a registration, a filing and an approval, by `land ser
 listing     A notary's list of all 2,500 units of a file with 10,000 entries, by `land serve`, from ten and twenty lists.
 reads       Each read of bench/joins.py on a file with 1,000 entries, by `land serve` and by the baseline in C (baseline.c), which runs the
             same SQL statements: from twenty and forty reads. The ratio is that of `land` without HTTP, that is, without the instructions of
-            a request for an unknown path. It needs cc and sqlite3.h.
+            a request for an unknown path. The last column is its ratio to the baseline on the statements that version 0.4.0 ran, if there
+            is a target for it. It needs cc and sqlite3.h.
 opening     `land check` of a file with 10,000 changes, as in bench/check.py: a party and its unit in turn.
 
 Valgrind's callgrind counts the instructions of the process, without the kernel (which reads, writes and waits for the disk) and without
@@ -305,6 +306,12 @@ def of_baseline(folder, program, file, plan, count):
     return sum(read(out)[0].values())
 
 
+def instructions_of_baseline(folder, program, file, plan):
+    """Returns the instructions of one run of a read by the baseline."""
+    few, many = (of_baseline(folder, program, file, plan, count) for count in (READS, 2 * READS))
+    return (many - few) / READS / RUNS_OF_BASELINE
+
+
 def reads(folder):
     missing = texts.missing()
     if missing:
@@ -314,19 +321,20 @@ def reads(folder):
     known = registers.of_entries(file, FEW_ENTRIES)
     copy = shutil.copy(file, f"{file}.baseline")
     print(f"\nThousands of instructions per read, `land serve` and C SQLite, with {FEW_ENTRIES:,} entries:\n")
-    row("request", "`land`", "C SQLite", "`land` without HTTP / C SQLite")
-    print("|---" * 4 + "|")
+    row("request", "`land`", "C SQLite", "`land` without HTTP / C SQLite", "/ C SQLite on the statements of 0.4.0")
+    print("|---" * 5 + "|")
     for party, role, name, path in [*joins.requests_of(known), (known["owner"], "citizen", "view own unit", f"/units/{known['unit']}")]:
-        request, plan = joins.head("GET", path, party, role), (f"{role}: {name}", 0, *joins.values(known, party, path))
+        request, values = joins.head("GET", path, party, role), joins.values(known, party, path)
         few, many = (of_server(folder, file, request, count) for count in (READS, 2 * READS))
         mine = (many - few) / READS
         if http is None:
             http = mine
-            row(f"{role}: {name}", f"{mine / 1000:,.1f}", "-", "-")
+            row(f"{role}: {name}", f"{mine / 1000:,.1f}", "-", "-", "-")
             continue
-        few, many = (of_baseline(folder, program, copy, plan, count) for count in (READS, 2 * READS))
-        theirs = (many - few) / READS / RUNS_OF_BASELINE
-        row(f"{role}: {name}", f"{mine / 1000:,.1f}", f"{theirs / 1000:,.1f}", f"{(mine - http) / theirs:.2f}")
+        plans = [f"{role}: {name}", *([texts.earlier(role, name)] if (role, name) in texts.EARLIER else [])]
+        theirs = [instructions_of_baseline(folder, program, copy, (plan, 0, *values)) for plan in plans]
+        ratios = [f"{(mine - http) / it:.2f}" for it in theirs]
+        row(f"{role}: {name}", f"{mine / 1000:,.1f}", f"{theirs[0] / 1000:,.1f}", *ratios, *["-"] * (2 - len(ratios)))
 
 
 PROFILES = {"talk": partial(requests, talk), "serve": partial(requests, serve), "acts": acts, "listing": listing, "reads": reads,

@@ -85,6 +85,16 @@ READS = {
     ("citizen", "list all parcels"): ["all/PARCELS $1 now"],                                  # SightQuery, which has no circle for parcels
 }
 
+# The statements that version 0.4.0 ran for the reads of which SPEED.md states a target. It looked up the roles of the caller each time.
+CALLER = [f"ROLES_OF_PARTY $1 {LAST}"]
+EARLIER = {
+    ("citizen", "list own units"): [*CALLER, *of_circle("holder/UNITS", "group/UNITS")],
+    ("citizen", "view a visible entry"): [*CALLER, *ENTRY, *GROUPS],
+    ("citizen", "view own unit"): [*CALLER, *UNIT, *GROUPS, *RECORD],
+    ("bank", "view own mortgage"): [*CALLER, *ENTRY],
+    ("notary", "view an entry"): [*CALLER, "ENTRY $2 now"],
+}
+
 
 def begun(table, number, *cells):
     """The first version of a new object (land_tables_rows, change_writing::all::change)."""
@@ -122,11 +132,17 @@ def definitions():
     """Returns the lines that define all statements and plans for the baseline."""
     lines = [f"sql\t{name}\t{sql}" for name, sql in STATEMENTS.items()]
     plans = [*((": ".join(read), 0, steps) for read, steps in READS.items()),
+             *((earlier(*read), 0, steps) for read, steps in EARLIER.items()),
              *((act, count, steps) for act, (count, steps) in ACTS.items())]
     for name, count, steps in plans:
         lines.append(f"plan\t{name}\t{count}")
         lines += ["\t".join(([] if step.startswith("each ") else ["run"]) + step.split(" ")) for step in steps]
     return lines
+
+
+def earlier(role, name):
+    """Returns the name of the steps by which version 0.4.0 ran a read."""
+    return f"{role}: {name}, in 0.4.0"
 
 
 def plan_of(role, name, known):
