@@ -13,7 +13,7 @@ use Rattle.land_acts.proofs.EndedEntries.{filter_map-kept, filter_within}
 use Rattle.land_acts.proofs.KeptEntries.{get-kept, kept_at, with_changes-kept}
 use Rattle.land_acts.proofs.MortgageSlices.{AgreeOnUnit}
 use Rattle.land_acts.specs.Mutations.ByContent.{transfer_change, transfer_made}
-use Rattle.land_acts.specs.Mutations.Transferring.{are_too_fine, are_too_many, ended_rights, increased_entry, right_of_receiver, has_right_where, right_at, right_in_unit, right_of_class, is_right_held_by, gives_to_itself, is_too_large, kept, move_change, entries_of_receiver, increased_share, remaining_share, transfer_refusals}
+use Rattle.land_acts.specs.Mutations.Transferring.{are_too_fine, are_too_many, ended_rights, increased_entry, right_of_receiver, has_right_where, right_at, right_in_unit, right_of_class, is_right_held_by, gives_to_itself, is_too_large, remaining_entry, move_change, entries_of_receiver, increased_share, remaining_share, transfer_refusals}
 use Rattle.land_acts.specs.declared.mutations.transfer.HeldRight.{HeldRight}
 use Rattle.land_core.proofs.Reflection.{entries-entries_where}
 use Rattle.land_core.specs.Changes.{after}
@@ -86,7 +86,7 @@ module _ (s r : Register) (it : Transfer) (agree : AgreeOnUnit s r it.unit) wher
   put_kept source from (Some to) = grown_kept source to (increased_share it to)
 
   all_kept : (source : ℕ) (from : HeldRight) (left : Result Ratio FractionFault) (to : Option HeldRight)
-      → AllByRecursion (λ e. agree.kept e.0 e.1 ≡ true) (kept source it from left ++ entries_of_receiver r source it from to)
+      → AllByRecursion (λ e. agree.kept e.0 e.1 ≡ true) (remaining_entry source it from left ++ entries_of_receiver r source it from to)
   all_kept source from (Ok share) to = (kept_entry from.number _ refl, put_kept source from to)
   all_kept source from (Err fault) to = put_kept source from to
 
@@ -94,7 +94,7 @@ module _ (s r : Register) (it : Transfer) (agree : AgreeOnUnit s r it.unit) wher
   entries_after source from =
       ap (λ change. with_changes s.rrrs change.put.rrrs change.ended.rrrs) (move_same source from)
       ∙ ap (λ m. with_changes m (move_change r source it from).put.rrrs (ended_rights from (remaining_share it from))) agree.entries
-      ∙ with_changes-kept agree.kept r.rrrs (kept source it from (remaining_share it from) ++ entries_of_receiver r source it from (right_of_receiver r it from)) (ended_rights from (remaining_share it from))
+      ∙ with_changes-kept agree.kept r.rrrs (remaining_entry source it from (remaining_share it from) ++ entries_of_receiver r source it from (right_of_receiver r it from)) (ended_rights from (remaining_share it from))
       (all_kept source from (remaining_share it from) (right_of_receiver r it from))
 
   shares_after : (source : ℕ) (from : HeldRight) (type : RightType) → type_shares (after (move_change s source it from) s) it.unit type ≡ type_shares (after (move_change r source it from) r) it.unit type

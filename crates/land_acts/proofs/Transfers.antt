@@ -16,7 +16,7 @@ use Rattle.land_acts.proofs.TransferSums.{apart_to, length-filter}
 use Rattle.land_acts.proofs.TransferWholes.{IsGrown, any_source, from_at_most_one, had_some, left_of, sum_kept, whole_kept}
 use Rattle.land_acts.specs.Mutations.Planning.{runs_out_of_numbers}
 use Rattle.land_acts.specs.Mutations.TransferLaws.{HasOneRight, IsRightOf}
-use Rattle.land_acts.specs.Mutations.Transferring.{are_too_fine, are_too_many, ended_rights, increased_entry, right_of_receiver, right_at, is_above, is_above_one, is_checked, gives_to_itself, is_too_fine, is_too_large, kept, move_change, number_after, entries_of_receiver, right_entry, increased_share, remaining_share}
+use Rattle.land_acts.specs.Mutations.Transferring.{are_too_fine, are_too_many, ended_rights, increased_entry, right_of_receiver, right_at, is_above, is_above_one, is_checked, gives_to_itself, is_too_fine, is_too_large, remaining_entry, move_change, number_after, entries_of_receiver, right_entry, increased_share, remaining_share}
 use Rattle.land_acts.specs.declared.mutations.transfer.HeldRight.{HeldRight}
 use Rattle.land_core.proofs.FiniteMaps.{none_is_not_some}
 use Rattle.land_core.proofs.RecordLookups.{by_look_ups}
@@ -59,7 +59,7 @@ number_of_right r (Some held) = held.number
 module _ (r : Register) (it : Transfer) (from : HeldRight) where
   -- the entries after the transfer, from the remaining share and the receiver's earlier right
   abbrev entries_after : (source : ℕ) → Result Ratio FractionFault → Option HeldRight → FinMap nat_cmp RrrRecord
-  entries_after source left to = with_changes r.rrrs (kept source it from left ++ entries_of_receiver r source it from to) (ended_rights from left)
+  entries_after source left to = with_changes r.rrrs (remaining_entry source it from left ++ entries_of_receiver r source it from to) (ended_rights from left)
 
   abbrev register_after : (source : ℕ) → Option HeldRight → Register
   register_after source to = record r { rrrs = entries_after source (remaining_share it from) to; next = number_after r to }
@@ -85,7 +85,7 @@ module _ (r : Register) (it : Transfer) (from : HeldRight) where
 
         both_changed : (left : Result Ratio FractionFault) → entries_after source left to ≡ map.insert (one_changed left) number entry
         both_changed (Ok s) =
-            ap (λ (put : List (ℕ × RrrRecord)). with_changes r.rrrs (kept source it from (Ok s) ++ put) []) got
+            ap (λ (put : List (ℕ × RrrRecord)). with_changes r.rrrs (remaining_entry source it from (Ok s) ++ put) []) got
         both_changed (Err fault) =
             ap (λ (put : List (ℕ × RrrRecord)). with_changes r.rrrs put (from.number ∷ [])) got
 
@@ -353,7 +353,7 @@ two_apart k j apart = ap (λ b. not (b || false) && true) (ne_eqb k j apart)
 
 module _ (r : Register) (source : ℕ) (it : Transfer) (from : HeldRight) where
   abbrev numbers : Result Ratio FractionFault → List (ℕ × RrrRecord) → List ℕ
-  numbers left put = map_list (λ e. e.0) (kept source it from left ++ put) ++ ended_rights from left
+  numbers left put = map_list (λ e. e.0) (remaining_entry source it from left ++ put) ++ ended_rights from left
 
   once_with : (left : Result Ratio FractionFault) (e : ℕ × RrrRecord) → from.number ≢ e.0 → are_distinct nat_eq (numbers left (e ∷ [])) ≡ true
   once_with (Ok share) e apart = two_apart from.number e.0 apart

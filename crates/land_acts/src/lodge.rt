@@ -138,7 +138,7 @@ pub(crate) fn plan_of(
     let source = slice.next;
     let number = source + 1;
     let sources = document_source(alloc, source, document_kind(&it.content), &it.document)?;
-    let mutation = lodged(alloc, caller, it, source, stamp)?;
+    let mutation = new_mutation(alloc, caller, it, source, stamp)?;
     let mutations = Sequence::of_one(alloc, (number, mutation))?;
     let made = two_numbers(alloc, source, number)?;
     let mut change = Change::nothing(alloc, source + 2);
@@ -167,7 +167,7 @@ fn document_kind(content: &Content) -> SourceKind
 }
 
 /// Returns the new mutation, undecided.
-fn lodged(
+fn new_mutation(
     alloc: Global,
     caller: Caller,
     it: &Lodging,

@@ -3,7 +3,7 @@ use Rattle.std.proofs.Common.{◌≡◌, ℕ, true, false, List, [], take, inl, 
 use Rattle.std.specs.Io.KnownBytes.{Appends}
 use Rattle.land_core.specs.declared.ask.Request.{Request}
 use Rattle.land_desk.proofs.Moving.{reply_steps}
-use Rattle.land_desk.specs.Serving.{Exchange, ForwardSimulation, MayStep, ServesItem, Transition, closing}
+use Rattle.land_desk.specs.Serving.{Exchange, ForwardSimulation, MayStep, ServesItem, Transition, is_closing}
 use Rattle.land_desk.specs.Turns.{ServesNext}
 use Rattle.land_desk.specs.declared.next_item.AfterItem.{AfterItem}
 use Rattle.land_desk.specs.declared.next_item.AfterItem.TheVariants as next_item
@@ -18,10 +18,10 @@ abbrev pub ServesKnown : {C : Type 0} → Transition C → List ℕ → State C 
 ServesKnown step bytes from to left old new (Ok next_item.Eof) = (bytes ≡ []) × (to ≡ from)
     × Appends old new []
 ServesKnown step bytes from to left old new (Ok next_item.Close) =
-    (x : Exchange) × (rest : List ℕ) × ServesItem step bytes from x rest to × (closing x ≡ true)
+    (x : Exchange) × (rest : List ℕ) × ServesItem step bytes from x rest to × (is_closing x ≡ true)
     × Appends old new x.sent
 ServesKnown step bytes from to left old new (Ok next_item.KeepAlive) =
-    (x : Exchange) × (rest : List ℕ) × ServesItem step bytes from x rest to × (closing x ≡ false)
+    (x : Exchange) × (rest : List ℕ) × ServesItem step bytes from x rest to × (is_closing x ≡ false)
     × Appends old new x.sent × (left ≡ Some rest)
 ServesKnown step bytes from to left old new (Err desk.Write) =
     (x : Exchange) × (rest : List ℕ) × (n : ℕ) × ServesItem step bytes from x rest to

@@ -5,7 +5,7 @@ use Rattle.std.specs.Io.KnownBytes.{Appends, prepend_known}
 use Rattle.std.proofs.KnownBytes.{Appends-trans, Appends-nil}
 use Rattle.std.proofs.lemmas.Bool.{false≢true}
 use Rattle.land_core.specs.declared.ask.Request.{Request}
-use Rattle.land_desk.specs.Serving.{Exchange, ServesItem, ServesPrefix, ServesAll, Serves, ServesItemsInOrder, HasServed, closes, closing, all_sent}
+use Rattle.land_desk.specs.Serving.{Exchange, ServesItem, ServesPrefix, ServesAll, Serves, ServesItemsInOrder, HasServed, closes, is_closing, all_sent}
 use Rattle.land_desk.specs.Serving.Asking.{IfBoth}
 use Rattle.land_desk.proofs.KnownNext.{ServesKnown}
 use Rattle.land_desk.specs.declared.serve.DeskFault.{DeskFault}
@@ -19,7 +19,7 @@ use Rattle.land_wire.specs.Framing.Items.{Item, request, faulty, AreItems, IsIte
 
 module _ {C : Type 0} (step : State C → Request → Reply → State C → Type 0) where
   goes_more : (bytes rest mid : List ℕ) (from now to : State C) (xs : List Exchange) (x : Exchange)
-      → ServesPrefix step bytes from xs rest now → ServesItem step rest now x mid to → closing x ≡ false
+      → ServesPrefix step bytes from xs rest now → ServesItem step rest now x mid to → is_closing x ≡ false
       → ServesPrefix step bytes from (xs ++ x ∷ []) mid to
   goes_more bytes rest mid from now to [] x so one stays =
       let here = subst (λ (t : List ℕ). ServesItem step t from x mid to) so.0 (subst (λ (s : State C). ServesItem step rest s x mid to) so.1 one) in
@@ -36,7 +36,7 @@ module _ {C : Type 0} (step : State C → Request → Reply → State C → Type
 
   -- the connection closes
   goes_to_last : (bytes rest mid : List ℕ) (from now to : State C) (xs : List Exchange) (x : Exchange)
-      → ServesPrefix step bytes from xs rest now → ServesItem step rest now x mid to → closing x ≡ true
+      → ServesPrefix step bytes from xs rest now → ServesItem step rest now x mid to → is_closing x ≡ true
       → ServesAll step bytes from (xs ++ x ∷ []) to
   goes_to_last bytes rest mid from now to [] x so one close_after =
       let here = subst (λ (t : List ℕ). ServesItem step t from x mid to) so.0 (subst (λ (s : State C). ServesItem step rest s x mid to) so.1 one) in
@@ -156,7 +156,7 @@ module _ {C : Type 0} (step : State C → Request → Reply → State C → Type
   served_items bytes from to (x ∷ xs) [] s a = absurd (no_item x.item s.0 (subst (λ (t : List ℕ). IsItem t x.item s.0) a s.2.0))
   served_items bytes from to (x ∷ xs) (y ∷ ys) s a =
       let same = item_unique bytes x.item y s.0 a.0 s.2.0 a.1 in
-      elim (either (closing x)) as (λ _. (more : List Item) × (y ∷ ys ≡ x.item ∷ (map (λ z. z.item) xs ++ more))) [
+      elim (either (is_closing x)) as (λ _. (more : List Item) × (y ∷ ys ≡ x.item ∷ (map (λ z. z.item) xs ++ more))) [
         | inl e ↦ (ys, λ i. sym same.0 i ∷ ap (λ (l : List Exchange). map (λ z. z.item) l ++ ys) (sym (s.3 e).0) i)
         | inr e ↦ let after = a.3 (ap is_last (sym same.0) ∙ not_last (is_last x.item) (closes x.reply) e) in
             let tail = served_items s.0 s.1 to xs ys (s.4 e) (subst (λ (t : List ℕ). AreItems t ys) (sym same.1) after) in

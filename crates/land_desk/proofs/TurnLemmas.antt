@@ -7,7 +7,7 @@ use Rattle.std.proofs.lemmas.Bool.{false≢true}
 use Rattle.httparse.specs.declared.spans.HeaderSpan.{HeaderSpan}
 use Rattle.httparse.specs.declared.spans.RequestSpans.{RequestSpans}
 use Rattle.land_core.specs.declared.ask.Request.{Request}
-use Rattle.land_desk.specs.Serving.{AnswersItem, Exchange, ForwardSimulation, HandlesOr501, closing}
+use Rattle.land_desk.specs.Serving.{AnswersItem, Exchange, ForwardSimulation, HandlesOr501, is_closing}
 use Rattle.land_desk.specs.Serving.Asking.{IfBoth}
 use Rattle.land_desk.specs.Turns.{IsResponseTo, AnswersFirst, ServesNext, SendsResponse, wire_bytes, after_reply}
 use Rattle.land_desk.specs.declared.handler.Response.{Response}
@@ -54,7 +54,7 @@ module _ {C : Type 0} (step : State C → Request → Reply → State C → Type
   if_map (Some bytes) P Q next holds = next bytes holds
 
   -- an exchange is over once its response was sent; the connection stays open if the response does not close it
-  sends_all : (input left u v : Option (List ℕ)) (from to : State C) (x : Exchange) (closes : Bool) → closing x ≡ closes → AnswersItem step from x to
+  sends_all : (input left u v : Option (List ℕ)) (from to : State C) (x : Exchange) (closes : Bool) → is_closing x ≡ closes → AnswersItem step from x to
       → IfSome input (λ bytes. (rest : List ℕ) × IsItem bytes x.item rest)
       → (closes ≡ false → IfBoth input left (λ bytes rest. IsItem bytes x.item rest))
       → Appends u v x.sent → ServesNext step input left from to u v (Ok (after_reply closes))
@@ -62,7 +62,7 @@ module _ {C : Type 0} (step : State C → Request → Reply → State C → Type
   sends_all input left u v from to x false is answers item more wrote = (x, answers, more refl, is, wrote)
 
   sends_exchange : (input left u v : Option (List ℕ)) (from to : State C) (x : Exchange) (a : Response) (result : Result AfterItem DeskFault)
-      → AnswersItem step from x to → x.sent ≡ wire_bytes a.bytes → closing x ≡ a.close_after
+      → AnswersItem step from x to → x.sent ≡ wire_bytes a.bytes → is_closing x ≡ a.close_after
       → IfSome input (λ bytes. (rest : List ℕ) × IsItem bytes x.item rest)
       → (a.close_after ≡ false → IfBoth input left (λ bytes rest. IsItem bytes x.item rest))
       → SendsResponse (wire_bytes a.bytes) a.close_after u v result → ServesNext step input left from to u v result

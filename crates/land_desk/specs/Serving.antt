@@ -45,8 +45,8 @@ pub record Exchange : Type 0 where
   pub sent : List ℕ
 
 -- The connection is closed after it, because of the item or of the reply.
-abbrev pub closing : Exchange → Bool
-closing x = is_last x.item || closes x.reply
+abbrev pub is_closing : Exchange → Bool
+is_closing x = is_last x.item || closes x.reply
 
 -- All bytes written for these items.
 abbrev pub all_sent : List Exchange → List ℕ
@@ -124,20 +124,20 @@ ReachesSome {C} step from stands = (to : State C) × Reachable step from to × s
 -- An item of any stream gets this reply, and its response is sent.
 abbrev pub AnswersItem : {C : Type 0} → Transition C → State C → Exchange → State C → Type 0
 AnswersItem step from x to =
-    RepliesTo step from x.item x.reply to × IsResponse x.reply (closing x) (is_head_request x.item) x.sent
+    RepliesTo step from x.item x.reply to × IsResponse x.reply (is_closing x) (is_head_request x.item) x.sent
 
 -- The first item of the bytes gets this reply, and its response is sent. `rest` follows the item.
 abbrev pub ServesItem : {C : Type 0} → Transition C → List ℕ → State C → Exchange → List ℕ → State C → Type 0
 ServesItem step bytes from x rest to =
     IsItem bytes x.item rest × RepliesTo step from x.item x.reply to
-    × IsResponse x.reply (closing x) (is_head_request x.item) x.sent
+    × IsResponse x.reply (is_closing x) (is_head_request x.item) x.sent
 
 -- These items are answered in order, and none of them closes the connection. `rest` follows them.
 abbrev pub ServesPrefix : {C : Type 0} → Transition C → List ℕ → State C → List Exchange → List ℕ → State C
     → Type 0
 ServesPrefix step bytes from [] rest to = (rest ≡ bytes) × (to ≡ from)
 ServesPrefix {C} step bytes from (x ∷ xs) rest to =
-    (mid : List ℕ) × (next : State C) × ServesItem step bytes from x mid next × (closing x ≡ false)
+    (mid : List ℕ) × (next : State C) × ServesItem step bytes from x mid next × (is_closing x ≡ false)
     × ServesPrefix step mid next xs rest to
 
 -- The items of the bytes are answered, until no byte is left or one of them closes the connection.
@@ -145,7 +145,7 @@ abbrev pub ServesAll : {C : Type 0} → Transition C → List ℕ → State C �
 ServesAll step bytes from [] to = (bytes ≡ []) × (to ≡ from)
 ServesAll {C} step bytes from (x ∷ xs) to =
     (mid : List ℕ) × (next : State C) × ServesItem step bytes from x mid next
-    × (closing x ≡ true → (xs ≡ []) × (to ≡ next)) × (closing x ≡ false → ServesAll step mid next xs to)
+    × (is_closing x ≡ true → (xs ≡ []) × (to ≡ next)) × (is_closing x ≡ false → ServesAll step mid next xs to)
 
 -- This number of items was answered, exactly their responses were written, and `rest` follows them.
 abbrev pub HasServed : {C : Type 0} → Transition C → (bytes rest : List ℕ) → (from to : State C)

@@ -4,7 +4,7 @@ use Rattle.std.specs.Prelude.{take}
 use Rattle.std.specs.Prelude.{◌⊎◌, Option, Some, Result, Ok, Err, IfErr, IfOk, IfSome}
 use Rattle.std.specs.Io.KnownBytes.{Appends, Keeps, prepend_known}
 use Rattle.land_desk.specs.Responses.{IsResponse}
-use Rattle.land_desk.specs.Serving.{AnswersItem, Exchange, ServesItem, Transition, closes, closing}
+use Rattle.land_desk.specs.Serving.{AnswersItem, Exchange, ServesItem, Transition, closes, is_closing}
 use Rattle.land_desk.specs.Serving.Asking.{ReadsForFirst, IfBoth}
 use Rattle.land_desk.specs.declared.handler.Response.{Response}
 use Rattle.land_desk.specs.declared.handler.ResponseBytes.{ResponseBytes}
@@ -35,7 +35,7 @@ abbrev pub AnswersFirst : {C : Type 0} → Transition C → List ℕ → State C
     → Type 0
 AnswersFirst step bytes from a rest to =
     (x : Exchange) × ServesItem step bytes from x rest to × (x.sent ≡ wire_bytes a.bytes)
-    × (closing x ≡ a.close_after)
+    × (is_closing x ≡ a.close_after)
 
 -- What to do after a response.
 abbrev pub after_reply : (close_after : Bool) → AfterItem
@@ -59,11 +59,11 @@ ServesNext step input left from to old new (Ok next_item.Eof) =
     IfSome input (λ bytes. bytes ≡ []) × (to ≡ from) × Appends old new []
 ServesNext step input left from to old new (Ok next_item.Close) =
     (x : Exchange) × AnswersItem step from x to
-    × IfSome input (λ bytes. (rest : List ℕ) × IsItem bytes x.item rest) × (closing x ≡ true)
+    × IfSome input (λ bytes. (rest : List ℕ) × IsItem bytes x.item rest) × (is_closing x ≡ true)
     × Appends old new x.sent
 ServesNext step input left from to old new (Ok next_item.KeepAlive) =
     (x : Exchange) × AnswersItem step from x to
-    × IfBoth input left (λ bytes rest. IsItem bytes x.item rest) × (closing x ≡ false)
+    × IfBoth input left (λ bytes rest. IsItem bytes x.item rest) × (is_closing x ≡ false)
     × Appends old new x.sent
 ServesNext step input left from to old new (Err desk.Write) =
     (x : Exchange) × AnswersItem step from x to

@@ -16,7 +16,7 @@ use Rattle.land_digest.specs.Rows.{mandate_row, member_row, mutation_row, naming
 use Rattle.land_digest.specs.Rows.{role_row, rrr_row, source_row, unit_row}
 use Rattle.land_digest.specs.Versions.{Row, end_of, moment_event, moment_events, start_of, table_events}
 use Rattle.land_digest.specs.Versions.{version_events}
-use Rattle.land_tables_history.specs.Changed.{changed, changed_part, changed_versions, closed_version}
+use Rattle.land_tables_history.specs.Changed.{changed_history, changed_part, changed_versions, closed_version}
 use Rattle.land_tables_history.specs.Changed.{is_among, is_changed, listed_members, named_by, new_mutations}
 use Rattle.land_tables_history.specs.Changed.{opened_version}
 use Rattle.land_tables_history.specs.Open.{never}
@@ -110,7 +110,7 @@ module _ (t stamp : ℤ) (less : t <ℤ stamp) (early : t <ℤ never) where
 pub appending_keeps_text : AppendingKeepsText
 appending_keeps_text moments h next change stamp t less early =
     ap (λ es. events_text (in_order es))
-    (joined_kept t stamp less early (event_lists (moment ∷ moments) (changed next change stamp h))
+    (joined_kept t stamp less early (event_lists (moment ∷ moments) (changed_history next change stamp h))
     (event_lists moments h) all)
   where
     moment : Moment
@@ -123,7 +123,7 @@ appending_keeps_text moments h next change stamp t less early =
     part_kept row put ended vs = kept t stamp less early row put (λ e. is_changed put ended e.0) vs
 
     all : AreKept t stamp less early
-        (event_lists (moment ∷ moments) (changed next change stamp h)) (event_lists moments h)
+        (event_lists (moment ∷ moments) (changed_history next change stamp h)) (event_lists moments h)
     all =
         also (kept_moments t stamp less early moment moments refl)
         (also (part_kept party_row change.put.parties change.ended.parties h.parties)

@@ -11,7 +11,7 @@ use Rattle.land_digest.specs.Events.{events_upto, have_distinct_places}
 use Rattle.land_digest.specs.History.{history_events, history_text}
 use Rattle.land_digest.specs.Known.{history_upto, moments_upto}
 use Rattle.land_shape.specs.Outline.{IsOutline}
-use Rattle.land_tables_history.specs.Changed.{changed}
+use Rattle.land_tables_history.specs.Changed.{changed_history}
 use Rattle.land_tables_history.specs.History.{IsRegisterAt}
 use Rattle.land_tables_history.specs.Intervals.{has_intervals}
 use Rattle.land_tables_history.specs.Open.{never}
@@ -60,7 +60,8 @@ pub record HaveSameVersions (h k : History) : Type 0 where
 abbrev pub AppendingKeepsText : Type 0
 AppendingKeepsText =
     (moments : List Moment) (h : History) (next : ℕ) (change : Change) (stamp t : ℤ) → t <ℤ stamp → t <ℤ never
-    → history_text (record { stamp = stamp; next = change.next } ∷ moments) (changed next change stamp h) t
+    → history_text (record { stamp = stamp; next = change.next } ∷ moments)
+    (changed_history next change stamp h) t
     ≡ history_text moments h t
 
 -- the moments and the versions up to a stamp are the same, and so is the register at each moment up to it

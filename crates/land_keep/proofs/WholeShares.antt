@@ -16,7 +16,7 @@ use Rattle.land_core.specs.declared.register.Register.{Register}
 use Rattle.land_core.specs.declared.soundness.Unsound.TheVariants.{Group, Shares}
 use Rattle.land_keep.proofs.Timelines.{written_sound}
 use Rattle.land_keep.specs.Laws.{ChangesKeepSharesWhole, HasWholeShares, SharesAreWhole}
-use Rattle.land_keep.specs.Machine.{written}
+use Rattle.land_keep.specs.Machine.{written_timeline}
 use Rattle.land_keep.specs.Timeline.{Timeline}
 use Rattle.land_keep.specs.declared.timeline.Version.{Version}
 
@@ -55,4 +55,4 @@ pub shares_are_whole : SharesAreWhole
 shares_are_whole tl t sound = found_whole t tl None nothing_whole sound.sound
 
 pub changes_keep_shares_whole : ChangesKeepSharesWhole
-changes_keep_shares_whole tl change stamp t sound can = shares_are_whole (written tl change stamp) t (written_sound tl change stamp sound can)
+changes_keep_shares_whole tl change stamp t sound can = shares_are_whole (written_timeline tl change stamp) t (written_sound tl change stamp sound can)

@@ -10,7 +10,7 @@ use Rattle.land_core.specs.Numbers.{IsMoment, last_moment}
 use Rattle.land_core.specs.declared.ask.Ask.{Ask}
 use Rattle.land_core.specs.declared.ask.Request.{Request}
 use Rattle.land_core.specs.declared.change.Change.{Change}
-use Rattle.land_keep.specs.Machine.{StepOrFault, Next, Run, State, at_of, step, written}
+use Rattle.land_keep.specs.Machine.{StepOrFault, Next, Run, State, at_of, step, written_timeline}
 use Rattle.land_keep.specs.Timeline.{Timeline, last_stamp, last_register}
 use Rattle.land_keep.specs.declared.prepared.Prepared.{Prepared}
 use Rattle.land_keep.specs.declared.prepared.Writing.{Writing}
@@ -45,7 +45,7 @@ pub record CanWrite (tl : Timeline) (change : Change) (stamp : ℤ) : Type 0 whe
 
 abbrev pub apply_pending : Option Writing → Timeline → Timeline
 apply_pending None tl = tl
-apply_pending (Some w) tl = written tl w.change w.stamp
+apply_pending (Some w) tl = written_timeline tl w.change w.stamp
 
 -- a prepared reply can be finished on a timeline
 abbrev pub CanFinish : Prepared → Timeline → Type 0

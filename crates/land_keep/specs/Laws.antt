@@ -11,7 +11,7 @@ use Rattle.land_core.specs.declared.party.PartyRecord.{PartyRecord}
 use Rattle.land_core.specs.declared.register.Register.{Register}
 use Rattle.land_core.specs.declared.unit.UnitRecord.{UnitRecord}
 use Rattle.land_keep.specs.Keeping.{CanWrite, Closes}
-use Rattle.land_keep.specs.Machine.{step, written, now_of, moment_of}
+use Rattle.land_keep.specs.Machine.{step, written_timeline, now_of, moment_of}
 use Rattle.land_keep.specs.Timeline.{Timeline, IsSoundTimeline, register_at, last_register}
 use Rattle.land_keep.specs.declared.store_fault.StoreFault.{StoreFault}
 use Rattle.land_keep.specs.declared.store_fault.StoreFault.TheVariants.{NoMemory}
@@ -20,17 +20,17 @@ use Rattle.land_rules.specs.Alike.{IsReadRequest, LookAlike}
 -- a timeline stays sound after a change that may be written
 abbrev pub WritingKeepsSound : Type 0
 WritingKeepsSound = (tl : Timeline) (change : Change) (stamp : ℤ) → IsSoundTimeline tl
-    → CanWrite tl change stamp → IsSoundTimeline (written tl change stamp)
+    → CanWrite tl change stamp → IsSoundTimeline (written_timeline tl change stamp)
 
 -- a change leaves the register at each moment before its stamp unchanged
 abbrev pub PastStays : Type 0
 PastStays = (tl : Timeline) (change : Change) (stamp t : ℤ) → t <ℤ stamp
-    → register_at (written tl change stamp) t ≡ register_at tl t
+    → register_at (written_timeline tl change stamp) t ≡ register_at tl t
 
 -- a change applies from its stamp
 abbrev pub ChangeApplies : Type 0
 ChangeApplies = (tl : Timeline) (change : Change) (stamp t : ℤ) → stamp ≤ℤ t
-    → register_at (written tl change stamp) t ≡ after change (last_register tl)
+    → register_at (written_timeline tl change stamp) t ≡ after change (last_register tl)
 
 -- in each checked unit the shares of each type of right that occurs sum to 1, and so do those of each group's
 -- members
@@ -47,7 +47,7 @@ SharesAreWhole = (tl : Timeline) (t : ℤ) → IsSoundTimeline tl → HasWholeSh
 -- after each accepted change, at each moment of the new timeline, all checked shares are whole
 abbrev pub ChangesKeepSharesWhole : Type 0
 ChangesKeepSharesWhole = (tl : Timeline) (change : Change) (stamp t : ℤ) → IsSoundTimeline tl
-    → CanWrite tl change stamp → HasWholeShares (register_at (written tl change stamp) t)
+    → CanWrite tl change stamp → HasWholeShares (register_at (written_timeline tl change stamp) t)
 
 -- if a keeper is open after a call, as one in memory always is, the only fault it can return is 501 (out of
 -- memory), never 502 or 503

@@ -67,12 +67,13 @@ sheet_reply None = reply.Denied 27
 sheet_reply (Some it) = reply.Sheet it
 
 -- the timeline with a change of the last register appended
-abbrev pub written : Timeline → Change → ℤ → Timeline
-written tl change stamp = tl ++ record { stamp = stamp; register = after change (last_register tl) } ∷ []
+abbrev pub written_timeline : Timeline → Change → ℤ → Timeline
+written_timeline tl change stamp =
+    tl ++ record { stamp = stamp; register = after change (last_register tl) } ∷ []
 
 -- the result of an allowed act: a change applies from the stamp that its receipt states
 abbrev pub outcome_next : Result Planned Refusal → Timeline → Next
-outcome_next (Ok (New change done)) tl = (reply.Done done, written tl change done.stamp)
+outcome_next (Ok (New change done)) tl = (reply.Done done, written_timeline tl change done.stamp)
 outcome_next (Ok (Repeat done)) tl = (reply.Done done, tl)
 outcome_next (Err refusal) tl = (reply.Refused (number_of refusal), tl)
 

@@ -4,7 +4,7 @@ ghost use Rattle.land_acts.specs.Slices.{needed_slice_of, slice_of};
 ghost use Rattle.land_core.specs.Numbers.{last_moment};
 ghost use Rattle.land_core.specs.Register.{object_at};
 ghost use Rattle.land_keep.specs.Keeping.{Closes, CanWrite, IsHonestAndOpen};
-ghost use Rattle.land_keep.specs.Machine.{verdict_at, moment_of, written};
+ghost use Rattle.land_keep.specs.Machine.{verdict_at, moment_of, written_timeline};
 ghost use Rattle.land_keep.specs.Named.{objects_at};
 ghost use Rattle.land_keep.specs.Sheets.{view_at};
 ghost use Rattle.land_keep.specs.Timeline.{Timeline, IsSoundTimeline, last_stamp, last_register, register_at};
@@ -161,7 +161,7 @@ pub trait Keeper {
         requires { IsHonestAndOpen (honest self.old) (closed self.old)
             → CanWrite (timeline self.old) change.now stamp }
         ensures ok { IsHonestAndOpen (honest self.new) (closed self.new)
-            → OnOk result (timeline self.new ≡ written (timeline self.old) change.now stamp) }
+            → OnOk result (timeline self.new ≡ written_timeline (timeline self.old) change.now stamp) }
         ensures err { IsHonestAndOpen (honest self.new) (closed self.new)
             → OnErr result (timeline self.new ≡ timeline self.old) }
         ensures was { honest self.new → honest self.old }

@@ -1,6 +1,6 @@
 //! Objects in lists, each with the name of its party.
 ghost use Rattle.std.specs.Prelude.{◌≡◌, IfOk};
-ghost use Rattle.land_keep.specs.Named.{listed, party_name_beside, objects_at};
+ghost use Rattle.land_keep.specs.Named.{list_form, party_name_beside, objects_at};
 
 use crate::view::name_of;
 use land_core::kind::Kind;
@@ -21,8 +21,8 @@ pub struct NamedObject {
 }
 
 /// Returns the list form of an object: a party without its members and roles.
-fn listed(alloc: Global, object: Object) -> Object
-    ensures { result ≡ listed object }
+fn list_form(alloc: Global, object: Object) -> Object
+    ensures { result ≡ list_form object }
 {
     match object {
         Object::Party(party) => {
@@ -72,7 +72,7 @@ pub fn objects_of(
     for number in numbers {
         if let Some(object) = register.object(alloc, kind, *number)? {
             let name = party_name_beside(alloc, register, &object)?;
-            let object = listed(alloc, object);
+            let object = list_form(alloc, object);
             objects.push(NamedObject { object, name })?;
         }
     }

@@ -3,7 +3,7 @@ use Rattle.std.proofs.Common.{◌≡◌, ◌<◌, ◌≤◌, ℕ, ℤ, Bool, tru
 use Rattle.std.specs.Io.KnownBytes.{Appends, Keeps}
 use Rattle.std.proofs.lemmas.Bool.{false≢true}
 use Rattle.land_desk.proofs.Honesty.{answers_honestly}
-use Rattle.land_desk.specs.Serving.{AnswersItem, Exchange, ForwardSimulation, StepIfHonest, StepOf, all_sent, closing}
+use Rattle.land_desk.specs.Serving.{AnswersItem, Exchange, ForwardSimulation, StepIfHonest, StepOf, all_sent, is_closing}
 use Rattle.land_desk.specs.Serving.Asking.{IfBoth}
 use Rattle.land_desk.specs.Turns.{ServesNext}
 use Rattle.land_desk.specs.declared.next_item.AfterItem.{AfterItem}
@@ -15,7 +15,7 @@ use Rattle.land_pool.specs.Interleaving.{AreAllItems, AreFirstItems, BeginsWithI
 use Rattle.land_pool.specs.OpenConnections.{AnswersItems, HasItems}
 use Rattle.land_wire.specs.Framing.Items.{IsItem}
 
-begins_more : (bytes rest mid : List ℕ) (xs : List Exchange) (x : Exchange) → BeginsWithItems bytes xs rest → IsItem rest x.item mid → closing x ≡ false
+begins_more : (bytes rest mid : List ℕ) (xs : List Exchange) (x : Exchange) → BeginsWithItems bytes xs rest → IsItem rest x.item mid → is_closing x ≡ false
     → BeginsWithItems bytes (xs ++ x ∷ []) mid
 begins_more bytes rest mid [] x so item stays = (mid, subst (λ (t : List ℕ). IsItem t x.item mid) so item, stays, refl)
 begins_more bytes rest mid (y ∷ xs) x so item stays = (so.0, so.1, so.2, begins_more so.0 rest mid xs x so.3 item stays)
@@ -25,14 +25,14 @@ all_at_end bytes rest [] so none = sym so ∙ none
 all_at_end bytes rest (x ∷ xs) so none =
     (so.0, so.1, (λ e. absurd (false≢true (sym so.2 ∙ e))), (λ e. all_at_end so.0 rest xs so.3 none))
 
-all_at_last : (bytes rest mid : List ℕ) (xs : List Exchange) (x : Exchange) → BeginsWithItems bytes xs rest → IsItem rest x.item mid → closing x ≡ true
+all_at_last : (bytes rest mid : List ℕ) (xs : List Exchange) (x : Exchange) → BeginsWithItems bytes xs rest → IsItem rest x.item mid → is_closing x ≡ true
     → AreAllItems bytes (xs ++ x ∷ [])
 all_at_last bytes rest mid [] x so item last =
     (mid, subst (λ (t : List ℕ). IsItem t x.item mid) so item, (λ e. refl), (λ e. absurd (false≢true (sym e ∙ last))))
 all_at_last bytes rest mid (y ∷ xs) x so item last =
     (so.0, so.1, (λ e. absurd (false≢true (sym so.2 ∙ e))), (λ e. all_at_last so.0 rest mid xs x so.3 item last))
 
-first_one : (b : Bool) (bytes rest mid : List ℕ) (xs : List Exchange) (x : Exchange) → closing x ≡ b → BeginsWithItems bytes xs rest → IsItem rest x.item mid
+first_one : (b : Bool) (bytes rest mid : List ℕ) (xs : List Exchange) (x : Exchange) → is_closing x ≡ b → BeginsWithItems bytes xs rest → IsItem rest x.item mid
     → AreFirstItems bytes (xs ++ x ∷ [])
 first_one true bytes rest mid xs x e so item = inl (all_at_last bytes rest mid xs x so item e)
 first_one false bytes rest mid xs x e so item = inr (mid, begins_more bytes rest mid xs x so item e)
@@ -48,7 +48,7 @@ output_more old new xs x u v e w =
 -- ---- if the bytes are known
 
 items_more : (finished : Bool) (bytes known left : Option (List ℕ)) (xs : List Exchange) (x : Exchange) → finished ≡ false → HasItems finished bytes known xs
-    → IfBoth known left (λ b r. IsItem b x.item r) → closing x ≡ false → HasItems finished bytes left (xs ++ x ∷ [])
+    → IfBoth known left (λ b r. IsItem b x.item r) → is_closing x ≡ false → HasItems finished bytes left (xs ++ x ∷ [])
 items_more true bytes known left xs x goes so item stays = absurd (false≢true (sym goes))
 items_more false None known left xs x goes so item stays = tt
 items_more false (Some all) None left xs x goes so item stays = absurd so
@@ -56,7 +56,7 @@ items_more false (Some all) (Some rest) None xs x goes so item stays = absurd it
 items_more false (Some all) (Some rest) (Some mid) xs x goes so item stays = begins_more all rest mid xs x so item stays
 
 items_last : (finished : Bool) (bytes known : Option (List ℕ)) (xs : List Exchange) (x : Exchange) → finished ≡ false → HasItems finished bytes known xs
-    → IfSome known (λ b. (r : List ℕ) × IsItem b x.item r) → closing x ≡ true → IfSome bytes (λ all. AreAllItems all (xs ++ x ∷ []))
+    → IfSome known (λ b. (r : List ℕ) × IsItem b x.item r) → is_closing x ≡ true → IfSome bytes (λ all. AreAllItems all (xs ++ x ∷ []))
 items_last true bytes known xs x goes so item stays = absurd (false≢true (sym goes))
 items_last false None known xs x goes so item last = tt
 items_last false (Some all) None xs x goes so item last = absurd so
@@ -67,7 +67,7 @@ items_one : (finished : Bool) (bytes known : Option (List ℕ)) (xs : List Excha
 items_one true bytes known xs x goes so item = absurd (false≢true (sym goes))
 items_one false None known xs x goes so item = tt
 items_one false (Some all) None xs x goes so item = absurd so
-items_one false (Some all) (Some rest) xs x goes so item = first_one (closing x) all rest item.0 xs x refl so item.1
+items_one false (Some all) (Some rest) xs x goes so item = first_one (is_closing x) all rest item.0 xs x refl so item.1
 
 items_end : (finished : Bool) (bytes known : Option (List ℕ)) (xs : List Exchange) → finished ≡ false → HasItems finished bytes known xs
     → IfSome known (λ b. b ≡ []) → IfSome bytes (λ all. AreAllItems all (xs ++ []))

@@ -4,7 +4,7 @@ use Rattle.std.specs.Prelude.{◌≡◌, ◌≢◌, ℕ, ℤ, ◌<◌, ◌≤◌
 use Rattle.std.specs.Prelude.{length, map, Option, Some, None, IfSome, Result, Ok, Err, ◌⊎◌, slice_get}
 use Rattle.std.specs.Prelude.{if◌then◌else◌}
 use Rattle.std.specs.Io.KnownBytes.{Appends}
-use Rattle.land_desk.specs.Serving.{AnswersItem, Exchange, StepOf, all_sent, closing}
+use Rattle.land_desk.specs.Serving.{AnswersItem, Exchange, StepOf, all_sent, is_closing}
 use Rattle.land_keep.specs.Machine.{State}
 use Rattle.land_pool.specs.Endings.{Ending, RecordsAll, endings_of}
 use Rattle.land_pool.specs.declared.pool.PoolFault.{PoolFault}
@@ -37,14 +37,14 @@ exchanges_of k (t ∷ ts) = if nat_eq t.number k then t.exchange ∷ exchanges_o
 abbrev pub BeginsWithItems : List ℕ → List Exchange → List ℕ → Type 0
 BeginsWithItems bytes [] rest = rest ≡ bytes
 BeginsWithItems bytes (x ∷ xs) rest =
-    (mid : List ℕ) × IsItem bytes x.item mid × (closing x ≡ false) × BeginsWithItems mid xs rest
+    (mid : List ℕ) × IsItem bytes x.item mid × (is_closing x ≡ false) × BeginsWithItems mid xs rest
 
 -- These are the items of the bytes, until no byte is left or one of them closes the connection.
 abbrev pub AreAllItems : List ℕ → List Exchange → Type 0
 AreAllItems bytes [] = bytes ≡ []
 AreAllItems bytes (x ∷ xs) =
-    (mid : List ℕ) × IsItem bytes x.item mid × (closing x ≡ true → xs ≡ [])
-    × (closing x ≡ false → AreAllItems mid xs)
+    (mid : List ℕ) × IsItem bytes x.item mid × (is_closing x ≡ true → xs ≡ [])
+    × (is_closing x ≡ false → AreAllItems mid xs)
 
 -- These are the first items of the bytes.
 abbrev pub AreFirstItems : List ℕ → List Exchange → Type 0

@@ -27,7 +27,7 @@ use Rattle.land_core.specs.declared.mandates.Mandate.{Mandate}
 use Rattle.land_core.specs.declared.register.Register.{Register}
 use Rattle.land_core.specs.declared.roles.Grant.{Grant}
 use Rattle.land_keep.specs.Keeping.{Closes, IsHonestAndOpen}
-use Rattle.land_keep.specs.Machine.{written}
+use Rattle.land_keep.specs.Machine.{written_timeline}
 use Rattle.land_keep.specs.Timeline.{IsIncreasing, Timeline, last_register, last_stamp, register_at}
 use Rattle.land_keep.specs.declared.store_fault.StoreFault.{StoreFault}
 use Rattle.land_rules.proofs.InCircles.{is_principal}
@@ -125,7 +125,7 @@ known_after r change (Some known) ended put are = record {
 }
 
 -- so the remembered roles are correct after a write, and after one that failed
-pub known_when_written : (result : Result (Unit {0}) StoreFault) (old new : Timeline) (change : Change) (stamp : ℤ) (known : Option KnownRoles) → OnOk result (new ≡ written old change stamp) → OnErr result (new ≡ old)
+pub known_when_written : (result : Result (Unit {0}) StoreFault) (old new : Timeline) (change : Change) (stamp : ℤ) (known : Option KnownRoles) → OnOk result (new ≡ written_timeline old change stamp) → OnErr result (new ≡ old)
     → AreKnownIn (last_register old) known × AreKnownIn (after change (last_register old)) known → AreKnownIn (last_register new) known
 known_when_written (Ok it) old new change stamp known is same both =
     subst (λ (tl : Timeline). AreKnownIn (last_register tl) known) (sym is) (subst (λ (r : Register). AreKnownIn r known) (sym (written_register old change stamp)) both.1)

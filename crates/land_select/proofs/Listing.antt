@@ -26,7 +26,7 @@ use Rattle.land_core.specs.declared.register.Register.{Register}
 use Rattle.land_core.specs.declared.rrr.RrrRecord.{RrrRecord}
 use Rattle.land_core.specs.declared.source.SourceRecord.{SourceRecord}
 use Rattle.land_core.specs.declared.unit.UnitRecord.{UnitRecord}
-use Rattle.land_keep.specs.Named.{named, objects_at}
+use Rattle.land_keep.specs.Named.{named_object, objects_at}
 use Rattle.land_keep.specs.Sheets.{name_at}
 use Rattle.land_keep.specs.declared.named.NamedObject.{NamedObject}
 use Rattle.land_select.specs.Listing.{IsTightRange, ListsAlike}
@@ -122,7 +122,7 @@ found_within {V = V} found m first last n is within =
 
 -- a unit
 abbrev unit_named : Register → ℕ → Option UnitRecord → List NamedObject
-unit_named r n o = option_map_or (λ it. named r it ∷ []) (option_map object.Unit (option_map (λ u. record { number = n; name = u.name; checked = u.checked }) o)) []
+unit_named r n o = option_map_or (λ it. named_object r it ∷ []) (option_map object.Unit (option_map (λ u. record { number = n; name = u.name; checked = u.checked }) o)) []
 
 unit_same : (one other : Register) (n : ℕ) (o : Option UnitRecord) → unit_named one n o ≡ unit_named other n o
 unit_same one other n None = refl
@@ -134,7 +134,7 @@ units_alone found r low high is n within =
 
 -- a parcel
 abbrev parcel_named : Register → ℕ → Option ParcelRecord → List NamedObject
-parcel_named r n o = option_map_or (λ it. named r it ∷ []) (option_map object.Parcel (option_map (λ u. record { number = n; unit = u.unit; label = u.label; outline = u.outline; source = u.source }) o)) []
+parcel_named r n o = option_map_or (λ it. named_object r it ∷ []) (option_map object.Parcel (option_map (λ u. record { number = n; unit = u.unit; label = u.label; outline = u.outline; source = u.source }) o)) []
 
 parcel_same : (one other : Register) (n : ℕ) (o : Option ParcelRecord) → parcel_named one n o ≡ parcel_named other n o
 parcel_same one other n None = refl
@@ -146,7 +146,7 @@ parcels_alone found r low high is n within =
 
 -- a source
 abbrev source_named : Register → ℕ → Option SourceRecord → List NamedObject
-source_named r n o = option_map_or (λ it. named r it ∷ []) (option_map object.Source (option_map (λ u. record { number = n; kind = u.kind; title = u.title }) o)) []
+source_named r n o = option_map_or (λ it. named_object r it ∷ []) (option_map object.Source (option_map (λ u. record { number = n; kind = u.kind; title = u.title }) o)) []
 
 source_same : (one other : Register) (n : ℕ) (o : Option SourceRecord) → source_named one n o ≡ source_named other n o
 source_same one other n None = refl
@@ -158,7 +158,7 @@ sources_alone found r low high is n within =
 
 -- a mutation
 abbrev mutation_named : Register → ℕ → Option MutationRecord → List NamedObject
-mutation_named r n o = option_map_or (λ it. named r it ∷ []) (option_map object.Mutation (option_map (λ u. record { number = n; lodger = u.lodger; reference = u.reference; source = u.source; lodged = u.lodged; state = u.state; content = u.content }) o)) []
+mutation_named r n o = option_map_or (λ it. named_object r it ∷ []) (option_map object.Mutation (option_map (λ u. record { number = n; lodger = u.lodger; reference = u.reference; source = u.source; lodged = u.lodged; state = u.state; content = u.content }) o)) []
 
 mutation_same : (one other : Register) (n : ℕ) (o : Option MutationRecord) → mutation_named one n o ≡ mutation_named other n o
 mutation_same one other n None = refl
@@ -170,7 +170,7 @@ mutations_alone found r low high is n within =
 
 -- a party
 abbrev party_named : Register → ℕ → Option PartyRecord → List NamedObject
-party_named r n o = option_map_or (λ it. named r it ∷ []) (option_map object.Party (option_map (λ p. record { number = n; kind = p.kind; name = p.name; members = members_of r n; roles = roles_of r n }) o)) []
+party_named r n o = option_map_or (λ it. named_object r it ∷ []) (option_map object.Party (option_map (λ p. record { number = n; kind = p.kind; name = p.name; members = members_of r n; roles = roles_of r n }) o)) []
 
 party_same : (one other : Register) (n : ℕ) (o : Option PartyRecord) → party_named one n o ≡ party_named other n o
 party_same one other n None = refl
@@ -226,7 +226,7 @@ abbrev entry_with : ℕ → RrrRecord → List ℕ → NamedObject
 entry_with n e name = record { object = object.Rrr (record { number = n; unit = e.unit; party = e.party; class = e.class; source = e.source }); name = name }
 
 abbrev entry_named : Register → ℕ → Option RrrRecord → List NamedObject
-entry_named r n o = option_map_or (λ it. named r it ∷ []) (option_map object.Rrr (option_map (λ e. record { number = n; unit = e.unit; party = e.party; class = e.class; source = e.source }) o)) []
+entry_named r n o = option_map_or (λ it. named_object r it ∷ []) (option_map object.Rrr (option_map (λ e. record { number = n; unit = e.unit; party = e.party; class = e.class; source = e.source }) o)) []
 
 module _ (found : FinMap nat_cmp RrrRecord) (list : List Numbered) (r : Register) (first_number last_number : ℕ) (is : found ≡ entries_where (λ n v. is_within first_number last_number n) r.rrrs)
     (all : (party : Numbered) → Contains list party ↔ ((has_entry_among r (of_range first_number last_number) party.0 ≡ true) × (map.get r.parties party.0 ≡ Some party.1))) where

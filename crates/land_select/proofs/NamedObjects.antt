@@ -34,7 +34,7 @@ use Rattle.land_core.specs.declared.role.Role.{Role}
 use Rattle.land_core.specs.declared.role.Role.TheVariants as roles
 use Rattle.land_core.specs.declared.roles.Grant.{Grant}
 use Rattle.land_select.proofs.Keeping.{entry_found, entry_there, is_kept, none_kept, was_kept}
-use Rattle.land_select.specs.Slices.Gathered.{included, with_number, with_numbers}
+use Rattle.land_select.specs.Slices.Gathered.{numbers_if, with_number, with_numbers}
 use Rattle.land_select.specs.Slices.Named.{lists, mandate_of_act, of_mutation, parties_of, parties_of_content, sources_of, units_of, units_of_content}
 use Rattle.land_select_queries.proofs.Containing.{any_decides}
 
@@ -175,12 +175,12 @@ office_listed r office are n =
 
 -- ---- what some parts of a slice include
 
-pub included_listed : (b : Bool) (ns : List ℕ) (n : ℕ) → lists (included b ns) n ≡ (b && lists ns n)
+pub included_listed : (b : Bool) (ns : List ℕ) (n : ℕ) → lists (numbers_if b ns) n ≡ (b && lists ns n)
 included_listed true ns n = refl
 included_listed false ns n = refl
 
-pub included_asked : (b : Bool) (ns : List ℕ) (n : ℕ) → with_numbers (included b ns) (λ n. false) n ≡ (b && lists ns n)
-included_asked b ns n = asked_with (included b ns) (λ n. false) n ∙ included_listed b ns n
+pub included_asked : (b : Bool) (ns : List ℕ) (n : ℕ) → with_numbers (numbers_if b ns) (λ n. false) n ≡ (b && lists ns n)
+included_asked b ns n = asked_with (numbers_if b ns) (λ n. false) n ∙ included_listed b ns n
 
 no_administrators : (office : Grants) (n : ℕ) → office ≡ map.empty → false ≡ lists (map_list (λ grant. grant.party) (grants_in office)) n
 unfolding grants_in
@@ -197,14 +197,14 @@ administrators_listed false r office are n = no_administrators office n (are ∙
 -- the numbers of parties that are read are those that the parts include
 pub parties_listed : (parts : SliceParts) (r : Register) (caller : Caller) (a : Act) (mutations : FinMap nat_cmp MutationRecord) (office : Grants) → mutations ≡ mutations_in_slice r caller a
     → office ≡ entries_where (λ grant u. parts.administrators && is_role grant.role roles.StateAdministrator) r.roles → (n : ℕ)
-    → lists (included parts.parties (parties_of a mutations) ++ map_list (λ grant. grant.party) (grants_in office)) n ≡ includes_party parts r a n
+    → lists (numbers_if parts.parties (parties_of a mutations) ++ map_list (λ grant. grant.party) (grants_in office)) n ≡ includes_party parts r a n
 parties_listed parts r caller a mutations office are held n =
-    list_any-append (nat_eq n) (included parts.parties (parties_of a mutations)) (map_list (λ grant. grant.party) (grants_in office))
+    list_any-append (nat_eq n) (numbers_if parts.parties (parties_of a mutations)) (map_list (λ grant. grant.party) (grants_in office))
     ∙ ap₂ (λ b c. b || c) (included_listed parts.parties (parties_of a mutations) n ∙ ap (λ b. parts.parties && b) (sym (party_listed r caller a mutations are n)))
     (sym (administrators_listed parts.administrators r office held n))
 
 -- and so are those of units
 pub units_listed : (parts : SliceParts) (r : Register) (caller : Caller) (a : Act) (mutations : FinMap nat_cmp MutationRecord) → mutations ≡ mutations_in_slice r caller a → (n : ℕ)
-    → lists (included parts.units (units_of a mutations)) n ≡ includes_unit parts r a n
+    → lists (numbers_if parts.units (units_of a mutations)) n ≡ includes_unit parts r a n
 units_listed parts r caller a mutations are n =
     included_listed parts.units (units_of a mutations) n ∙ ap (λ b. parts.units && b) (sym (unit_listed r caller a mutations are n))

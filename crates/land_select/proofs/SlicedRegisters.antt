@@ -19,7 +19,7 @@ use Rattle.land_core.specs.declared.source.SourceRecord.{SourceRecord}
 use Rattle.land_select.proofs.Gathering.{both_kept}
 use Rattle.land_select.proofs.Keeping.{none_kept, same_kept}
 use Rattle.land_select.proofs.NamedObjects.{asked_with, included_asked}
-use Rattle.land_select.specs.Slices.Gathered.{IsKnown, included, put_all, with_number, with_numbers}
+use Rattle.land_select.specs.Slices.Gathered.{IsKnown, numbers_if, put_all, with_number, with_numbers}
 use Rattle.land_select.specs.Slices.Named.{lists}
 use Rattle.land_select.specs.declared.slices.slice.Known.{Known}
 use Rattle.land_tables_schema.proofs.Looking.{look_told}
@@ -83,14 +83,14 @@ module _ {V : Type 0} (all : FinMap nat_cmp V) (key : ℕ → V → ℕ) where
       ∙ same_kept nat_cmp_total nat_cmp-IsAntisymmetric _ (λ k v. test (key k v)) all (λ k v. asked_with ns (λ n. false) (key k v) ∙ listed (key k v))
 
   pub included_gathered : (b : Bool) (ns : List ℕ) (test : ℕ → Bool) (it : FinMap nat_cmp V) → ((n : ℕ) → lists ns n ≡ test n)
-      → (map.empty ≡ entries_where (λ k v. false) all → it ≡ entries_where (λ k v. with_numbers (included b ns) (λ n. false) (key k v)) all) → it ≡ entries_where (λ k v. b && test (key k v)) all
+      → (map.empty ≡ entries_where (λ k v. false) all → it ≡ entries_where (λ k v. with_numbers (numbers_if b ns) (λ n. false) (key k v)) all) → it ≡ entries_where (λ k v. b && test (key k v)) all
   included_gathered b ns test it listed grown =
       grown (none_kept nat_cmp_total nat_cmp-IsAntisymmetric all)
       ∙ same_kept nat_cmp_total nat_cmp-IsAntisymmetric _ (λ k v. b && test (key k v)) all (λ k v. included_asked b ns (key k v) ∙ ap (λ c. b && c) (listed (key k v)))
 
 -- roles that are read for some parties
 pub roles_gathered : (all : Grants) (b : Bool) (ns : List ℕ) (test : ℕ → Bool) (it : Grants) → ((n : ℕ) → lists ns n ≡ test n)
-    → (map.empty ≡ entries_where (λ k v. false) all → it ≡ entries_where (λ grant u. with_numbers (included b ns) (λ n. false) grant.party) all) → it ≡ entries_where (λ grant u. b && test grant.party) all
+    → (map.empty ≡ entries_where (λ k v. false) all → it ≡ entries_where (λ grant u. with_numbers (numbers_if b ns) (λ n. false) grant.party) all) → it ≡ entries_where (λ grant u. b && test grant.party) all
 roles_gathered all b ns test it listed grown =
     grown (none_kept grants_total exact_grants all)
     ∙ same_kept grants_total exact_grants _ (λ grant u. b && test grant.party) all (λ grant u. included_asked b ns grant.party ∙ ap (λ c. b && c) (listed grant.party))

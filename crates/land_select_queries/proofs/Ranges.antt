@@ -8,7 +8,7 @@ use Rattle.land_core.specs.declared.register.Register.{Register}
 use Rattle.land_select_queries.proofs.Parts.{part_found}
 use Rattle.land_select_queries.proofs.Records.{all_wanted, can_be_read}
 use Rattle.land_select_queries.specs.Joins.Execution.{HoldsNoHistory}
-use Rattle.land_select_queries.specs.Lookups.RecordRows.{AreReadFrom, CannotBeRead, wanted}
+use Rattle.land_select_queries.specs.Lookups.RecordRows.{AreReadFrom, CannotBeRead, matching_versions}
 use Rattle.land_select_queries.specs.Lookups.Numbered.{IsFoundWithin}
 use Rattle.land_select_queries.specs.Lookups.Parts.{ReadsPart}
 use Rattle.land_select_queries.specs.Lookups.Ranges.{AreRowsWithin, is_within}
@@ -27,11 +27,11 @@ module _ {V : Type 0} (said : Row → Result (Version (ℕ × V)) WireFault) (k 
       let of = by db moments h held in
       made (entries_where (λ n v. is_within first last n) (part r))
       (part_found t (λ n v. is_within first last n) of.versions (part r) (of.stand t r stands) found
-      (all_wanted said read.0 (wanted (λ e. is_within first last e.0) t of.versions) (of.found first last t read.0 read.1) found read.2))
+      (all_wanted said read.0 (matching_versions (λ e. is_within first last e.0) t of.versions) (of.found first last t read.0 read.1) found read.2))
 
   -- if they are unreadable, the tables hold no history
   pub none_within : (fault : ReadFault) → CannotBeRead said (AreRowsWithin k first last t db) fault → HoldsNoHistory db fault
   none_within fault cannot is moments h held =
       let of = by db moments h held in
       let no = cannot is in
-      can_be_read said no.0 (wanted (λ e. is_within first last e.0) t of.versions) (of.found first last t no.0 no.1) no.2
+      can_be_read said no.0 (matching_versions (λ e. is_within first last e.0) t of.versions) (of.found first last t no.0 no.1) no.2

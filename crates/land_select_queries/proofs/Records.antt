@@ -13,7 +13,7 @@ use Rattle.land_select_queries.proofs.Queries.{filter_of, project_of, query_of, 
 use Rattle.land_select_queries.proofs.Standing.{entry_found, entry_there}
 use Rattle.land_select_queries.specs.Joins.Meaning.{given}
 use Rattle.land_select_queries.specs.Joins.Execution.{HoldsNoHistory, HoldsOfHistory, known_or_zero}
-use Rattle.land_select_queries.specs.Lookups.RecordRows.{AreRows, AreRowsOf, AreReadFrom, AreReadByLookup, LookupCannotBeRead, CannotBeRead, LookupItem, IsOneOf, is_meant, listing_of, wanted}
+use Rattle.land_select_queries.specs.Lookups.RecordRows.{AreRows, AreRowsOf, AreReadFrom, AreReadByLookup, LookupCannotBeRead, CannotBeRead, LookupItem, IsOneOf, is_meant, listing_of, matching_versions}
 use Rattle.land_select_queries.specs.Lookups.Numbered.{IsFoundBy}
 use Rattle.land_select_queries.specs.Lookups.Parts.{ReadsPart}
 use Rattle.land_select_queries.specs.declared.lookups.record_lookup.RecordLookup.{RecordLookup}
@@ -61,7 +61,7 @@ module _ {X : Type 0} (listing : Listing (Version X)) (terms columns : List Term
       let said_of : Row → Result (Version X) WireFault = λ r. listing.said (listing.shown r) in
       let answer : IsPermutation (map said_of (filter passing whole)) (map listing.said rows) =
       subst (λ m. IsPermutation m (map listing.said rows)) (map-map listing.said listing.shown (filter passing whole)) (IsPermutation-map listing.said (map listing.shown (filter passing whole)) rows (answered a)) in
-      IsPermutation-trans (map listing.said rows) (map said_of (filter passing whole)) (map (λ v. Ok v) (wanted meant t versions))
+      IsPermutation-trans (map listing.said rows) (map said_of (filter passing whole)) (map (λ v. Ok v) (matching_versions meant t versions))
       (IsPermutation-sym (map said_of (filter passing whole)) (map listing.said rows) answer)
       (passing_said said_of passing (λ v. stands t v && meant v.what) tested whole versions says)
 
@@ -95,8 +95,8 @@ module _ {X : Type 0} (said : Row → Result X WireFault) (rows : List Row) (wan
       cannot read.0 read.1
 
 module _ (l : RecordLookup) (number : ℕ) (t : ℤ) (db : Trees) (versions : List (Version (LookupItem l))) (says : Says (listing_of l) db versions) where
-  pub are_wanted : (found : List (Version (LookupItem l))) → AreReadByLookup (listing_of l).said l number t db found → IsPermutation found (wanted (is_meant l number) t versions)
-  are_wanted found said = all_wanted (listing_of l).said said.0 (wanted (is_meant l number) t versions) (said.1 versions says) found said.2
+  pub are_wanted : (found : List (Version (LookupItem l))) → AreReadByLookup (listing_of l).said l number t db found → IsPermutation found (matching_versions (is_meant l number) t versions)
+  are_wanted found said = all_wanted (listing_of l).said said.0 (matching_versions (is_meant l number) t versions) (said.1 versions says) found said.2
 
 -- so they are called unreadable only if the tables hold no history
 pub none_held : {Y : Type 0} (db : Trees) (r : Result Y ReadFault) (fault : ReadFault) → IsErrAnd r (λ f. f ≡ fault) → HoldsNoHistory db fault → IfErr r (HoldsNoHistory db)
@@ -107,7 +107,7 @@ pub none_said : {Y : Type 0} (l : RecordLookup) (number : ℕ) (t : ℤ) (db : T
     → (r : Result Y ReadFault) (fault : ReadFault) → IsErrAnd r (λ f. f ≡ fault) → LookupCannotBeRead (listing_of l).said l number t db fault → IfErr r (HoldsNoHistory db)
 none_said l number t db versions says r fault same cannot =
     none_held db r fault same
-    (λ is moments h held. let it = cannot is in can_be_read (listing_of l).said it.0 (wanted (is_meant l number) t (versions h)) (it.1 (versions h) (says moments h held)) it.2)
+    (λ is moments h held. let it = cannot is in can_be_read (listing_of l).said it.0 (matching_versions (is_meant l number) t (versions h)) (it.1 (versions h) (says moments h held)) it.2)
 
 -- ---- records
 
@@ -182,10 +182,10 @@ module _ {V : Type 0} (said : Row → Result (Version (ℕ × V)) WireFault) (l 
   pub is_record : (found : List (Version (ℕ × V))) → AreReadByLookup said l number t db found → (o : Option V) → IsOneOf found o → ReadsPart (λ r. finite.get (part r) number) t db o
   is_record found read o one moments h held r have stands =
       let it = by db moments h held in
-      record_is t it.versions (part r) (it.stand t r stands) number found (all_wanted said read.0 (wanted (λ e. nat_eq e.0 number) t it.versions) (it.found number t read.0 read.1) found read.2) o one
+      record_is t it.versions (part r) (it.stand t r stands) number found (all_wanted said read.0 (matching_versions (λ e. nat_eq e.0 number) t it.versions) (it.found number t read.0 read.1) found read.2) o one
 
   pub holds_none : (fault : ReadFault) → LookupCannotBeRead said l number t db fault → HoldsNoHistory db fault
   holds_none fault cannot is moments h held =
       let it = by db moments h held in
       let no = cannot is in
-      can_be_read said no.0 (wanted (λ e. nat_eq e.0 number) t it.versions) (it.found number t no.0 no.1) no.2
+      can_be_read said no.0 (matching_versions (λ e. nat_eq e.0 number) t it.versions) (it.found number t no.0 no.1) no.2

@@ -13,7 +13,7 @@ use Rattle.land_core.specs.declared.rrr.RightType.{RightType}
 use Rattle.land_core.specs.declared.rrr.RightType.TheVariants as right
 use Rattle.land_tables_rows.proofs.CellReadings.{text_is}
 use Rattle.land_tables_rows.proofs.Stepping.{same_value, stepped}
-use Rattle.land_tables_rows.specs.Reading.Cells.{allowed, natural_in, null_in, number_in, text_in, amount_in, currency_in, share_in}
+use Rattle.land_tables_rows.specs.Reading.Cells.{number_if, natural_in, null_in, number_in, text_in, amount_in, currency_in, share_in}
 use Rattle.land_tables_rows.specs.Reading.Words.{class_of, class_word_in, role_in, state_in, state_of}
 use Rattle.land_tables_rows.specs.Rrr.Cells.{class_word}
 use Rattle.land_tables_rows.specs.Rrr.Reading.{burden_in, class_by, mortgage_in, no_mortgage_in, no_right_in, right_in}
@@ -35,7 +35,7 @@ within false m n is e = let none : ⊥ = cc in absurd none
 pub in_range : (c : Value) (n : ℕ) → number_in c ≡ Ok n → is_number n ≡ true
 unfolding number_in
 in_range c n e =
-    let h = stepped (natural_in c) (allowed is_number) n e in
+    let h = stepped (natural_in c) (number_if is_number) n e in
     within (is_number h.given) h.given n refl h.rest
 
 -- ---- words

@@ -13,7 +13,7 @@ use Rattle.land_core.specs.declared.kind.Kind.{Kind}
 use Rattle.land_core.specs.declared.object.Object.{Object}
 use Rattle.land_core.specs.declared.object.Object.TheVariants as object
 use Rattle.land_core.specs.declared.register.Register.{Register}
-use Rattle.land_keep.specs.Named.{listed, party_name_beside, named, named_at, objects_at}
+use Rattle.land_keep.specs.Named.{list_form, party_name_beside, named_object, named_at, objects_at}
 use Rattle.land_keep.specs.declared.named.NamedObject.{NamedObject}
 use Rattle.land_keep.specs.declared.store_fault.StoreFault.{StoreFault}
 use Rattle.land_sheet.specs.Extracts.{row_at, rows_at}
@@ -54,7 +54,7 @@ one_popped items rest (Some it) (Some that) is parts kept =
 one_named : (r : Register) (k : Kind) (n : ℕ) → objects_at r k (n ∷ []) ≡ option_to_list (named_object_at r k n) ++ []
 one_named r k n = ap (λ l. l ++ []) (by_object (object_at r k n))
   where
-    by_object : (o : Option Object) → option_map_or (λ it. named r it ∷ []) o [] ≡ option_to_list (option_map (named r) o)
+    by_object : (o : Option Object) → option_map_or (λ it. named_object r it ∷ []) o [] ≡ option_to_list (option_map (named_object r) o)
     by_object None = refl
     by_object (Some it) = refl
 
@@ -71,9 +71,9 @@ first_given r k numbers given number inside is stand =
     let first : IsSome (object_at r k number) = (subst (λ (left : List ℕ). AllExist r k left) parts stand).0 in
     subst (λ (left : List ℕ). IsNextRow r k left (named_object_at r k number)) (sym parts) (by_object (object_at r k number) refl first)
   where
-    by_object : (o : Option Object) → object_at r k number ≡ o → IsSome o → IsNextRow r k (number ∷ drop (given + 1) numbers) (option_map (named r) o)
+    by_object : (o : Option Object) → object_at r k number ≡ o → IsSome o → IsNextRow r k (number ∷ drop (given + 1) numbers) (option_map (named_object r) o)
     by_object None e stands = absurd (false≢true stands)
-    by_object (Some it) e stands = ap (λ (o : Option Object). option_map (named r) o) e
+    by_object (Some it) e stands = ap (λ (o : Option Object). option_map (named_object r) o) e
 
 -- likewise if the store is honest
 pub result_given : (r : Register) (k : Kind) (numbers : List ℕ) (given number : ℕ) (result : Result (Option NamedObject) StoreFault) → given < length numbers
@@ -85,7 +85,7 @@ result_given r k numbers given number (Err fault) inside is stand made = tt
 -- ---- the rows of a list
 
 -- the row of a party does not depend on its members and roles
-row_listed : (it : Object) (name : List ℕ) → object_row (listed it) name ≡ object_row it name
+row_listed : (it : Object) (name : List ℕ) → object_row (list_form it) name ≡ object_row it name
 unfolding Rattle.land_sheet.specs.Rows.party_fields
 row_listed (object.Party it) name = refl
 row_listed (object.Unit it) name = refl
@@ -94,9 +94,9 @@ row_listed (object.Rrr it) name = refl
 row_listed (object.Source it) name = refl
 row_listed (object.Mutation it) name = refl
 
-one_row : (r : Register) (o : Option Object) → rows_of (option_map_or (λ it. named r it ∷ []) o []) ≡ option_map_or (λ it. object_row it (party_name_beside r it)) o []
+one_row : (r : Register) (o : Option Object) → rows_of (option_map_or (λ it. named_object r it ∷ []) o []) ≡ option_map_or (λ it. object_row it (party_name_beside r it)) o []
 one_row r None = refl
-one_row r (Some it) = append-nil (object_row (listed it) (party_name_beside r it)) ∙ row_listed it (party_name_beside r it)
+one_row r (Some it) = append-nil (object_row (list_form it) (party_name_beside r it)) ∙ row_listed it (party_name_beside r it)
 
 abbrev row_text_of : NamedObject → List ℕ
 row_text_of it = object_row it.object it.name

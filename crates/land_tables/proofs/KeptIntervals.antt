@@ -10,7 +10,7 @@ use Rattle.land_core.specs.Numbers.{IsMoment, last_moment}
 use Rattle.land_core.specs.Soundness.{IsSound}
 use Rattle.land_core.specs.declared.change.Change.{Change}
 use Rattle.land_keep.proofs.Timelines.{last_is_sound}
-use Rattle.land_keep.specs.Machine.{written}
+use Rattle.land_keep.specs.Machine.{written_timeline}
 use Rattle.land_keep.specs.Timeline.{IsIncreasing, IsSoundTimeline, IncreasesFrom, Timeline, last_from, last_register, last_stamp}
 use Rattle.land_keep.specs.declared.timeline.Version.{Version}
 use Rattle.land_tables.proofs.PutMutations.{accepted_puts}
@@ -20,7 +20,7 @@ use Rattle.land_tables.specs.Timelines.Writing.{WritesKeepIntervals}
 use Rattle.land_tables_history.proofs.Kept.{changes_keep_intervals}
 use Rattle.land_tables_history.proofs.MomentOrder.{le_itself}
 use Rattle.land_tables_history.proofs.WrittenVersions.{closes_all}
-use Rattle.land_tables_history.specs.Changed.{changed}
+use Rattle.land_tables_history.specs.Changed.{changed_history}
 use Rattle.land_tables_history.specs.History.{IsRegisterAt}
 use Rattle.land_tables_history.specs.Intervals.{has_intervals}
 use Rattle.land_tables_history.specs.Open.{never}
@@ -58,7 +58,7 @@ module _ (moments : List Moment) (h : History) (tl : Timeline) (sound : IsSoundT
   last_stands = subst (IsRegisterAt (last_stamp tl) h) (stays_last tl (last_stamp tl) sound.rising (le_itself (last_stamp tl))) (for.stands (last_stamp tl) (last_is_moment tl sound))
 
   -- a write closes each version that the change ends or replaces
-  pub written_as_changed : (change : Change) (stamp : ℤ) → has_intervals moments h ≡ true → written_history (last_register tl).next change stamp h ≡ changed (last_register tl).next change stamp h
+  pub written_as_changed : (change : Change) (stamp : ℤ) → has_intervals moments h ≡ true → written_history (last_register tl).next change stamp h ≡ changed_history (last_register tl).next change stamp h
   written_as_changed change stamp intervals =
       closes_all moments change (last_stamp tl) stamp h (last_register tl) intervals listed_by_last (before_never (last_stamp tl) (last_is_moment tl sound).1) last_stands (last_is_sound tl sound)
 
@@ -68,4 +68,4 @@ writes_keep_intervals moments h tl change stamp sound for can written_sound inte
     changes_keep_intervals moments change (last_stamp tl) stamp h r intervals (listed_by_last moments h tl sound for) can.later (before_never stamp can.moment)
     (accepted_once r change stamp (last_is_sound tl sound) can.made) (accepted_puts r change stamp (last_is_sound tl sound) can.made)
     (last_stands moments h tl sound for)
-    (subst IsSound (written_register tl change stamp) (last_is_sound (written tl change stamp) written_sound))
+    (subst IsSound (written_register tl change stamp) (last_is_sound (written_timeline tl change stamp) written_sound))

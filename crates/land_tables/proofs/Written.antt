@@ -8,7 +8,7 @@ use Rattle.land_core.specs.declared.register.Register.{Register}
 use Rattle.land_keep.proofs.Past.{change_stands}
 use Rattle.land_keep.specs.Keeping.{CanWrite, IsHonestAndOpen}
 use Rattle.land_keep.specs.Laws.{WritingKeepsSound}
-use Rattle.land_keep.specs.Machine.{written}
+use Rattle.land_keep.specs.Machine.{written_timeline}
 use Rattle.land_keep.specs.Timeline.{IsSoundTimeline, Timeline, last_register, last_stamp}
 use Rattle.land_keep.specs.declared.store_fault.StoreFault.{StoreFault}
 use Rattle.land_keep.specs.declared.store_fault.StoreFault.TheVariants.{Store}
@@ -24,7 +24,7 @@ use Rattle.land_tables.specs.TablesState.{HoldsRegister, IsHonest, IsConsistentS
 use Rattle.land_tables.specs.Standing.{HoldsTimeline, decoded_timeline}
 use Rattle.land_tables.specs.Timelines.Laws.{OrderDoesNotMatter, HistoriesRepresentOneTimeline}
 use Rattle.land_tables.specs.Timelines.Writing.{WritesRepresentTimelines}
-use Rattle.land_tables_history.specs.Changed.{changed}
+use Rattle.land_tables_history.specs.Changed.{changed_history}
 use Rattle.land_tables_history.specs.Intervals.{has_intervals}
 use Rattle.land_tables_history.specs.Written.{written_history}
 use Rattle.land_tables_rows.specs.Edition.Writing.{v2_edition}
@@ -44,9 +44,9 @@ least : (a b : ℤ) → a ≡ b → a ≤ℤ b
 least a b is = omega (arith, ints)
 
 -- the next number is that of the change
-next_written : (tl : Timeline) (change : Change) (stamp : ℤ) → IsSoundTimeline (written tl change stamp) → change.next ≡ (last_register (written tl change stamp)).next
+next_written : (tl : Timeline) (change : Change) (stamp : ℤ) → IsSoundTimeline (written_timeline tl change stamp) → change.next ≡ (last_register (written_timeline tl change stamp)).next
 next_written tl change stamp sound =
-    let last = stays_last (written tl change stamp) stamp sound.rising (least (last_stamp (written tl change stamp)) stamp (written_last tl change stamp)) in
+    let last = stays_last (written_timeline tl change stamp) stamp sound.rising (least (last_stamp (written_timeline tl change stamp)) stamp (written_last tl change stamp)) in
     ap (λ (r : Register). r.next) (sym (change_stands tl change stamp stamp (least stamp stamp refl)) ∙ last)
 
 module _ (one : HistoriesRepresentOneTimeline) (order : OrderDoesNotMatter) (writes : WritesRepresentTimelines) (keeps : WritingKeepsSound) (change : Change) (stamp : ℤ) where
@@ -55,22 +55,22 @@ module _ (one : HistoriesRepresentOneTimeline) (order : OrderDoesNotMatter) (wri
     valid : has_intervals holds.listed holds.history ≡ true
     valid = sym (told_intervals old.trees tl holds) ∙ were
 
-    pub holds_written : HoldsTimeline new.trees (written tl change stamp)
+    pub holds_written : HoldsTimeline new.trees (written_timeline tl change stamp)
     holds_written = record {
       listed = record { stamp = stamp; next = change.next } ∷ holds.listed;
-      history = changed (last_register tl).next change stamp holds.history;
+      history = changed_history (last_register tl).next change stamp holds.history;
       holds = subst (HoldsHistory new.trees (record { stamp = stamp; next = change.next } ∷ holds.listed)) (written_as_changed holds.listed holds.history tl sound holds.stands change stamp valid)
           (subst (λ n. HoldsHistory new.trees (record { stamp = stamp; next = change.next } ∷ holds.listed) (written_history n change stamp holds.history)) is (done.held holds.listed holds.history holds.holds));
       stands = writes holds.listed holds.history tl change stamp sound holds.stands can;
     }
 
-    pub tells_written : decoded_timeline new.trees ≡ written tl change stamp
-    tells_written = tells one order new.trees (written tl change stamp) holds_written (keeps tl change stamp sound can)
+    pub tells_written : decoded_timeline new.trees ≡ written_timeline tl change stamp
+    tells_written = tells one order new.trees (written_timeline tl change stamp) holds_written (keeps tl change stamp sound can)
 
     intervals_written : has_intervals (decode_rows moments new.trees) (decoded_history new.trees) ≡ true
     unfolding holds_written
     intervals_written =
-        told_intervals new.trees (written tl change stamp) holds_written
+        told_intervals new.trees (written_timeline tl change stamp) holds_written
         ∙ writes_keep_intervals holds.listed holds.history tl change stamp sound holds.stands can (keeps tl change stamp sound can) valid
 
   pub office_written : (old new : State) (last : ℤ) (next : ℕ) → IsConsistentState old last next → CanWrite (decoded_timeline old.now.trees) change stamp → WritesChange change next stamp old.now new.now
@@ -159,16 +159,16 @@ module _ {S : Type 0} (g : Ghosts S) (one : HistoriesRepresentOneTimeline) (orde
   abbrev IsSafe : Result (Unit {0}) StoreFault → Type 0
   IsSafe r = IsSafeWrite r (WritesChange change now.next stamp) (MayWriteChange change now.next stamp (state g now.conn).now) (state g now.conn) (state g conn)
 
-  pub crash_written : (r : Result (Unit {0}) StoreFault) → IsSafe r → Survives (state g now.conn) (state g conn) (λ db. HoldsTimeline db (written (held g now) change stamp))
-  crash_written r safe = survives_weaker a b (MayWriteChange change now.next stamp a.now) (λ db. HoldsTimeline db (written (held g now) change stamp))
+  pub crash_written : (r : Result (Unit {0}) StoreFault) → IsSafe r → Survives (state g now.conn) (state g conn) (λ db. HoldsTimeline db (written_timeline (held g now) change stamp))
+  crash_written r safe = survives_weaker a b (MayWriteChange change now.next stamp a.now) (λ db. HoldsTimeline db (written_timeline (held g now) change stamp))
       (λ clean db may.
       let live : IsHonestAndOpen (IsHonest g now) now.is_closed = (clean_before a b safe.survives clean, open_still) in
       let office = whole.office live in
-      subst (λ trees. HoldsTimeline trees (written (held g now) change stamp)) (sym may.2)
+      subst (λ trees. HoldsTimeline trees (written_timeline (held g now) change stamp)) (sym may.2)
       (holds_written one order writes keeps change stamp a.now may.0 now.next (held g now) office.register.sound office.register.holds office.register.intervals office.next (can live) may.1))
       safe.survives
 
-  pub timeline_written : IsSafe (Ok tt) → IsHonest g (record now { conn = conn }) → decoded_timeline (state g conn).now.trees ≡ written (held g now) change stamp
+  pub timeline_written : IsSafe (Ok tt) → IsHonest g (record now { conn = conn }) → decoded_timeline (state g conn).now.trees ≡ written_timeline (held g now) change stamp
   timeline_written safe clean =
       let live : IsHonestAndOpen (IsHonest g now) now.is_closed = (clean_before a b safe.survives clean, open_still) in
       let office = whole.office live in

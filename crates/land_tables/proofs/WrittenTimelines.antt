@@ -6,7 +6,7 @@ use Rattle.std.proofs.lemmas.Int.{ints}
 use Rattle.land_core.specs.Changes.{after}
 use Rattle.land_core.specs.Register.{nothing}
 use Rattle.land_core.specs.declared.change.Change.{Change}
-use Rattle.land_keep.specs.Machine.{written}
+use Rattle.land_keep.specs.Machine.{written_timeline}
 use Rattle.land_keep.specs.Timeline.{IsIncreasing, IncreasesFrom, Timeline, last_from, last_register, last_stamp, last_version, register_at}
 use Rattle.land_keep.specs.declared.timeline.Version.{Version}
 
@@ -44,9 +44,9 @@ last_after (v ∷ vs) w = from v vs
     from v (u ∷ us) = from u us
 
 -- the last stamp is that of the change
-pub written_last : (tl : Timeline) (change : Change) (stamp : ℤ) → last_stamp (written tl change stamp) ≡ stamp
+pub written_last : (tl : Timeline) (change : Change) (stamp : ℤ) → last_stamp (written_timeline tl change stamp) ≡ stamp
 written_last tl change stamp = ap (λ o. unwrap_or (option_map (λ (v : Version). v.stamp) o) (pos 0)) (last_after tl (record { stamp = stamp; register = after change (last_register tl) }))
 
 -- and the last register has the change
-pub written_register : (tl : Timeline) (change : Change) (stamp : ℤ) → last_register (written tl change stamp) ≡ after change (last_register tl)
+pub written_register : (tl : Timeline) (change : Change) (stamp : ℤ) → last_register (written_timeline tl change stamp) ≡ after change (last_register tl)
 written_register tl change stamp = ap (λ o. unwrap_or (option_map (λ (v : Version). v.register) o) nothing) (last_after tl (record { stamp = stamp; register = after change (last_register tl) }))

@@ -10,7 +10,7 @@ use Rattle.land_core.specs.declared.change.Change.{Change}
 use Rattle.land_keep.proofs.Past as past
 use Rattle.land_keep.proofs.Timelines.{last_is_sound}
 use Rattle.land_keep.specs.Keeping.{CanWrite}
-use Rattle.land_keep.specs.Machine.{written}
+use Rattle.land_keep.specs.Machine.{written_timeline}
 use Rattle.land_keep.specs.Timeline.{IsSoundTimeline, Timeline, last_register, last_stamp, register_at}
 use Rattle.land_keep.specs.declared.timeline.Version.{Version}
 use Rattle.land_tables.proofs.PutMutations.{accepted_puts}
@@ -18,7 +18,7 @@ use Rattle.land_tables.proofs.WrittenTimelines.{stays_last, written_last}
 use Rattle.land_tables.specs.Timelines.{RepresentsTimeline, moment_of}
 use Rattle.land_tables.specs.Timelines.Writing.{WritesRepresentTimelines}
 use Rattle.land_tables_history.proofs.Changes as changes
-use Rattle.land_tables_history.specs.Changed.{changed}
+use Rattle.land_tables_history.specs.Changed.{changed_history}
 use Rattle.land_tables_history.specs.History.{IsRegisterAt}
 use Rattle.land_tables_history.specs.Open.{have_ended, never}
 use Rattle.land_tables_history.specs.declared.history.History.{History}
@@ -36,7 +36,7 @@ last_before : (last stamp t : ℤ) → last <ℤ stamp → stamp ≤ℤ t → la
 last_before last stamp t less le = omega (arith, ints)
 
 module _ (moments : List Moment) (h : History) (tl : Timeline) (change : Change) (stamp : ℤ) (sound : IsSoundTimeline tl) (for : RepresentsTimeline moments h tl) (can : CanWrite tl change stamp) where
-  moments_stand : IsPermutation (map_list moment_of (written tl change stamp)) (record { stamp = stamp; next = change.next } ∷ moments)
+  moments_stand : IsPermutation (map_list moment_of (written_timeline tl change stamp)) (record { stamp = stamp; next = change.next } ∷ moments)
   moments_stand =
       let w : Version = record { stamp = stamp; register = after change (last_register tl) } in
       subst (λ l. IsPermutation l (moment_of w ∷ moments)) (sym (moments_more tl w))
@@ -44,14 +44,14 @@ module _ (moments : List Moment) (h : History) (tl : Timeline) (change : Change)
       (IsPermutation-to_front (map_list moment_of tl) (moment_of w)) (IsPermutation-cons (moment_of w) (map_list moment_of tl) moments for.moments))
 
   abbrev after_it : History
-  after_it = changed (last_register tl).next change stamp h
+  after_it = changed_history (last_register tl).next change stamp h
 
-  past_part : (t : ℤ) → IsMoment t → t <ℤ stamp → IsRegisterAt t after_it (register_at (written tl change stamp) t)
+  past_part : (t : ℤ) → IsMoment t → t <ℤ stamp → IsRegisterAt t after_it (register_at (written_timeline tl change stamp) t)
   past_part t moment less =
       subst (IsRegisterAt t after_it) (sym (past.past_stays tl change stamp t less))
       (changes.past_stands (last_register tl).next change stamp t h (register_at tl t) less (before_never t moment.1) (for.stands t moment))
 
-  new_part : (t : ℤ) → IsMoment t → stamp ≤ℤ t → IsRegisterAt t after_it (register_at (written tl change stamp) t)
+  new_part : (t : ℤ) → IsMoment t → stamp ≤ℤ t → IsRegisterAt t after_it (register_at (written_timeline tl change stamp) t)
   new_part t moment since =
       let last = last_is_sound tl sound in
       subst (IsRegisterAt t after_it) (sym (past.change_stands tl change stamp t since))
@@ -59,7 +59,7 @@ module _ (moments : List Moment) (h : History) (tl : Timeline) (change : Change)
       (accepted_once (last_register tl) change stamp last can.made) (accepted_puts (last_register tl) change stamp last can.made)
       (subst (IsRegisterAt t h) (stays_last tl t sound.rising (last_before (last_stamp tl) stamp t can.later since)) (for.stands t moment)))
 
-  stands_for : RepresentsTimeline (record { stamp = stamp; next = change.next } ∷ moments) after_it (written tl change stamp)
+  stands_for : RepresentsTimeline (record { stamp = stamp; next = change.next } ∷ moments) after_it (written_timeline tl change stamp)
   stands_for = record {
     moments = moments_stand;
     stands = λ t moment. by_lt_z t stamp (past_part t moment) (new_part t moment);

@@ -2,7 +2,7 @@
 ghost use Rattle.std.specs.Prelude.{◌≡◌, ◌≢◌, ◌≤ℤ◌, true, false, Err, IfErr, IfOk, IsTrue, OnErr, OnOk};
 ghost use Rattle.land_core.specs.Numbers.{last_moment};
 ghost use Rattle.land_keep.specs.Keeping.{CanWrite, Closes};
-ghost use Rattle.land_keep.specs.Machine.{written};
+ghost use Rattle.land_keep.specs.Machine.{written_timeline};
 ghost use Rattle.land_keep.specs.Timeline.{IsSoundTimeline, last_register, last_stamp, new_timeline};
 ghost use Rattle.land_keep.specs.Timeline.{register_at};
 ghost use Rattle.land_keep.specs.declared.store_fault.StoreFault.TheVariants as store;
@@ -318,7 +318,8 @@ impl<S: Alter> Tables<S> {
     pub fn write(&mut self, alloc: Global, change: &Change, stamp: i64) -> Result<(), StoreFault>
         requires { IsWorking S.Store self.old → CanWrite (held S.Store self.old) change.now stamp }
         ensures ok { IsWorking S.Store self.new
-            → OnOk result (held S.Store self.new ≡ written (held S.Store self.old) change.now stamp) }
+            → OnOk result
+            (held S.Store self.new ≡ written_timeline (held S.Store self.old) change.now stamp) }
         ensures text { IsWorking S.Store self.new
             → OnOk result (KeepsEarlierText stamp (state S.Store self.old.conn).now.trees
             (state S.Store self.new.conn).now.trees) }
@@ -328,9 +329,9 @@ impl<S: Alter> Tables<S> {
         ensures closes { Closes self.old.is_closed self.new.is_closed result }
         ensures survives { self.old.is_closed ≡ false
             → Survives (state S.Store self.old.conn) (state S.Store self.new.conn)
-            (λ db. HoldsTimeline db (written (held S.Store self.old) change.now stamp)) }
+            (λ db. HoldsTimeline db (written_timeline (held S.Store self.old) change.now stamp)) }
         ensures crash { CrashLeavesOneOf S.Store self.old self.new (held S.Store self.old)
-            (written (held S.Store self.old) change.now stamp) }
+            (written_timeline (held S.Store self.old) change.now stamp) }
         ensures rests { CrashKeeps S.Store self.new }
     {
         if self.is_closed {

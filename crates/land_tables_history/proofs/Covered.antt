@@ -17,7 +17,7 @@ use Rattle.land_tables_history.proofs.MomentOrder.{le_itself}
 use Rattle.land_tables_history.proofs.SweepOrders.{Rising, no_earlier, no_less, rising_in_order, then_not, tie}
 use Rattle.land_tables_history.proofs.Permutations.{all_permuted}
 use Rattle.land_tables_history.specs.Sweeps.Cover.{IsCovered, is_required, is_at, is_provided}
-use Rattle.land_tables_history.specs.Sweeps.CoverSteps.{required, first_reach, covered_from, is_same_key, later, provided, coverage_span_cmp}
+use Rattle.land_tables_history.specs.Sweeps.CoverSteps.{with_required, first_reach, covered_from, is_same_key, later, with_provided, coverage_span_cmp}
 use Rattle.land_tables_history.specs.declared.sweeps.cover.CoverageSpan.{CoverageSpan}
 use Rattle.land_tables_history.specs.declared.sweeps.cover.Reach.{Reach}
 
@@ -373,8 +373,8 @@ covers s (x ∷ xs) some p rising begins = by_kind (λ u a b. covers u xs a b ri
     if_offered rest e false h = anew rest e h (int_le s.need s.reach) refl
 
     by_kind : Rest xs → (c : Bool) → x.required ≡ c → (covered_from (Some s) (x ∷ xs) ≡ true) ↔ IsCovered (after s (x ∷ xs))
-    by_kind rest true e = by (ap (λ c. stepped xs (cond c (required s x) (provided s x))) e) (if_asked rest e (is_same_key s x && int_lt x.since s.reach) refl)
-    by_kind rest false e = by (ap (λ c. stepped xs (cond c (required s x) (provided s x))) e) (if_offered rest e (is_same_key s x && int_le x.since s.reach) refl)
+    by_kind rest true e = by (ap (λ c. stepped xs (cond c (with_required s x) (with_provided s x))) e) (if_asked rest e (is_same_key s x && int_lt x.since s.reach) refl)
+    by_kind rest false e = by (ap (λ c. stepped xs (cond c (with_required s x) (with_provided s x))) e) (if_offered rest e (is_same_key s x && int_le x.since s.reach) refl)
 
 covers_all : (xs : List CoverageSpan) → Rising Follows xs → list_all is_begun xs ≡ true → (covered_from None xs ≡ true) ↔ IsCovered xs
 covers_all [] rising begins = (λ h a b t asks. absurd (false≢true asks), λ h. refl)

@@ -13,7 +13,7 @@ use Rattle.land_core.specs.declared.member.Member.{Member}
 use Rattle.land_fraction.specs.Ratio.{Ratio}
 use Rattle.land_tables_history.proofs.Orders.{at_key, at_once, first_of, found_first, in_any_order, no_more}
 use Rattle.land_tables_history.proofs.Permutations.{filter_permuted}
-use Rattle.land_tables_history.specs.Groups.{HaveMembers, group_members, joined, with_members}
+use Rattle.land_tables_history.specs.Groups.{HaveMembers, group_members, with_member, with_members}
 use Rattle.land_tables_history.specs.declared.group_member.GroupMember.{GroupMember}
 
 abbrev one_of : ℕ → Member → GroupMember
@@ -40,7 +40,7 @@ get_joined : (m : FinMap nat_cmp Members) (es : List GroupMember) (q : ℕ) → 
 unfolding grown
 get_joined m [] q = refl
 get_joined m (e ∷ es) q =
-    get_joined (joined m e) es q
+    get_joined (with_member m e) es q
     ∙ ap (λ d. grown d (joining q es)) (map.get-insert nat_cmp_total m e.group (map.insert (or_none (map.get m e.group)) e.member.party e.member.share) q)
     ∙ go (eq_by_cmp nat_cmp q e.group) refl
   where

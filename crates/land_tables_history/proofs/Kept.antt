@@ -19,7 +19,7 @@ use Rattle.land_tables_history.proofs.KeptVersions.{all_end_by, kept, standing_s
 use Rattle.land_tables_history.proofs.Keys.{grants_flip, mandates_flip, members_flip, namings_flip, numbers_flip}
 use Rattle.land_tables_history.proofs.NamingLists.{namings_distinct}
 use Rattle.land_tables_history.proofs.Proper.{AllProper, Proper, all_proper}
-use Rattle.land_tables_history.specs.Changed.{changed, changed_part, changed_versions, is_among, is_changed, listed_members, named_by, new_mutations}
+use Rattle.land_tables_history.specs.Changed.{changed_history, changed_part, changed_versions, is_among, is_changed, listed_members, named_by, new_mutations}
 use Rattle.land_tables_history.specs.History.{IsRegisterAt}
 use Rattle.land_tables_history.specs.Intervals.{are_intervals, has_intervals, is_same_grant, is_same_mandate, is_same_member, is_same_naming, is_same_number}
 use Rattle.land_tables_history.specs.Laws.{ChangesKeepIntervals, PutsMutations}
@@ -95,10 +95,10 @@ module _ (moments : List Moment) (last stamp : ℤ) (by : AllByRecursion (λ (m 
 
     module _ (change : Change) (r : Register) (once : NamesKeysOnce change) (puts : PutsMutations r change)
         (stands : IsRegisterAt last h r) (sound : IsSound (after change r)) where
-      stands_now : IsRegisterAt stamp (changed r.next change stamp h) (after change r)
+      stands_now : IsRegisterAt stamp (changed_history r.next change stamp h) (after change r)
       stands_now = change_stands change last stamp stamp h r all_ended less (omega (arith, ints)) early once puts (stands_still r stands)
 
-      are_kept : has_intervals (more change.next) (changed r.next change stamp h) ≡ true
+      are_kept : has_intervals (more change.next) (changed_history r.next change stamp h) ≡ true
       are_kept =
           let now = after change r in
           let put = change.put in

@@ -18,7 +18,7 @@ use Rattle.land_core.specs.Members.{Members, member_of, members_in}
 use Rattle.land_core.specs.declared.member.Member.{Member}
 use Rattle.land_fraction.specs.Ratio.{Ratio}
 use Rattle.land_tables_history.proofs.Entered.{insert_new, no_entries}
-use Rattle.land_tables_history.specs.Groups.{group_members, joined, joined_members, members_of, with_members}
+use Rattle.land_tables_history.specs.Groups.{group_members, with_member, joined_members, members_of, with_members}
 use Rattle.land_tables_history.specs.Intervals.{is_same_member}
 use Rattle.land_tables_history.specs.declared.group_member.GroupMember.{GroupMember}
 
@@ -94,7 +94,7 @@ put_member g p s (e ∷ es) old is sorted none = go (nat_cmp g e.0) refl (λ sam
 abbrev pub IsNew : FinMap nat_cmp Members → GroupMember → Type 0
 IsNew m e = map.get (members_of m e.group) e.member.party ≡ None
 
-joined_one : (m : FinMap nat_cmp Members) (e : GroupMember) → IsNew m e → IsPermutation (group_members (joined m e)) (e ∷ group_members m)
+joined_one : (m : FinMap nat_cmp Members) (e : GroupMember) → IsNew m e → IsPermutation (group_members (with_member m e)) (e ∷ group_members m)
 joined_one m e new =
     subst (λ l. IsPermutation (flat_map listed l) (e ∷ group_members m)) (sym (map.entries-insert nat_cmp_total m e.group (joined_members m e)))
     (put_member e.group e.member.party e.member.share (map.entries m) (members_of m e.group) (ap or_none (sym (map.get-entries m e.group))) (T_true (is_sorted nat_cmp (map.entries m)) (map.entries_sorted m)) new)
@@ -103,7 +103,7 @@ same_numbers : (a b : ℕ) → eq_by_cmp nat_cmp a b ≡ (b == a)
 same_numbers a b = grind (arith, nat_tests)
 
 -- a new member stays new after another one has joined
-pub new_still : (m : FinMap nat_cmp Members) (e x : GroupMember) → is_same_member e x ≡ false → IsNew m x → IsNew (joined m e) x
+pub new_still : (m : FinMap nat_cmp Members) (e x : GroupMember) → is_same_member e x ≡ false → IsNew m x → IsNew (with_member m e) x
 new_still m e x apart new = ap (λ o. map.get (or_none o) x.member.party) (map.get-insert nat_cmp_total m e.group (joined_members m e) x.group) ∙ go (eq_by_cmp nat_cmp x.group e.group) refl
   where
     go : (b : Bool) → eq_by_cmp nat_cmp x.group e.group ≡ b → map.get (or_none (cond b (Some (joined_members m e)) (map.get m x.group))) x.member.party ≡ None
@@ -114,7 +114,7 @@ new_still m e x apart new = ap (λ o. map.get (or_none o) x.member.party) (map.g
         ∙ ap (λ (g : ℕ). map.get (members_of m g) x.member.party) (eqb-true e.group x.group (sym (same_numbers x.group e.group) ∙ is)) ∙ new
     go false is = new
 
-all_new_still : (m : FinMap nat_cmp Members) (e : GroupMember) (es : List GroupMember) → list_any (is_same_member e) es ≡ false → AllByRecursion (IsNew m) es → AllByRecursion (IsNew (joined m e)) es
+all_new_still : (m : FinMap nat_cmp Members) (e : GroupMember) (es : List GroupMember) → list_any (is_same_member e) es ≡ false → AllByRecursion (IsNew m) es → AllByRecursion (IsNew (with_member m e)) es
 all_new_still m e [] apart free = tt
 all_new_still m e (x ∷ xs) apart free =
     let parts = or_parts (is_same_member e x) (list_any (is_same_member e) xs) apart in (new_still m e x parts.0 free.0, all_new_still m e xs parts.1 free.1)
@@ -123,10 +123,10 @@ made_from : (m : FinMap nat_cmp Members) (es : List GroupMember) → are_distinc
 made_from m [] distinct free = subst (IsPermutation (group_members m)) (sym (append-nil (group_members m))) (IsPermutation-refl (group_members m))
 made_from m (e ∷ es) distinct free =
     let parts = and_parts (not (list_any (is_same_member e) es)) (are_distinct is_same_member es) distinct in
-    IsPermutation-trans (group_members (with_members (joined m e) es)) (group_members (joined m e) ++ es) (group_members m ++ e ∷ es)
-    (made_from (joined m e) es parts.1 (all_new_still m e es (not-true (list_any (is_same_member e) es) parts.0) free.1))
-    (IsPermutation-trans (group_members (joined m e) ++ es) (e ∷ (group_members m ++ es)) (group_members m ++ e ∷ es)
-    (IsPermutation-append_left es (group_members (joined m e)) (e ∷ group_members m) (joined_one m e free.0))
+    IsPermutation-trans (group_members (with_members (with_member m e) es)) (group_members (with_member m e) ++ es) (group_members m ++ e ∷ es)
+    (made_from (with_member m e) es parts.1 (all_new_still m e es (not-true (list_any (is_same_member e) es) parts.0) free.1))
+    (IsPermutation-trans (group_members (with_member m e) ++ es) (e ∷ (group_members m ++ es)) (group_members m ++ e ∷ es)
+    (IsPermutation-append_left es (group_members (with_member m e)) (e ∷ group_members m) (joined_one m e free.0))
     (IsPermutation-sym (group_members m ++ e ∷ es) (e ∷ (group_members m ++ es)) (IsPermutation-middle (group_members m) e es)))
 
 pub new_from_empty : (e : GroupMember) → IsNew map.empty e

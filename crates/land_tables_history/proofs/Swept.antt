@@ -17,7 +17,7 @@ use Rattle.land_tables_history.proofs.MomentOrder.{le_itself, le_through}
 use Rattle.land_tables_history.proofs.SweepOrders.{Rising, no_earlier, no_less, rising_in_order, then_not, tie}
 use Rattle.land_tables_history.proofs.Permutations.{all_permuted, filter_permuted}
 use Rattle.land_tables_history.specs.Sweeps.Sweep.{AreSound, is_at, standing}
-use Rattle.land_tables_history.specs.Sweeps.SweepSteps.{beginning, begun_by, end, is_begun_by, left_by, live_span_cmp, sound_from, tick_cmp, all_ticks}
+use Rattle.land_tables_history.specs.Sweeps.SweepSteps.{span_start, begun_by, end, is_begun_by, left_by, live_span_cmp, sound_from, tick_cmp, all_ticks}
 use Rattle.land_tables_history.specs.declared.sweeps.sweep.LiveSpan.{LiveSpan}
 use Rattle.land_tables_history.specs.declared.sweeps.sweep.Tick.{Tick}
 
@@ -257,21 +257,21 @@ module _ {T : Type 0} (is_sound : List T → Bool) (empty_is_sound : is_sound []
   each_sound : (live_spans : List (LiveSpan T)) → list_all (judged is_sound live_spans) (all_ticks live_spans) ≡ true → AreSound is_sound live_spans
   each_sound live_spans all key t = elim (latest (judged is_sound live_spans) key t (all_ticks live_spans) all) [
     | inl l ↦
-        let parts = split_list (λ u. nat_eq u.key key ≡ true → u.at ≤ℤ t → u.at ≤ℤ l.best) (map_list beginning live_spans) (map_list end live_spans) l.least in
+        let parts = split_list (λ u. nat_eq u.key key ≡ true → u.at ≤ℤ t → u.at ≤ℤ l.best) (map_list span_start live_spans) (map_list end live_spans) l.least in
         ap (λ xs. is_sound (map_list (λ x. x.what) xs)) (alike_at l.best l.before live_spans parts.0 parts.1) ∙ l.holds
     | inr n ↦
-        let parts = split_list (λ u. nat_eq u.key key ≡ true → u.at ≤ℤ t → ⊥) (map_list beginning live_spans) (map_list end live_spans) n in
+        let parts = split_list (λ u. nat_eq u.key key ≡ true → u.at ≤ℤ t → ⊥) (map_list span_start live_spans) (map_list end live_spans) n in
         ap (λ xs. is_sound (map_list (λ x. x.what) xs)) (nothing_at live_spans parts.0) ∙ empty_is_sound
   ]
     where
-      alike_at : (best : ℤ) → best ≤ℤ t → (xs : List (LiveSpan T)) → AllByRecursion (λ u. nat_eq u.key key ≡ true → u.at ≤ℤ t → u.at ≤ℤ best) (map_list beginning xs)
+      alike_at : (best : ℤ) → best ≤ℤ t → (xs : List (LiveSpan T)) → AllByRecursion (λ u. nat_eq u.key key ≡ true → u.at ≤ℤ t → u.at ≤ℤ best) (map_list span_start xs)
           → AllByRecursion (λ u. nat_eq u.key key ≡ true → u.at ≤ℤ t → u.at ≤ℤ best) (map_list end xs) → filter (is_at key t) xs ≡ filter (is_at key best) xs
       alike_at best p [] b e = refl
       alike_at best p (x ∷ xs) b e =
           ap (λ c. cond c (x ∷ filter (is_at key t) xs) (filter (is_at key t) xs)) (same_since x.key key x.since x.until t best p b.0 e.0)
           ∙ ap (λ l. cond (is_at key best x) (x ∷ l) l) (alike_at best p xs b.1 e.1)
 
-      nothing_at : (xs : List (LiveSpan T)) → AllByRecursion (λ u. nat_eq u.key key ≡ true → u.at ≤ℤ t → ⊥) (map_list beginning xs) → filter (is_at key t) xs ≡ []
+      nothing_at : (xs : List (LiveSpan T)) → AllByRecursion (λ u. nat_eq u.key key ≡ true → u.at ≤ℤ t → ⊥) (map_list span_start xs) → filter (is_at key t) xs ≡ []
       nothing_at [] b = refl
       nothing_at (x ∷ xs) b = ap (λ c. cond c (x ∷ filter (is_at key t) xs) (filter (is_at key t) xs)) (never_since x.key key x.since x.until t b.0) ∙ nothing_at xs b.1
 

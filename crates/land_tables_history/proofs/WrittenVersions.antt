@@ -36,7 +36,7 @@ use Rattle.land_tables_history.specs.Laws.{WritesCloseAll}
 use Rattle.land_tables_history.specs.Open.{never}
 use Rattle.land_tables_history.specs.Pairs.{grants_by_pairs, mandates_by_pairs}
 use Rattle.land_tables_history.specs.Standing.{IsPartAt, standing, stands}
-use Rattle.land_tables_history.specs.Written.{existing, written_mandates, written_members, written_part, written_roles}
+use Rattle.land_tables_history.specs.Written.{existing_records, written_mandates, written_members, written_part, written_roles}
 use Rattle.land_tables_history.specs.declared.group_member.GroupMember.{GroupMember}
 use Rattle.land_tables_history.specs.declared.moment.Moment.{Moment}
 use Rattle.land_tables_history.specs.declared.version.Version.{Version}
@@ -112,23 +112,23 @@ same_below n k next less same = grind (arith, nat_tests)
 
 module _ (next : ℕ) where
   any_existing : {X : Type 0} (test : X → Bool) (number : X → ℕ) → ((x : X) → test x ≡ true → nat_lt (number x) next ≡ true) → (put : List X)
-      → list_any test (existing number next put) ≡ list_any test put
+      → list_any test (existing_records number next put) ≡ list_any test put
   any_existing test number passes put = any-filter_same test (λ x. nat_lt (number x) next) true passes put
 
   number_changed : {V : Type 0} (put : List (ℕ × V)) (ended : List ℕ) (n : ℕ) → nat_lt n next ≡ true
-      → is_changed (existing (λ x. x.0) next put) ended n ≡ is_changed put ended n
+      → is_changed (existing_records (λ x. x.0) next put) ended n ≡ is_changed put ended n
   number_changed put ended n less =
-      list_any-append (nat_eq n) (map_list (λ e. e.0) (existing (λ x. x.0) next put)) ended
+      list_any-append (nat_eq n) (map_list (λ e. e.0) (existing_records (λ x. x.0) next put)) ended
       ∙ ap (λ b. b || list_any (nat_eq n) ended)
-      (list_any-map (nat_eq n) (λ e. e.0) (existing (λ x. x.0) next put)
+      (list_any-map (nat_eq n) (λ e. e.0) (existing_records (λ x. x.0) next put)
       ∙ any_existing (λ e. nat_eq n e.0) (λ e. e.0) (λ e same. same_below n e.0 next less same) put
       ∙ sym (list_any-map (nat_eq n) (λ e. e.0) put))
       ∙ sym (list_any-append (nat_eq n) (map_list (λ e. e.0) put) ended)
 
   key_changed : {K : Type 0} (same : K → K → Bool) (number : K → ℕ) → ((a b : K) → same a b ≡ true → nat_eq (number a) (number b) ≡ true)
-      → (put ended : List K) (key : K) → nat_lt (number key) next ≡ true → is_among same (existing number next put ++ ended) key ≡ is_among same (put ++ ended) key
+      → (put ended : List K) (key : K) → nat_lt (number key) next ≡ true → is_among same (existing_records number next put ++ ended) key ≡ is_among same (put ++ ended) key
   key_changed same number agrees put ended key less =
-      list_any-append (same key) (existing number next put) ended
+      list_any-append (same key) (existing_records number next put) ended
       ∙ ap (λ b. b || list_any (same key) ended) (any_existing (same key) number (λ k is. same_below (number key) (number k) next less (agrees key k is)) put)
       ∙ sym (list_any-append (same key) put ended)
 
@@ -175,26 +175,26 @@ module _ (moments : List Moment) (last stamp : ℤ) (by : AllByRecursion (λ (m 
     part_closed : {V : Type 0} (put : List (ℕ × V)) (ended : List ℕ) (vs : List (Version (ℕ × V))) (m : FinMap nat_cmp V) → Proper is_same_number moments vs → IsPartAt last vs m
         → list_all (λ e. nat_lt e.0 next) (map.entries m) ≡ true → written_part next put ended stamp vs ≡ changed_part put ended stamp vs
     part_closed put ended vs m proper p passes =
-        versions_closed (λ e. is_changed (existing (λ x. x.0) next put) ended e.0) (λ e. is_changed put ended e.0) (λ e. nat_lt e.0 next)
+        versions_closed (λ e. is_changed (existing_records (λ x. x.0) next put) ended e.0) (λ e. is_changed put ended e.0) (λ e. nat_lt e.0 next)
         (λ e less. number_changed next put ended e.0 less) put vs (map.entries m) proper p passes
 
     roles_closed : (put ended : List Grant) (vs : List (Version Grant)) (them : List Grant) → Proper is_same_grant moments vs → IsPermutation (standing last vs) them
         → list_all (λ g. nat_lt g.party next) them ≡ true → written_roles next put ended stamp vs ≡ changed_roles put ended stamp vs
     roles_closed put ended vs them proper p passes =
-        versions_closed (λ grant. is_among (eq_by_cmp grant_cmp) (existing (λ x. x.party) next put ++ ended) grant) (λ grant. is_among (eq_by_cmp grant_cmp) (put ++ ended) grant)
+        versions_closed (λ grant. is_among (eq_by_cmp grant_cmp) (existing_records (λ x. x.party) next put ++ ended) grant) (λ grant. is_among (eq_by_cmp grant_cmp) (put ++ ended) grant)
         (λ g. nat_lt g.party next) (λ g less. key_changed next (eq_by_cmp grant_cmp) (λ x. x.party) same_party put ended g less) put vs them proper p passes
 
     mandates_closed : (put ended : List Mandate) (vs : List (Version Mandate)) (them : List Mandate) → Proper is_same_mandate moments vs → IsPermutation (standing last vs) them
         → list_all (λ m. nat_lt m.principal next) them ≡ true → written_mandates next put ended stamp vs ≡ changed_mandates put ended stamp vs
     mandates_closed put ended vs them proper p passes =
-        versions_closed (λ mandate. is_among (eq_by_cmp mandate_cmp) (existing (λ x. x.principal) next put ++ ended) mandate)
+        versions_closed (λ mandate. is_among (eq_by_cmp mandate_cmp) (existing_records (λ x. x.principal) next put ++ ended) mandate)
         (λ mandate. is_among (eq_by_cmp mandate_cmp) (put ++ ended) mandate) (λ m. nat_lt m.principal next)
         (λ m less. key_changed next (eq_by_cmp mandate_cmp) (λ x. x.principal) same_principal put ended m less) put vs them proper p passes
 
     members_closed : (put : List (ℕ × Members)) (ended : List ℕ) (vs : List (Version GroupMember)) (them : List GroupMember) → Proper is_same_member moments vs
         → IsPermutation (standing last vs) them → list_all (λ e. nat_lt e.group next) them ≡ true → written_members next put ended stamp vs ≡ changed_members put ended stamp vs
     members_closed put ended vs them proper p passes =
-        versions_closed (λ e. is_changed (existing (λ x. x.0) next put) ended e.group) (λ e. is_changed put ended e.group) (λ e. nat_lt e.group next)
+        versions_closed (λ e. is_changed (existing_records (λ x. x.0) next put) ended e.group) (λ e. is_changed put ended e.group) (λ e. nat_lt e.group next)
         (λ e less. number_changed next put ended e.group less) (listed_members put) vs them proper p passes
 
 pub closes_all : WritesCloseAll

@@ -85,8 +85,8 @@ changed_namings next put stamp versions =
     changed_versions (named_by (new_mutations next put)) (λ naming. false) stamp versions
 
 -- the history with a change of a register that had this next number, from the stamp on
-abbrev pub changed : (next : ℕ) → Change → (stamp : ℤ) → History → History
-changed next change stamp h = record {
+abbrev pub changed_history : (next : ℕ) → Change → (stamp : ℤ) → History → History
+changed_history next change stamp h = record {
   parties = changed_part change.put.parties change.ended.parties stamp h.parties;
   roles = changed_roles change.put.roles change.ended.roles stamp h.roles;
   members = changed_members change.put.members change.ended.members stamp h.members;

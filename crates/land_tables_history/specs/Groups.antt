@@ -32,13 +32,13 @@ abbrev pub joined_members : FinMap nat_cmp Members → GroupMember → Members
 joined_members groups e = map.insert (members_of groups e.group) e.member.party e.member.share
 
 -- adds a member to its group, which is created with its first member
-abbrev pub joined : FinMap nat_cmp Members → GroupMember → FinMap nat_cmp Members
-joined groups e = map.insert groups e.group (joined_members groups e)
+abbrev pub with_member : FinMap nat_cmp Members → GroupMember → FinMap nat_cmp Members
+with_member groups e = map.insert groups e.group (joined_members groups e)
 
 -- adds these members, in order
 abbrev pub with_members : FinMap nat_cmp Members → List GroupMember → FinMap nat_cmp Members
 with_members groups [] = groups
-with_members groups (e ∷ es) = with_members (joined groups e) es
+with_members groups (e ∷ es) = with_members (with_member groups e) es
 
 -- the groups whose members are current
 abbrev pub groups_at : ℤ → List (Version GroupMember) → FinMap nat_cmp Members

@@ -16,28 +16,30 @@ use Rattle.land_tables_history.specs.declared.history.History.{History}
 use Rattle.land_tables_history.specs.declared.version.Version.{Version}
 
 -- the records of existing objects, whose numbers are below the next number
-abbrev pub existing : {X : Type 0} → (number : X → ℕ) → (next : ℕ) → List X → List X
-existing number next put = filter (λ x. nat_lt (number x) next) put
+abbrev pub existing_records : {X : Type 0} → (number : X → ℕ) → (next : ℕ) → List X → List X
+existing_records number next put = filter (λ x. nat_lt (number x) next) put
 
 -- records: inserted ones start, and current versions of an ended or an existing inserted number end
 abbrev pub written_part : {V : Type 0} → (next : ℕ) → (put : List (ℕ × V)) → (ended : List ℕ) → (stamp : ℤ)
     → List (Version (ℕ × V)) → List (Version (ℕ × V))
 written_part next put ended stamp versions =
-    changed_versions put (λ e. is_changed (existing (λ x. x.0) next put) ended e.0) stamp versions
+    changed_versions put (λ e. is_changed (existing_records (λ x. x.0) next put) ended e.0) stamp versions
 
 -- roles: granted ones start, and current versions of revoked ones end, or of granted ones of existing parties
 abbrev pub written_roles : (next : ℕ) → (put ended : List Grant) → (stamp : ℤ) → List (Version Grant)
     → List (Version Grant)
 written_roles next put ended stamp versions =
     changed_versions put
-    (λ grant. is_among (eq_by_cmp grant_cmp) (existing (λ x. x.party) next put ++ ended) grant) stamp versions
+    (λ grant. is_among (eq_by_cmp grant_cmp) (existing_records (λ x. x.party) next put ++ ended) grant)
+    stamp versions
 
 -- mandates: new ones start, and current versions of withdrawn ones end, or of new ones of existing principals
 abbrev pub written_mandates : (next : ℕ) → (put ended : List Mandate) → (stamp : ℤ) → List (Version Mandate)
     → List (Version Mandate)
 written_mandates next put ended stamp versions =
     changed_versions put
-    (λ mandate. is_among (eq_by_cmp mandate_cmp) (existing (λ x. x.principal) next put ++ ended) mandate)
+    (λ mandate.
+    is_among (eq_by_cmp mandate_cmp) (existing_records (λ x. x.principal) next put ++ ended) mandate)
     stamp versions
 
 -- members: those of inserted groups start, and current members of an ended or an existing inserted group end
@@ -45,7 +47,7 @@ abbrev pub written_members : (next : ℕ) → (put : List (ℕ × Members)) → 
     → List (Version GroupMember) → List (Version GroupMember)
 written_members next put ended stamp versions =
     changed_versions (listed_members put)
-    (λ e. is_changed (existing (λ x. x.0) next put) ended e.group) stamp versions
+    (λ e. is_changed (existing_records (λ x. x.0) next put) ended e.group) stamp versions
 
 -- the history that a write of a change leaves, if the register had this next number
 abbrev pub written_history : (next : ℕ) → Change → (stamp : ℤ) → History → History

@@ -12,12 +12,12 @@ pub(crate) fn stamps_of(alloc: Global, moments: &[Moment]) -> Result<Vec<i64>, A
     ensures same { IfOk result (λ it. IsPermutation (map_list (λ m. m.stamp) moments.now) it.items) }
     ensures sorted { IfOk result (λ it. IsSorted int_cmp it.items) }
 {
-    let mut stamps = listed(alloc, moments)?;
+    let mut stamps = copy_stamps(alloc, moments)?;
     stamps.sort_unstable();
     Ok(stamps)
 }
 
-fn listed(alloc: Global, moments: &[Moment]) -> Result<Vec<i64>, AllocError>
+fn copy_stamps(alloc: Global, moments: &[Moment]) -> Result<Vec<i64>, AllocError>
     ensures { IfOk result (λ it. it.items ≡ map_list (λ m. m.stamp) moments.now) }
 {
     let mut stamps = Vec::new(alloc);

@@ -12,7 +12,7 @@ use Rattle.land_fraction.specs.Ratio.{Ratio, IsFraction, over}
 use Rattle.land_tables_history.proofs.MomentOrder.{le_true}
 use Rattle.land_tables_rows.proofs.Stepping.{same_value, stepped}
 use Rattle.land_tables_rows.specs.Cells.Texts.{is_storable}
-use Rattle.land_tables_rows.specs.Reading.Cells.{allowed, amount_in, end_in, integer_in, moment_in, natural_in, natural_of, null_in, number_in, share_in, text_in, until_most}
+use Rattle.land_tables_rows.specs.Reading.Cells.{number_if, amount_in, end_in, integer_in, moment_in, natural_in, natural_of, null_in, number_in, share_in, text_in, until_most}
 use Rattle.land_tables_schema.specs.Rows.Versions.{never, whole}
 use Rattle.land_wire_json.specs.Bodies.Fields.{require_text}
 use Rattle.land_wire_json.specs.Bodies.Shares.{share_or_fault}
@@ -115,9 +115,9 @@ if_allowed : (is_allowed : Bool) (m n : ℕ) → ◌≡◌ {A = Result ℕ WireF
 if_allowed true m n e = same_value m n e
 if_allowed false m n e = let none : ⊥ = cc in absurd none
 
-allowed_is : (is_allowed : ℕ → Bool) (c : Value) (n : ℕ) → (natural_in c >>= allowed is_allowed) ≡ Ok n → c ≡ whole n
+allowed_is : (is_allowed : ℕ → Bool) (c : Value) (n : ℕ) → (natural_in c >>= number_if is_allowed) ≡ Ok n → c ≡ whole n
 allowed_is is_allowed c n e =
-    let h = stepped (natural_in c) (allowed is_allowed) n e in
+    let h = stepped (natural_in c) (number_if is_allowed) n e in
     natural_is c h.given h.is ∙ ap whole (if_allowed (is_allowed h.given) h.given n h.rest)
 
 pub number_is : (c : Value) (n : ℕ) → number_in c ≡ Ok n → c ≡ whole n

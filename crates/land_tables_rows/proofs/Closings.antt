@@ -2,7 +2,7 @@
 use Rattle.std.proofs.Common.{◌≡◌, ◌&&◌, ℤ, Bool, true, false, Result, Ok, if◌then◌else◌, sym, ap₂}
 use Rattle.std.specs.Ordering.{int_eq}
 use Rattle.land_tables_history.specs.declared.version.Version.{Version}
-use Rattle.land_tables_rows.specs.Cells.Closable.{ended}
+use Rattle.land_tables_rows.specs.Cells.Closable.{ended_version}
 use Rattle.land_tables_rows.specs.Reading.Cells.{end_in}
 use Rattle.land_tables_schema.specs.Rows.Versions as laid
 use Rattle.land_tables_schema.specs.Rows.Versions.{closed_version, never}
@@ -23,7 +23,7 @@ module _ {A C : Type 0} (read : Row → Result (Version A) WireFault) (cells : l
   by true e again = again
   by false e again = e
 
-  pub closing : IsReadAs read cells meant_row meant p v → end_in (Int stamp) ≡ Ok stamp → read (cells p) ≡ Ok v → read (cells (closed_version meant_row stamp p)) ≡ Ok (ended meant stamp v)
+  pub closing : IsReadAs read cells meant_row meant p v → end_in (Int stamp) ≡ Ok stamp → read (cells p) ≡ Ok v → read (cells (closed_version meant_row stamp p)) ≡ Ok (ended_version meant stamp v)
   closing h is_end e =
       let test : (meant v.what && int_eq v.until never) ≡ (meant_row p.what && int_eq p.until never) = ap₂ (λ a z. a && int_eq z never) (sym h.same) (sym h.until) in
       rw test (by (meant_row p.what && int_eq p.until never) e (h.again stamp is_end))

@@ -13,7 +13,7 @@ use Rattle.land_core.specs.declared.source.SourceRecord.{SourceRecord}
 use Rattle.land_core.specs.declared.unit.UnitRecord.{UnitRecord}
 use Rattle.land_tables_history.specs.Changed.{opened_version, changed_namings, changed_versions, closed_version, is_changed, listed_members, named_by, new_mutations}
 use Rattle.land_tables_history.specs.Intervals.{is_same_grant, is_same_mandate}
-use Rattle.land_tables_history.specs.Written.{existing, written_history, written_mandates, written_members, written_part, written_roles}
+use Rattle.land_tables_history.specs.Written.{existing_records, written_history, written_mandates, written_members, written_part, written_roles}
 use Rattle.land_tables_history.specs.declared.history.History.{History}
 use Rattle.land_tables_history.specs.declared.moment.Moment.{Moment}
 use Rattle.land_tables_history.specs.declared.version.Version.{Version}
@@ -87,44 +87,44 @@ module _ {X : Type 0} (reading : Reading X) (insert_moment : List (Version X) �
   kind_edits put meant stamp a b done = one_edits (changed_versions put meant stamp) a b done.schema done.held done.kept
 
 module _ (laws : TableChangesKeepHistory) (stamp : ℤ) (a b : Database) where
-  pub parties_edit : (next : ℕ) (put : List (ℕ × PartyRecord)) (ended : List ℕ) → Changes parties put (λ e. is_changed (existing (λ x. x.0) next put) ended e.0) stamp a b → RewritesTables (λ h. record h { parties = written_part next put ended stamp h.parties }) a b
-  parties_edit next put ended done = kind_edits parties (λ vs h. record h { parties = vs }) (λ h. h.parties) laws.parties (λ db moments h holds. holds.the_parties) (λ e. absurd (omega arith)) put (λ e. is_changed (existing (λ x. x.0) next put) ended e.0) stamp a b done
+  pub parties_edit : (next : ℕ) (put : List (ℕ × PartyRecord)) (ended : List ℕ) → Changes parties put (λ e. is_changed (existing_records (λ x. x.0) next put) ended e.0) stamp a b → RewritesTables (λ h. record h { parties = written_part next put ended stamp h.parties }) a b
+  parties_edit next put ended done = kind_edits parties (λ vs h. record h { parties = vs }) (λ h. h.parties) laws.parties (λ db moments h holds. holds.the_parties) (λ e. absurd (omega arith)) put (λ e. is_changed (existing_records (λ x. x.0) next put) ended e.0) stamp a b done
 
-  pub members_edit : (next : ℕ) (put : List (ℕ × Members)) (ended : List ℕ) → Changes members (listed_members put) (λ e. is_changed (existing (λ x. x.0) next put) ended e.group) stamp a b → RewritesTables (λ h. record h { members = written_members next put ended stamp h.members }) a b
-  members_edit next put ended done = kind_edits members (λ vs h. record h { members = vs }) (λ h. h.members) laws.members (λ db moments h holds. holds.the_members) (λ e. absurd (omega arith)) (listed_members put) (λ e. is_changed (existing (λ x. x.0) next put) ended e.group) stamp a b done
+  pub members_edit : (next : ℕ) (put : List (ℕ × Members)) (ended : List ℕ) → Changes members (listed_members put) (λ e. is_changed (existing_records (λ x. x.0) next put) ended e.group) stamp a b → RewritesTables (λ h. record h { members = written_members next put ended stamp h.members }) a b
+  members_edit next put ended done = kind_edits members (λ vs h. record h { members = vs }) (λ h. h.members) laws.members (λ db moments h holds. holds.the_members) (λ e. absurd (omega arith)) (listed_members put) (λ e. is_changed (existing_records (λ x. x.0) next put) ended e.group) stamp a b done
 
-  pub units_edit : (next : ℕ) (put : List (ℕ × UnitRecord)) (ended : List ℕ) → Changes units put (λ e. is_changed (existing (λ x. x.0) next put) ended e.0) stamp a b → RewritesTables (λ h. record h { units = written_part next put ended stamp h.units }) a b
-  units_edit next put ended done = kind_edits units (λ vs h. record h { units = vs }) (λ h. h.units) laws.units (λ db moments h holds. holds.the_units) (λ e. absurd (omega arith)) put (λ e. is_changed (existing (λ x. x.0) next put) ended e.0) stamp a b done
+  pub units_edit : (next : ℕ) (put : List (ℕ × UnitRecord)) (ended : List ℕ) → Changes units put (λ e. is_changed (existing_records (λ x. x.0) next put) ended e.0) stamp a b → RewritesTables (λ h. record h { units = written_part next put ended stamp h.units }) a b
+  units_edit next put ended done = kind_edits units (λ vs h. record h { units = vs }) (λ h. h.units) laws.units (λ db moments h holds. holds.the_units) (λ e. absurd (omega arith)) put (λ e. is_changed (existing_records (λ x. x.0) next put) ended e.0) stamp a b done
 
-  pub parcels_edit : (next : ℕ) (put : List (ℕ × ParcelRecord)) (ended : List ℕ) → Changes parcels put (λ e. is_changed (existing (λ x. x.0) next put) ended e.0) stamp a b → RewritesTables (λ h. record h { parcels = written_part next put ended stamp h.parcels }) a b
-  parcels_edit next put ended done = kind_edits parcels (λ vs h. record h { parcels = vs }) (λ h. h.parcels) laws.parcels (λ db moments h holds. holds.the_parcels) (λ e. absurd (omega arith)) put (λ e. is_changed (existing (λ x. x.0) next put) ended e.0) stamp a b done
+  pub parcels_edit : (next : ℕ) (put : List (ℕ × ParcelRecord)) (ended : List ℕ) → Changes parcels put (λ e. is_changed (existing_records (λ x. x.0) next put) ended e.0) stamp a b → RewritesTables (λ h. record h { parcels = written_part next put ended stamp h.parcels }) a b
+  parcels_edit next put ended done = kind_edits parcels (λ vs h. record h { parcels = vs }) (λ h. h.parcels) laws.parcels (λ db moments h holds. holds.the_parcels) (λ e. absurd (omega arith)) put (λ e. is_changed (existing_records (λ x. x.0) next put) ended e.0) stamp a b done
 
-  pub rrrs_edit : (next : ℕ) (put : List (ℕ × RrrRecord)) (ended : List ℕ) → Changes rrrs put (λ e. is_changed (existing (λ x. x.0) next put) ended e.0) stamp a b → RewritesTables (λ h. record h { rrrs = written_part next put ended stamp h.rrrs }) a b
-  rrrs_edit next put ended done = kind_edits rrrs (λ vs h. record h { rrrs = vs }) (λ h. h.rrrs) laws.rrrs (λ db moments h holds. holds.the_rrrs) (λ e. absurd (omega arith)) put (λ e. is_changed (existing (λ x. x.0) next put) ended e.0) stamp a b done
+  pub rrrs_edit : (next : ℕ) (put : List (ℕ × RrrRecord)) (ended : List ℕ) → Changes rrrs put (λ e. is_changed (existing_records (λ x. x.0) next put) ended e.0) stamp a b → RewritesTables (λ h. record h { rrrs = written_part next put ended stamp h.rrrs }) a b
+  rrrs_edit next put ended done = kind_edits rrrs (λ vs h. record h { rrrs = vs }) (λ h. h.rrrs) laws.rrrs (λ db moments h holds. holds.the_rrrs) (λ e. absurd (omega arith)) put (λ e. is_changed (existing_records (λ x. x.0) next put) ended e.0) stamp a b done
 
-  pub sources_edit : (next : ℕ) (put : List (ℕ × SourceRecord)) (ended : List ℕ) → Changes sources put (λ e. is_changed (existing (λ x. x.0) next put) ended e.0) stamp a b → RewritesTables (λ h. record h { sources = written_part next put ended stamp h.sources }) a b
-  sources_edit next put ended done = kind_edits sources (λ vs h. record h { sources = vs }) (λ h. h.sources) laws.sources (λ db moments h holds. holds.the_sources) (λ e. absurd (omega arith)) put (λ e. is_changed (existing (λ x. x.0) next put) ended e.0) stamp a b done
+  pub sources_edit : (next : ℕ) (put : List (ℕ × SourceRecord)) (ended : List ℕ) → Changes sources put (λ e. is_changed (existing_records (λ x. x.0) next put) ended e.0) stamp a b → RewritesTables (λ h. record h { sources = written_part next put ended stamp h.sources }) a b
+  sources_edit next put ended done = kind_edits sources (λ vs h. record h { sources = vs }) (λ h. h.sources) laws.sources (λ db moments h holds. holds.the_sources) (λ e. absurd (omega arith)) put (λ e. is_changed (existing_records (λ x. x.0) next put) ended e.0) stamp a b done
 
-  pub mutations_edit : (next : ℕ) (put : List (ℕ × MutationRecord)) (ended : List ℕ) → Changes mutations put (λ e. is_changed (existing (λ x. x.0) next put) ended e.0) stamp a b → RewritesTables (λ h. record h { mutations = written_part next put ended stamp h.mutations }) a b
-  mutations_edit next put ended done = kind_edits mutations (λ vs h. record h { mutations = vs }) (λ h. h.mutations) laws.mutations (λ db moments h holds. holds.the_mutations) (λ e. absurd (omega arith)) put (λ e. is_changed (existing (λ x. x.0) next put) ended e.0) stamp a b done
+  pub mutations_edit : (next : ℕ) (put : List (ℕ × MutationRecord)) (ended : List ℕ) → Changes mutations put (λ e. is_changed (existing_records (λ x. x.0) next put) ended e.0) stamp a b → RewritesTables (λ h. record h { mutations = written_part next put ended stamp h.mutations }) a b
+  mutations_edit next put ended done = kind_edits mutations (λ vs h. record h { mutations = vs }) (λ h. h.mutations) laws.mutations (λ db moments h holds. holds.the_mutations) (λ e. absurd (omega arith)) put (λ e. is_changed (existing_records (λ x. x.0) next put) ended e.0) stamp a b done
 
   -- ---- roles: each grant is its own key
 
-  pub roles_edit : (next : ℕ) (put ended : List Grant) → Changes roles put (λ grant. list_any (is_same_grant grant) (map (λ g. g) (existing (λ x. x.party) next put) ++ ended)) stamp a b
+  pub roles_edit : (next : ℕ) (put ended : List Grant) → Changes roles put (λ grant. list_any (is_same_grant grant) (map (λ g. g) (existing_records (λ x. x.party) next put) ++ ended)) stamp a b
       → RewritesTables (λ h. record h { roles = written_roles next put ended stamp h.roles }) a b
   roles_edit next put ended done =
-      subst (λ (keys : List Grant). RewritesTables (λ h. record h { roles = changed_versions put (λ grant. list_any (is_same_grant grant) (keys ++ ended)) stamp h.roles }) a b) (all_same (existing (λ x. x.party) next put))
+      subst (λ (keys : List Grant). RewritesTables (λ h. record h { roles = changed_versions put (λ grant. list_any (is_same_grant grant) (keys ++ ended)) stamp h.roles }) a b) (all_same (existing_records (λ x. x.party) next put))
       (kind_edits roles (λ vs h. record h { roles = vs }) (λ h. h.roles) laws.roles (λ db moments h holds. holds.the_roles) (λ e. absurd (omega arith)) put
-      (λ grant. list_any (is_same_grant grant) (map (λ g. g) (existing (λ x. x.party) next put) ++ ended)) stamp a b done)
+      (λ grant. list_any (is_same_grant grant) (map (λ g. g) (existing_records (λ x. x.party) next put) ++ ended)) stamp a b done)
 
   -- ---- mandates: each mandate is its own key
 
-  pub mandates_edit : (next : ℕ) (put ended : List Mandate) → Changes mandates put (λ mandate. list_any (is_same_mandate mandate) (map (λ m. m) (existing (λ x. x.principal) next put) ++ ended)) stamp a b
+  pub mandates_edit : (next : ℕ) (put ended : List Mandate) → Changes mandates put (λ mandate. list_any (is_same_mandate mandate) (map (λ m. m) (existing_records (λ x. x.principal) next put) ++ ended)) stamp a b
       → RewritesTables (λ h. record h { mandates = written_mandates next put ended stamp h.mandates }) a b
   mandates_edit next put ended done =
-      subst (λ (keys : List Mandate). RewritesTables (λ h. record h { mandates = changed_versions put (λ mandate. list_any (is_same_mandate mandate) (keys ++ ended)) stamp h.mandates }) a b) (all_same (existing (λ x. x.principal) next put))
+      subst (λ (keys : List Mandate). RewritesTables (λ h. record h { mandates = changed_versions put (λ mandate. list_any (is_same_mandate mandate) (keys ++ ended)) stamp h.mandates }) a b) (all_same (existing_records (λ x. x.principal) next put))
       (kind_edits mandates (λ vs h. record h { mandates = vs }) (λ h. h.mandates) laws.mandates (λ db moments h holds. holds.the_mandates) (λ e. absurd (omega arith)) put
-      (λ mandate. list_any (is_same_mandate mandate) (map (λ m. m) (existing (λ x. x.principal) next put) ++ ended)) stamp a b done)
+      (λ mandate. list_any (is_same_mandate mandate) (map (λ m. m) (existing_records (λ x. x.principal) next put) ++ ended)) stamp a b done)
 
   -- ---- links of mutations to units: none ends
 

@@ -7,7 +7,7 @@ use Rattle.land_core.specs.Numbers.{is_number}
 use Rattle.land_fraction.proofs.Fractions.{the_answer}
 use Rattle.land_fraction.specs.Ratio.{IsFraction, Ratio}
 use Rattle.land_tables_rows.proofs.Bounds.{bound, same_ok, test_passes}
-use Rattle.land_tables_rows.specs.Reading.Cells.{allowed, end_in, flag_in, flag_of, integer_in, is_next, moment_in, natural_in, natural_of, next_in, number_in, share_in, text_in, until_most}
+use Rattle.land_tables_rows.specs.Reading.Cells.{number_if, end_in, flag_in, flag_of, integer_in, is_next, moment_in, natural_in, natural_of, next_in, number_in, share_in, text_in, until_most}
 use Rattle.land_tables_schema.specs.Rows.Versions.{flag, whole}
 use Rattle.land_wire_json.specs.Bodies.Fields.{require_text}
 use Rattle.land_wire_json.specs.Bodies.Shares.{share_or_fault}
@@ -48,14 +48,14 @@ allowed_is is_allowed m n false h = absurd (let k = h in cc)
 pub number_cell : (cell : Value) (n : ℕ) → number_in cell ≡ Ok n → cell ≡ whole n
 unfolding number_in
 number_cell cell n h =
-    let one = bound (natural_in cell) (allowed is_number) n h in
+    let one = bound (natural_in cell) (number_if is_number) n h in
     natural_cell cell one.0 one.1 ∙ ap whole (allowed_is is_number one.0 n (is_number one.0) one.2)
 
 -- the number that the next new object takes
 pub next_cell : (cell : Value) (n : ℕ) → next_in cell ≡ Ok n → cell ≡ whole n
 unfolding next_in
 next_cell cell n h =
-    let one = bound (natural_in cell) (allowed is_next) n h in
+    let one = bound (natural_in cell) (number_if is_next) n h in
     natural_cell cell one.0 one.1 ∙ ap whole (allowed_is is_next one.0 n (is_next one.0) one.2)
 
 pub next_reads : (n : ℕ) → is_next n ≡ true → next_in (whole n) ≡ Ok n

@@ -20,7 +20,7 @@ use Rattle.land_tables_history.proofs.Distinct.{distinct_standing}
 use Rattle.land_tables_history.proofs.MadeGroups.{made_groups}
 use Rattle.land_tables_history.proofs.NamingTests.{any_standing}
 use Rattle.land_tables_history.proofs.Proper.{AllProper, all_proper}
-use Rattle.land_tables_history.specs.Groups.{HaveMembers, group_members, groups_at, joined, joined_members, members_of, with_members}
+use Rattle.land_tables_history.specs.Groups.{HaveMembers, group_members, groups_at, with_member, joined_members, members_of, with_members}
 use Rattle.land_tables_history.specs.History.{register_at}
 use Rattle.land_tables_history.specs.Intervals.{AreApart, has_intervals, is_interval, is_same_member}
 use Rattle.land_tables_history.specs.Standing.{standing, stands}
@@ -48,7 +48,7 @@ some_there m p s empty =
     itself : (p : ℕ) → eq_by_cmp nat_cmp p p ≡ true
     itself p = grind (arith, nat_tests)
 
-have_more : (m : FinMap nat_cmp Members) (e : GroupMember) → HaveMembers m → HaveMembers (joined m e)
+have_more : (m : FinMap nat_cmp Members) (e : GroupMember) → HaveMembers m → HaveMembers (with_member m e)
 have_more m e have q empty = go (eq_by_cmp nat_cmp q e.group) (sym (map.get-insert nat_cmp_total m e.group (joined_members m e) q) ∙ empty)
   where
     of_some : (a b : Members) → Some a ≡ Some b → a ≡ b
@@ -60,7 +60,7 @@ have_more m e have q empty = go (eq_by_cmp nat_cmp q e.group) (sym (map.get-inse
 
 have_all : (m : FinMap nat_cmp Members) (es : List GroupMember) → HaveMembers m → HaveMembers (with_members m es)
 have_all m [] have = have
-have_all m (e ∷ es) have = have_all (joined m e) es (have_more m e have)
+have_all m (e ∷ es) have = have_all (with_member m e) es (have_more m e have)
 
 have_members : (t : ℤ) (vs : List (Version GroupMember)) → HaveMembers (groups_at t vs)
 have_members t vs = have_all map.empty (standing t vs) (λ q is. none_is_not_some (sym (map.get-empty nat_cmp q) ∙ is))

@@ -24,7 +24,7 @@ use Rattle.land_tables_history.specs.declared.version.Version.{Version}
 use Rattle.land_tables_validity.proofs.Covers.{nonempty}
 use Rattle.land_tables_validity.proofs.PairsApart.{never_pair}
 use Rattle.land_tables_validity.proofs.VersionsApart.{apart_is_distinct, eq_then}
-use Rattle.land_tables_validity.specs.Lodgings.{lodged, lodging_of, owned_span}
+use Rattle.land_tables_validity.specs.Lodgings.{lodging_span, lodging_of, owned_span}
 use Rattle.land_tables_validity.specs.Never.{Never}
 use Rattle.land_tables_history.specs.Sweeps.Apart.{are_apart, overlap as overlap_by}
 use Rattle.land_tables_history.specs.declared.sweeps.apart.Span.{Span}
@@ -57,10 +57,10 @@ shown_apart : (spans : List (Span (ℕ × Bor (List ℕ))))
 shown_apart spans = apart_is_distinct lent_cmp spans ∙ sym (distinct-map (overlap_by lodging_cmp) owned_span spans)
 
 lodged_apart : (vs : List (Version (ℕ × MutationRecord)))
-    → are_distinct (overlap_by lodging_cmp) (map_list lodged vs) ≡ are_distinct (overlap (λ a b. have_same_reference a.1 b.1)) vs
+    → are_distinct (overlap_by lodging_cmp) (map_list lodging_span vs) ≡ are_distinct (overlap (λ a b. have_same_reference a.1 b.1)) vs
 lodged_apart vs =
-    distinct-map (overlap_by lodging_cmp) lodged vs
-    ∙ distinct_alike (λ v w. overlap_by lodging_cmp (lodged v) (lodged w)) (overlap (λ a b. have_same_reference a.1 b.1))
+    distinct-map (overlap_by lodging_cmp) lodging_span vs
+    ∙ distinct_alike (λ v w. overlap_by lodging_cmp (lodging_span v) (lodging_span w)) (overlap (λ a b. have_same_reference a.1 b.1))
     (λ v w. ap (λ b. b && int_lt v.since w.until && int_lt w.since v.until) (by_lodgings v.what.1 w.what.1)) vs
 
 begun_all : (moments : List Moment) (vs : List (Version (ℕ × MutationRecord))) → list_all (is_interval moments) vs ≡ true
@@ -71,12 +71,12 @@ begun_all moments (v ∷ vs) all =
     and_from (int_lt v.since v.until) (list_all (λ v. int_lt v.since v.until) vs) (nonempty moments v parts.0) (begun_all moments vs parts.1)
 
 module _ (moments : List Moment) (h : History) (intervals : has_intervals moments h ≡ true) (spans : List (Span (ℕ × Bor (List ℕ))))
-    (made : map_list owned_span spans ≡ map_list lodged h.mutations) where
+    (made : map_list owned_span spans ≡ map_list lodging_span h.mutations) where
   pub all_lodged_begin : list_all (λ x. int_lt x.since x.until) spans ≡ true
   all_lodged_begin =
       sym (list_all-map (λ (x : Span (ℕ × List ℕ)). int_lt x.since x.until) owned_span spans)
       ∙ ap (list_all (λ x. int_lt x.since x.until)) made
-      ∙ list_all-map (λ (x : Span (ℕ × List ℕ)). int_lt x.since x.until) lodged h.mutations
+      ∙ list_all-map (λ (x : Span (ℕ × List ℕ)). int_lt x.since x.until) lodging_span h.mutations
       ∙ begun_all moments h.mutations (all_proper moments h intervals).mutations.intervals
 
   pub references_apart : (are_apart lent_cmp spans ≡ true) ↔ Never has_reused_reference moments h

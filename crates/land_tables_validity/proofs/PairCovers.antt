@@ -12,7 +12,7 @@ use Rattle.land_tables_history.specs.declared.moment.Moment.{Moment}
 use Rattle.land_tables_history.specs.declared.version.Version.{Version}
 use Rattle.land_tables_validity.proofs.Covers.{nonempty}
 use Rattle.land_tables_validity.proofs.Latest.{Empty, Matched, matched}
-use Rattle.land_tables_validity.specs.KeyPairs.{pair_at, paired, key_pairs}
+use Rattle.land_tables_validity.specs.KeyPairs.{pair_at, key_spans, key_pairs}
 use Rattle.land_tables_validity.specs.CoverageSpans.{are_in_range}
 use Rattle.land_tables_history.specs.Sweeps.Cover.{IsCovered, is_required, is_at, is_provided}
 
@@ -63,19 +63,19 @@ one_stands c l u key (k ∷ ks) =
 
 module _ {X : Type 0} (keys : X → List (ℕ × ℕ)) (required : Bool) (key : ℕ × ℕ) (t : ℤ) where
   offered_in : (vs : List (Version X))
-      → is_provided (flat_map (paired required keys) vs) key.0 key.1 t ≡ (not required && stood (has_key keys key) vs t)
+      → is_provided (flat_map (key_spans required keys) vs) key.0 key.1 t ≡ (not required && stood (has_key keys key) vs t)
   offered_in [] = and_nothing (not required)
   offered_in (v ∷ vs) =
-      list_any-append (λ x. not x.required && is_at key.0 key.1 t x) (paired required keys v) (flat_map (paired required keys) vs)
+      list_any-append (λ x. not x.required && is_at key.0 key.1 t x) (key_spans required keys v) (flat_map (key_spans required keys) vs)
       ∙ ap₂ (λ b c. b || c)
       (list_any-map (λ x. not x.required && is_at key.0 key.1 t x) (λ k. pair_at required k.0 k.1 v.since v.until) (keys v.what)
       ∙ one_stands (not required) (int_le v.since t) (int_lt t v.until) key (keys v.what)) (offered_in vs)
       ∙ shared (not required) (stands t v && has_key keys key v.what) (stood (has_key keys key) vs t)
 
-  asked_in : (vs : List (Version X)) → is_required (flat_map (paired required keys) vs) key.0 key.1 t ≡ (required && stood (has_key keys key) vs t)
+  asked_in : (vs : List (Version X)) → is_required (flat_map (key_spans required keys) vs) key.0 key.1 t ≡ (required && stood (has_key keys key) vs t)
   asked_in [] = and_nothing required
   asked_in (v ∷ vs) =
-      list_any-append (λ x. x.required && is_at key.0 key.1 t x) (paired required keys v) (flat_map (paired required keys) vs)
+      list_any-append (λ x. x.required && is_at key.0 key.1 t x) (key_spans required keys v) (flat_map (key_spans required keys) vs)
       ∙ ap₂ (λ b c. b || c)
       (list_any-map (λ x. x.required && is_at key.0 key.1 t x) (λ k. pair_at required k.0 k.1 v.since v.until) (keys v.what)
       ∙ one_stands required (int_le v.since t) (int_lt t v.until) key (keys v.what)) (asked_in vs)
@@ -84,13 +84,13 @@ module _ {X : Type 0} (keys : X → List (ℕ × ℕ)) (required : Bool) (key : 
 module _ {X Y : Type 0} (provided : X → List (ℕ × ℕ)) (xs : List (Version X)) (required : Y → List (ℕ × ℕ)) (ys : List (Version Y)) where
   offers_are : (key : ℕ × ℕ) (t : ℤ) → is_provided (key_pairs provided xs required ys) key.0 key.1 t ≡ stood (has_key provided key) xs t
   offers_are key t =
-      list_any-append (λ x. not x.required && is_at key.0 key.1 t x) (flat_map (paired false provided) xs) (flat_map (paired true required) ys)
+      list_any-append (λ x. not x.required && is_at key.0 key.1 t x) (flat_map (key_spans false provided) xs) (flat_map (key_spans true required) ys)
       ∙ ap₂ (λ b c. b || c) (offered_in provided false key t xs) (offered_in required true key t ys)
       ∙ or_nothing (stood (has_key provided key) xs t)
 
   asks_are : (key : ℕ × ℕ) (t : ℤ) → is_required (key_pairs provided xs required ys) key.0 key.1 t ≡ stood (has_key required key) ys t
   asks_are key t =
-      list_any-append (λ x. x.required && is_at key.0 key.1 t x) (flat_map (paired false provided) xs) (flat_map (paired true required) ys)
+      list_any-append (λ x. x.required && is_at key.0 key.1 t x) (flat_map (key_spans false provided) xs) (flat_map (key_spans true required) ys)
       ∙ ap₂ (λ b c. b || c) (asked_in provided false key t xs) (asked_in required true key t ys)
 
   -- required moments are provided if and only if each current key of one side is current on the other
@@ -169,13 +169,13 @@ all_begin required since until h (k ∷ ks) =
 
 paired_begin : {X : Type 0} (moments : List Moment) (required : Bool) (keys : X → List (ℕ × ℕ)) (vs : List (Version X))
     → list_all (is_interval moments) vs ≡ true
-    → list_all (λ x. int_lt x.since x.until) (flat_map (paired required keys) vs) ≡ true
+    → list_all (λ x. int_lt x.since x.until) (flat_map (key_spans required keys) vs) ≡ true
 paired_begin moments required keys [] h = refl
 paired_begin moments required keys (v ∷ vs) h =
     let parts = and_parts (is_interval moments v) (list_all (is_interval moments) vs) h in
-    list_all-append (λ x. int_lt x.since x.until) (paired required keys v) (flat_map (paired required keys) vs)
-    ∙ and_from (list_all (λ x. int_lt x.since x.until) (paired required keys v))
-    (list_all (λ x. int_lt x.since x.until) (flat_map (paired required keys) vs))
+    list_all-append (λ x. int_lt x.since x.until) (key_spans required keys v) (flat_map (key_spans required keys) vs)
+    ∙ and_from (list_all (λ x. int_lt x.since x.until) (key_spans required keys v))
+    (list_all (λ x. int_lt x.since x.until) (flat_map (key_spans required keys) vs))
     (all_begin required v.since v.until (nonempty moments v parts.0) (keys v.what)) (paired_begin moments required keys vs parts.1)
 
 pub pairs_begin : {X Y : Type 0} (moments : List Moment) (provided : X → List (ℕ × ℕ)) (xs : List (Version X))
@@ -183,7 +183,7 @@ pub pairs_begin : {X Y : Type 0} (moments : List Moment) (provided : X → List 
     → list_all (is_interval moments) xs ≡ true → list_all (is_interval moments) ys ≡ true
     → list_all (λ x. int_lt x.since x.until) (key_pairs provided xs required ys) ≡ true
 pairs_begin moments provided xs required ys p q =
-    list_all-append (λ x. int_lt x.since x.until) (flat_map (paired false provided) xs) (flat_map (paired true required) ys)
-    ∙ and_from (list_all (λ x. int_lt x.since x.until) (flat_map (paired false provided) xs))
-    (list_all (λ x. int_lt x.since x.until) (flat_map (paired true required) ys))
+    list_all-append (λ x. int_lt x.since x.until) (flat_map (key_spans false provided) xs) (flat_map (key_spans true required) ys)
+    ∙ and_from (list_all (λ x. int_lt x.since x.until) (flat_map (key_spans false provided) xs))
+    (list_all (λ x. int_lt x.since x.until) (flat_map (key_spans true required) ys))
     (paired_begin moments false provided xs p) (paired_begin moments true required ys q)

@@ -9,11 +9,12 @@ pair_at required first second since until =
     record { first = first; second = second; since = since; required = required; until = until }
 
 -- a version requires or provides its keys during its lifespan
-abbrev pub paired : {X : Type 0} → (required : Bool) → (keys : X → List (ℕ × ℕ)) → Version X
+abbrev pub key_spans : {X : Type 0} → (required : Bool) → (keys : X → List (ℕ × ℕ)) → Version X
     → List CoverageSpan
-paired required keys v = map_list (λ k. pair_at required k.0 k.1 v.since v.until) (keys v.what)
+key_spans required keys v = map_list (λ k. pair_at required k.0 k.1 v.since v.until) (keys v.what)
 
 -- some versions provide their keys, and others require theirs
 abbrev pub key_pairs : {X Y : Type 0} → (provided : X → List (ℕ × ℕ)) → List (Version X)
     → (required : Y → List (ℕ × ℕ)) → List (Version Y) → List CoverageSpan
-key_pairs provided xs required ys = flat_map (paired false provided) xs ++ flat_map (paired true required) ys
+key_pairs provided xs required ys =
+    flat_map (key_spans false provided) xs ++ flat_map (key_spans true required) ys

@@ -11,8 +11,8 @@ abbrev pub lodging_of : MutationRecord → ℕ × List ℕ
 lodging_of m = (m.lodger, m.reference)
 
 -- the lifespan of a mutation, with its lodger and reference
-abbrev pub lodged : Version (ℕ × MutationRecord) → Span (ℕ × List ℕ)
-lodged v = span_at v (lodging_of v.what.1)
+abbrev pub lodging_span : Version (ℕ × MutationRecord) → Span (ℕ × List ℕ)
+lodging_span v = span_at v (lodging_of v.what.1)
 
 -- the same span, with the borrowed reference dereferenced
 abbrev pub owned_span : Span (ℕ × Bor (List ℕ)) → Span (ℕ × List ℕ)

@@ -10,7 +10,7 @@ ghost use Rattle.land_tables_validity.specs.Administrator.{provided_administrato
 ghost use Rattle.land_tables_validity.specs.Never.{Never};
 ghost use Rattle.land_tables_validity.specs.CoverageSpans.{are_in_range, required_span};
 
-use crate::coverage_spans::provided;
+use crate::coverage_spans::provided_span;
 use land_core::role::Role;
 use land_core::roles::Grant;
 use land_tables_history::history::History;
@@ -47,7 +47,7 @@ fn provide_administrators(
 {
     for role in roles {
         if is_administrator(role.what.role) {
-            coverage_spans.push(provided(0, role))?;
+            coverage_spans.push(provided_span(0, role))?;
         }
     }
     Ok(())

@@ -8,7 +8,7 @@ ghost use Rattle.land_tables_validity.specs.CoverageSpans.{AreNonempty, are_in_r
 ghost use Rattle.land_tables_validity.specs.CoverageSpans.{coverage_spans};
 ghost use Rattle.land_tables_history.specs.Sweeps.Cover.{IsCovered};
 
-use crate::coverage_spans::provided;
+use crate::coverage_spans::provided_span;
 use crate::references_exist::require_numbers;
 use land_core::parcel::ParcelRecord;
 use land_core::rrr::{RightType, RrrRecord};
@@ -68,7 +68,7 @@ fn provide_parcels(
         ++ map_list (provided_span parcel_unit) parcels.now) }
 {
     for parcel in parcels {
-        coverage_spans.push(provided(parcel.what.1.unit, parcel))?;
+        coverage_spans.push(provided_span(parcel.what.1.unit, parcel))?;
     }
     Ok(())
 }
@@ -83,7 +83,7 @@ fn provide_ownerships(
 {
     for entry in rrrs {
         if owns(entry) {
-            coverage_spans.push(provided(entry.what.1.unit, entry))?;
+            coverage_spans.push(provided_span(entry.what.1.unit, entry))?;
         }
     }
     Ok(())

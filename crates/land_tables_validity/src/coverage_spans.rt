@@ -6,7 +6,7 @@ use land_tables_history::sweeps::cover::CoverageSpan;
 use land_tables_history::version::Version;
 
 /// Returns a span that provides a number during the lifespan of a version.
-pub(crate) fn provided<X>(key: u64, version: &Version<X>) -> CoverageSpan
+pub(crate) fn provided_span<X>(key: u64, version: &Version<X>) -> CoverageSpan
     ensures { result ≡ provided_at key version.now.since version.now.until }
 {
     CoverageSpan {
@@ -19,7 +19,7 @@ pub(crate) fn provided<X>(key: u64, version: &Version<X>) -> CoverageSpan
 }
 
 /// Returns a span that requires a number during the lifespan of a version.
-pub(crate) fn required<X>(key: u64, version: &Version<X>) -> CoverageSpan
+pub(crate) fn required_span<X>(key: u64, version: &Version<X>) -> CoverageSpan
     ensures { result ≡ required_at key version.now.since version.now.until }
 {
     CoverageSpan {

@@ -7,7 +7,7 @@ ghost use Rattle.land_tables_validity.specs.Never.{Never};
 ghost use Rattle.land_tables_validity.specs.CoverageSpans.{AreNonempty, are_in_range, provided_span};
 ghost use Rattle.land_tables_history.specs.Sweeps.Cover.{IsCovered};
 
-use crate::coverage_spans::provided;
+use crate::coverage_spans::provided_span;
 use crate::references_exist::require_numbers;
 use crate::roles::{is_single, provide_single_parties};
 use land_core::party::PartyRecord;
@@ -73,7 +73,7 @@ fn provide_groups(
 {
     for party in parties {
         if !is_single(party.what.1.kind) {
-            coverage_spans.push(provided(party.what.0, party))?;
+            coverage_spans.push(provided_span(party.what.0, party))?;
         }
     }
     Ok(())

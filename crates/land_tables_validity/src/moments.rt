@@ -22,12 +22,12 @@ pub(crate) fn in_order(alloc: Global, moments: &[Moment]) -> Result<Vec<Moment>,
     ensures same { IfOk result (λ it. IsPermutation moments.now it.items) }
     ensures sorted { IfOk result (λ it. IsSorted stamp_cmp it.items) }
 {
-    let mut sorted = listed(alloc, moments)?;
+    let mut sorted = copy_moments(alloc, moments)?;
     sorted.sort_unstable_by_key(|moment| moment.stamp);
     Ok(sorted)
 }
 
-fn listed(alloc: Global, moments: &[Moment]) -> Result<Vec<Moment>, AllocError>
+fn copy_moments(alloc: Global, moments: &[Moment]) -> Result<Vec<Moment>, AllocError>
     ensures { IfOk result (λ it. it.items ≡ moments.now) }
 {
     let mut list = Vec::new(alloc);

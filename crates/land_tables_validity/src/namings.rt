@@ -1,7 +1,7 @@
 //! Checks that the rows of `names` are the references of the mutations to units, at each commit.
 ghost use Rattle.std.specs.Prelude.{◌≡◌, ◌↔◌, ◌∷◌, ◌++◌, [], true, flat_map, map as map_list, IfOk, OnOk};
 ghost use Rattle.land_tables_history.specs.Intervals.{has_intervals};
-ghost use Rattle.land_tables_validity.specs.KeyPairs.{pair_at, paired, key_pairs};
+ghost use Rattle.land_tables_validity.specs.KeyPairs.{pair_at, key_spans, key_pairs};
 ghost use Rattle.land_tables_validity.specs.NamedUnits.{NamingsAgree, named_pairs, naming_pair, with_units};
 ghost use Rattle.land_tables_validity.specs.CoverageSpans.{AreNonempty, are_in_range};
 ghost use Rattle.land_tables_history.specs.Sweeps.Cover.{IsCovered};
@@ -63,7 +63,7 @@ fn add_namings(
     namings: &[Version<Naming>],
 ) -> Result<(), AllocError>
     ensures { OnOk result (coverage_spans.new.items ≡ coverage_spans.old.items
-        ++ flat_map (paired required naming_pair) namings.now) }
+        ++ flat_map (key_spans required naming_pair) namings.now) }
 {
     for naming in namings {
         coverage_spans.push(pair_span(required, naming.what.mutation, naming.what.unit, naming))?;
@@ -78,7 +78,7 @@ fn add_mutations(
     mutations: &[Version<(u64, MutationRecord)>],
 ) -> Result<(), AllocError>
     ensures { OnOk result (coverage_spans.new.items ≡ coverage_spans.old.items
-        ++ flat_map (paired required named_pairs) mutations.now) }
+        ++ flat_map (key_spans required named_pairs) mutations.now) }
 {
     for mutation in mutations {
         add_mutation(coverage_spans, required, mutation)?;
@@ -93,7 +93,7 @@ fn add_mutation(
     mutation: &Version<(u64, MutationRecord)>,
 ) -> Result<(), AllocError>
     ensures { OnOk result (coverage_spans.new.items ≡ coverage_spans.old.items
-        ++ paired required named_pairs mutation.now) }
+        ++ key_spans required named_pairs mutation.now) }
 {
     match &mutation.what.1.content {
         Content::Transfer(it) => add_unit(coverage_spans, required, mutation, it.unit),

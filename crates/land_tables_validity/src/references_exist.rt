@@ -7,7 +7,7 @@ ghost use Rattle.land_tables_validity.specs.CoverageSpans.{AreNonempty, required
 ghost use Rattle.land_tables_validity.specs.CoverageSpans.{coverage_spans};
 ghost use Rattle.land_tables_history.specs.Sweeps.Cover.{IsCovered};
 
-use crate::coverage_spans::{provided, required};
+use crate::coverage_spans::{provided_span, required_span};
 use land_core::sequence::Sequence;
 use land_tables_history::sweeps::cover::{CoverageSpan, is_covered};
 use land_tables_history::version::Version;
@@ -43,7 +43,7 @@ pub(crate) fn provide_numbers<V>(
         ++ map_list (provided_span (λ e. e.0)) versions.now) }
 {
     for version in versions {
-        coverage_spans.push(provided(version.what.0, version))?;
+        coverage_spans.push(provided_span(version.what.0, version))?;
     }
     Ok(())
 }
@@ -61,7 +61,7 @@ pub(crate) fn require_numbers<W, F: Fn(&W) -> u64>(
         ++ map_list (required_span number_of) versions.now) }
 {
     for version in versions {
-        coverage_spans.push(required(number(&version.what), version))?;
+        coverage_spans.push(required_span(number(&version.what), version))?;
     }
     Ok(())
 }

@@ -7,7 +7,7 @@ ghost use Rattle.land_tables_validity.specs.Never.{Never};
 ghost use Rattle.land_tables_validity.specs.CoverageSpans.{are_in_range, provided_span};
 ghost use Rattle.land_tables_validity.specs.Roles.{single_parties};
 
-use crate::coverage_spans::provided;
+use crate::coverage_spans::provided_span;
 use crate::references_exist::require_numbers;
 use land_core::kind::PartyKind;
 use land_core::party::PartyRecord;
@@ -48,7 +48,7 @@ pub(crate) fn provide_single_parties(
 {
     for party in parties {
         if is_single(party.what.1.kind) {
-            coverage_spans.push(provided(party.what.0, party))?;
+            coverage_spans.push(provided_span(party.what.0, party))?;
         }
     }
     Ok(())

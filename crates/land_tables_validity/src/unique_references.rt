@@ -2,7 +2,7 @@
 ghost use Rattle.std.specs.Prelude.{◌≡◌, ◌↔◌, true, IfOk, map as map_list};
 ghost use Rattle.land_core.specs.Soundness.{has_reused_reference};
 ghost use Rattle.land_tables_history.specs.Intervals.{has_intervals};
-ghost use Rattle.land_tables_validity.specs.Lodgings.{lodged, owned_span};
+ghost use Rattle.land_tables_validity.specs.Lodgings.{lodging_span, owned_span};
 ghost use Rattle.land_tables_validity.specs.Never.{Never};
 
 use land_core::mutation::MutationRecord;
@@ -30,7 +30,7 @@ fn spans_of(
     alloc: Global,
     mutations: &[Version<(u64, MutationRecord)>],
 ) -> Result<Vec<Span<(u64, &str)>>, AllocError>
-    ensures { IfOk result (λ it. map_list owned_span it.items ≡ map_list lodged mutations.now) }
+    ensures { IfOk result (λ it. map_list owned_span it.items ≡ map_list lodging_span mutations.now) }
 {
     let mut spans = Vec::new(alloc);
     for mutation in mutations {

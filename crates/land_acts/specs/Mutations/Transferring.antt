@@ -90,10 +90,11 @@ right_entry unit party type share source =
     record { unit = unit; party = party; class = class.Right type share; source = source }
 
 -- the giver's right with its remaining share, if there is one
-abbrev pub kept : (source : ℕ) → Transfer → HeldRight → Result Ratio FractionFault → List (ℕ × RrrRecord)
-kept source it from (Ok share) =
+abbrev pub remaining_entry : (source : ℕ) → Transfer → HeldRight → Result Ratio FractionFault
+    → List (ℕ × RrrRecord)
+remaining_entry source it from (Ok share) =
     (from.number, right_entry it.unit from.party from.right_type share source) ∷ []
-kept source it from (Err fault) = []
+remaining_entry source it from (Err fault) = []
 
 -- the giver's right ends if no share remains
 abbrev pub ended_rights : HeldRight → Result Ratio FractionFault → List ℕ
@@ -128,7 +129,7 @@ number_after r (Some to) = r.next
 abbrev pub move_change : Register → (source : ℕ) → Transfer → HeldRight → Change
 move_change r source it from = record {
   put = record no_put {
-    rrrs = kept source it from (remaining_share it from)
+    rrrs = remaining_entry source it from (remaining_share it from)
         ++ entries_of_receiver r source it from (right_of_receiver r it from);
   };
   ended = record no_ended { rrrs = ended_rights from (remaining_share it from) };

@@ -8,7 +8,8 @@ ghost use Rattle.land_acts.specs.Mutations.Transferring.{right_by_party, right_i
 ghost use Rattle.land_acts.specs.Mutations.Transferring.{right_of_class, is_above, is_above_one, is_checked};
 ghost use Rattle.land_acts.specs.Mutations.Transferring.{is_right_held_by, gives_to_itself, is_too_fine};
 ghost use Rattle.land_acts.specs.Mutations.Transferring.{is_too_large};
-ghost use Rattle.land_acts.specs.Mutations.Transferring.{kept, move_change, new_rights, number_after};
+ghost use Rattle.land_acts.specs.Mutations.Transferring.{move_change, new_rights, number_after};
+ghost use Rattle.land_acts.specs.Mutations.Transferring.{remaining_entry};
 ghost use Rattle.land_acts.specs.Mutations.Transferring.{entries_of_receiver, right_entry, increased_share};
 ghost use Rattle.land_acts.specs.Mutations.Transferring.{remaining_share};
 ghost use Rattle.land_acts.specs.Mutations.Transferring.{transfer_refusals};
@@ -359,7 +360,7 @@ fn change_of_entries(
         ≡ record (move_change slice.now source it.now from.now) { next = slice.now.next }) }
 {
     let ended = ended_rights(alloc, it, from)?;
-    let mut rrrs = kept(alloc, source, it, from)?;
+    let mut rrrs = remaining_entry(alloc, source, it, from)?;
     receive(&mut rrrs, slice, source, it, from)?;
     let mut change = Change::nothing(alloc, slice.next);
     change.put.rrrs = rrrs;
@@ -368,13 +369,14 @@ fn change_of_entries(
 }
 
 /// Returns the right with its remaining share, or nothing if no share remains.
-fn kept(
+fn remaining_entry(
     alloc: Global,
     source: u64,
     it: &Transfer,
     from: &HeldRight,
 ) -> Result<Sequence<(u64, RrrRecord)>, AllocError>
-    ensures { IfOk result (λ rrrs. rrrs ≡ kept source it.now from.now (remaining_share it.now from.now)) }
+    ensures { IfOk result (λ rrrs.
+        rrrs ≡ remaining_entry source it.now from.now (remaining_share it.now from.now)) }
 {
     match from.share.minus(it.share) {
         Ok(share) => {

@@ -30,8 +30,8 @@ with_numbers [] asked = asked
 with_numbers (n ∷ ns) asked = with_numbers ns (with_number n asked)
 
 -- the numbers of a list, if they are included
-abbrev pub included : (is_included : Bool) → List ℕ → List ℕ
-included is_included numbers = if is_included then numbers else []
+abbrev pub numbers_if : (is_included : Bool) → List ℕ → List ℕ
+numbers_if is_included numbers = if is_included then numbers else []
 
 -- at most one record, inserted with its number
 abbrev pub put_one : {V : Type 0} → FinMap nat_cmp V → ℕ → Option V → FinMap nat_cmp V

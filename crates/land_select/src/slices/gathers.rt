@@ -1,7 +1,7 @@
 //! Parts of a register that are read number by number.
 ghost use Rattle.std.specs.Prelude.{◌≡◌, ℕ, Bool, false};
 ghost use Rattle.land_core.specs.declared.register.Register.{Register};
-ghost use Rattle.land_select.specs.Slices.Gathered.{HoldsOfRegister, KnowsMore, included};
+ghost use Rattle.land_select.specs.Slices.Gathered.{HoldsOfRegister, KnowsMore, numbers_if};
 ghost use Rattle.land_select.specs.Slices.Gathered.{with_number, with_numbers};
 ghost use Rattle.land_select_queries.specs.TableReads.{ReadsTables};
 ghost use Rattle.land_tables_schema.specs.Connections.{HasRegisterTables, IsUsable, LeavesAutocommit};
@@ -52,8 +52,8 @@ pub(crate) fn gather_all<G: Gathers + Drop, S: Alter>(
 }
 
 /// Returns a list if it is included, else an empty one.
-pub(crate) fn included(numbers: &[u64], is_included: bool) -> &[u64]
-    ensures { result.now ≡ included is_included numbers.now }
+pub(crate) fn numbers_if(numbers: &[u64], is_included: bool) -> &[u64]
+    ensures { result.now ≡ numbers_if is_included numbers.now }
 {
     if is_included { numbers } else { &[] }
 }
@@ -71,9 +71,9 @@ pub(crate) fn gather_included<G: Gathers + Drop, S: Alter>(
     requires has_tables { HasRegisterTables S.Store conn.old }
     ensures reads_only { ReadsTables S.Store result
         (λ db it. HoldsOfRegister (λ r. G.knows r (λ n. false) none
-        → G.knows r (with_numbers (included is_included numbers.now) (λ n. false)) it) at db)
+        → G.knows r (with_numbers (numbers_if is_included numbers.now) (λ n. false)) it) at db)
         conn.old conn.new }
     ensures autocommit { LeavesAutocommit conn.old conn.new }
 {
-    gather_all(alloc, conn, none, included(numbers, is_included), at)
+    gather_all(alloc, conn, none, numbers_if(numbers, is_included), at)
 }

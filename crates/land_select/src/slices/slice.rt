@@ -9,7 +9,7 @@ ghost use Rattle.land_core.specs.declared.act.Act.{Act as Deed};
 ghost use Rattle.land_core.specs.declared.caller.Caller.{Caller as Asker};
 ghost use Rattle.land_core.specs.declared.role.Role.TheVariants.{StateAdministrator};
 ghost use Rattle.land_select.specs.Slices.Gathered.{HoldsOfRegister, IsKnown, KnowsParties, KnowsUnits};
-ghost use Rattle.land_select.specs.Slices.Gathered.{included, parts_to_read, read_slice_of};
+ghost use Rattle.land_select.specs.Slices.Gathered.{numbers_if, parts_to_read, read_slice_of};
 ghost use Rattle.land_select.specs.Slices.Named.{lists, parties_of, units_of};
 ghost use Rattle.land_select_queries.specs.Lookups.Parts.{ReadsPart};
 ghost use Rattle.land_select_queries.specs.TableReads.{ReadsTables};
@@ -45,7 +45,7 @@ fn referenced_parties(
     mutations: &Records<MutationRecord>,
     is_included: bool,
 ) -> Result<NumberList, AllocError>
-    ensures { IfOk result (λ it. it ≡ included is_included (parties_of act.now mutations.now)) }
+    ensures { IfOk result (λ it. it ≡ numbers_if is_included (parties_of act.now mutations.now)) }
 {
     if is_included {
         parties_of(alloc, act, mutations)
@@ -73,7 +73,7 @@ fn referenced_units(
     mutations: &Records<MutationRecord>,
     is_included: bool,
 ) -> Result<NumberList, AllocError>
-    ensures { IfOk result (λ it. it ≡ included is_included (units_of act.now mutations.now)) }
+    ensures { IfOk result (λ it. it ≡ numbers_if is_included (units_of act.now mutations.now)) }
 {
     if is_included {
         units_of(alloc, act, mutations)

@@ -5,7 +5,7 @@ use Rattle.std.specs.Prelude.{ℕ, ℤ, nat_eq, List, map, IsPermutation, Result
 use Rattle.land_core.specs.declared.kind.Kind.{Kind}
 use Rattle.land_core.specs.declared.register.Register.{Register}
 use Rattle.land_select_queries.specs.Joins.Execution.{HoldsOfHistory}
-use Rattle.land_select_queries.specs.Lookups.RecordRows.{AreRowsOf, wanted}
+use Rattle.land_select_queries.specs.Lookups.RecordRows.{AreRowsOf, matching_versions}
 use Rattle.land_select_queries.specs.Lookups.Ranges.{AreRowsWithin, is_within}
 use Rattle.land_select_queries.specs.declared.lookups.record_lookup.RecordLookup.{RecordLookup}
 use Rattle.land_tables_history.specs.History.{IsRegisterAt}
@@ -23,7 +23,8 @@ pub record Keeps {V : Type 0} (said : Row → Result (Version (ℕ × V)) WireFa
   pub versions : List (Version (ℕ × V))
   pub stand : (t : ℤ) (r : Register) → IsRegisterAt t history r → IsPartAt t versions (part r)
   pub found : (number : ℕ) (t : ℤ) (rows : List Row) → AreRowsOf l number t db rows
-      → IsPermutation (map said rows) (map (λ v. Ok v) (wanted (λ e. nat_eq e.0 number) t versions))
+      → IsPermutation (map said rows)
+      (map (λ v. Ok v) (matching_versions (λ e. nat_eq e.0 number) t versions))
 
 -- A lookup by number returns what represents a part of the register, in each history that the tables hold.
 abbrev pub IsFoundBy : {V : Type 0} → (Row → Result (Version (ℕ × V)) WireFault) → RecordLookup
@@ -36,7 +37,8 @@ pub record KeepsRanges {V : Type 0} (said : Row → Result (Version (ℕ × V)) 
   pub versions : List (Version (ℕ × V))
   pub stand : (t : ℤ) (r : Register) → IsRegisterAt t history r → IsPartAt t versions (part r)
   pub found : (first last : ℕ) (t : ℤ) (rows : List Row) → AreRowsWithin k first last t db rows
-      → IsPermutation (map said rows) (map (λ v. Ok v) (wanted (λ e. is_within first last e.0) t versions))
+      → IsPermutation (map said rows)
+      (map (λ v. Ok v) (matching_versions (λ e. is_within first last e.0) t versions))
 
 -- The statement of a kind returns the records in a range of numbers, in each history that the tables hold.
 abbrev pub IsFoundWithin : {V : Type 0} → (Row → Result (Version (ℕ × V)) WireFault) → Kind

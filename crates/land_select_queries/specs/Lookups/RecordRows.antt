@@ -73,14 +73,14 @@ is_meant record_lookup.MandatesOfAgent number mandate = nat_eq mandate.agent num
 is_meant record_lookup.Administrators number grant = is_role grant.role StateAdministrator
 
 -- the versions that are valid at time t and match
-abbrev pub wanted : {X : Type 0} → (X → Bool) → (t : ℤ) → List (Version X) → List (Version X)
-wanted meant t versions = filter (λ v. stands t v && meant v.what) versions
+abbrev pub matching_versions : {X : Type 0} → (X → Bool) → (t : ℤ) → List (Version X) → List (Version X)
+matching_versions meant t versions = filter (λ v. stands t v && meant v.what) versions
 
 -- If the rows of a table decode to some versions, these rows decode to those of them that are valid at time t
 -- and match, in any order.
 abbrev pub AreRows : {X : Type 0} → Listing (Version X) → (X → Bool) → (t : ℤ) → Trees → List Row → Type 0
 AreRows {X} listing meant t db rows = (versions : List (Version X)) → Says listing db versions
-    → IsPermutation (map listing.said rows) (map (λ v. Ok v) (wanted meant t versions))
+    → IsPermutation (map listing.said rows) (map (λ v. Ok v) (matching_versions meant t versions))
 
 -- the rows that a lookup returns for a number at a time
 abbrev pub AreRowsOf : RecordLookup → (number : ℕ) → (t : ℤ) → Trees → List Row → Type 0

@@ -6,13 +6,13 @@ use Rattle.land_core.specs.Register.{object_at}
 use Rattle.land_core.specs.declared.kind.Kind.{Kind}
 use Rattle.land_core.specs.declared.register.Register.{Register}
 use Rattle.land_keep.specs.Keeping.{Closes}
-use Rattle.land_keep.specs.Named.{named}
+use Rattle.land_keep.specs.Named.{named_object}
 use Rattle.land_keep.specs.declared.named.NamedObject.{NamedObject}
 use Rattle.land_keep.specs.declared.store_fault.StoreFault.{StoreFault}
 
 -- the listed object with a number, if it exists
 abbrev pub named_object_at : Register → Kind → (number : ℕ) → Option NamedObject
-named_object_at r k number = option_map (named r) (object_at r k number)
+named_object_at r k number = option_map (named_object r) (object_at r k number)
 
 -- each of these numbers has an object
 abbrev pub AllExist : Register → Kind → List ℕ → Type 0

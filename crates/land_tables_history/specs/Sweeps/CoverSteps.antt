@@ -27,23 +27,23 @@ first_reach x =
     record { first = x.first; second = x.second; since = x.since; reach = x.until; need = x.since }
 
 -- a required span must start within the reach
-abbrev pub required : Reach → CoverageSpan → Option Reach
-required s x =
+abbrev pub with_required : Reach → CoverageSpan → Option Reach
+with_required s x =
     if is_same_key s x && int_lt x.since s.reach then
     Some (record s { need = later s.need x.until })
     else None
 
 -- a provided span extends the reach, or starts a new one after a gap, if all required moments before the gap
 -- are provided
-abbrev pub provided : Reach → CoverageSpan → Option Reach
-provided s x =
+abbrev pub with_provided : Reach → CoverageSpan → Option Reach
+with_provided s x =
     if is_same_key s x && int_le x.since s.reach then Some (record s { reach = later s.reach x.until })
     else if int_le s.need s.reach then Some (first_reach x) else None
 
 -- the reach after one more span, if all required moments can still be provided
 abbrev pub step : Option Reach → CoverageSpan → Option Reach
 step None x = if x.required then None else Some (first_reach x)
-step (Some s) x = if x.required then required s x else provided s x
+step (Some s) x = if x.required then with_required s x else with_provided s x
 
 -- all required moments are within the reach
 abbrev pub ends_well : Option Reach → Bool

@@ -18,8 +18,8 @@ abbrev pub tick_cmp : Tick → Tick → Ordering
 tick_cmp a b = ordering_then (nat_cmp a.key b.key) (int_cmp a.at b.at)
 
 -- the start of a span
-abbrev pub beginning : {T : Type 0} → LiveSpan T → Tick
-beginning x = record { key = x.key; at = x.since }
+abbrev pub span_start : {T : Type 0} → LiveSpan T → Tick
+span_start x = record { key = x.key; at = x.since }
 
 -- its end
 abbrev pub end : {T : Type 0} → LiveSpan T → Tick
@@ -27,7 +27,7 @@ end x = record { key = x.key; at = x.until }
 
 -- all starts and ends
 abbrev pub all_ticks : {T : Type 0} → List (LiveSpan T) → List Tick
-all_ticks live_spans = map_list beginning live_spans ++ map_list end live_spans
+all_ticks live_spans = map_list span_start live_spans ++ map_list end live_spans
 
 -- a span has an earlier key, or has started
 abbrev pub is_begun_by : {T : Type 0} → Tick → LiveSpan T → Bool

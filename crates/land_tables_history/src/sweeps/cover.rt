@@ -2,9 +2,9 @@
 ghost use Rattle.std.specs.List.{list_all};
 ghost use Rattle.std.specs.Prelude.{◌≡◌, ◌↔◌, true, None, int_lt};
 ghost use Rattle.land_tables_history.specs.Sweeps.Cover.{IsCovered};
-ghost use Rattle.land_tables_history.specs.Sweeps.CoverSteps.{required, first_reach, covered_from};
+ghost use Rattle.land_tables_history.specs.Sweeps.CoverSteps.{with_required, first_reach, covered_from};
 ghost use Rattle.land_tables_history.specs.Sweeps.CoverSteps.{is_same_key};
-ghost use Rattle.land_tables_history.specs.Sweeps.CoverSteps.{later, provided, step};
+ghost use Rattle.land_tables_history.specs.Sweeps.CoverSteps.{later, with_provided, step};
 
 /// A span of time in which a key is provided or required. The order of the fields is the order of the sweep.
 #[derive(Clone, Copy, Debug, PartialEq, Eq, PartialOrd, Ord)]
@@ -72,8 +72,8 @@ fn step(reached: Option<Reach>, piece: &CoverageSpan) -> Option<Reach>
     match reached {
         None if piece.required => None,
         None => Some(first_reach(piece)),
-        Some(reach) if piece.required => required(reach, piece),
-        Some(reach) => provided(reach, piece),
+        Some(reach) if piece.required => with_required(reach, piece),
+        Some(reach) => with_provided(reach, piece),
     }
 }
 
@@ -91,8 +91,8 @@ fn first_reach(piece: &CoverageSpan) -> Reach
 }
 
 /// Extends the required time. The span must start within the provided time.
-fn required(reach: Reach, piece: &CoverageSpan) -> Option<Reach>
-    ensures { result ≡ required reach piece.now }
+fn with_required(reach: Reach, piece: &CoverageSpan) -> Option<Reach>
+    ensures { result ≡ with_required reach piece.now }
 {
     if is_same_key(reach, piece) && piece.since < reach.reach {
         Some(Reach {
@@ -106,8 +106,8 @@ fn required(reach: Reach, piece: &CoverageSpan) -> Option<Reach>
 
 /// Extends the provided time, or starts a new one after a gap. All required time before the gap must have
 /// ended.
-fn provided(reach: Reach, piece: &CoverageSpan) -> Option<Reach>
-    ensures { result ≡ provided reach piece.now }
+fn with_provided(reach: Reach, piece: &CoverageSpan) -> Option<Reach>
+    ensures { result ≡ with_provided reach piece.now }
 {
     if is_same_key(reach, piece) && piece.since <= reach.reach {
         Some(Reach {

@@ -2,7 +2,8 @@
 ghost use Rattle.std.specs.List.Sorted.{IsPermutation};
 ghost use Rattle.std.specs.Prelude.{◌≡◌, ◌↔◌, ◌++◌, Bool, List, [], true, IfOk, filter, map as map_list};
 ghost use Rattle.land_tables_history.specs.Sweeps.Sweep.{AreSound, is_at};
-ghost use Rattle.land_tables_history.specs.Sweeps.SweepSteps.{beginning, begun_by, end, is_begun_by, left_by};
+ghost use Rattle.land_tables_history.specs.Sweeps.SweepSteps.{begun_by, end, is_begun_by, left_by};
+ghost use Rattle.land_tables_history.specs.Sweeps.SweepSteps.{span_start};
 ghost use Rattle.land_tables_history.specs.Sweeps.SweepSteps.{sound_from, all_ticks};
 
 use std::alloc::{AllocError, Global};
@@ -66,7 +67,7 @@ fn all_ticks<T>(alloc: Global, live_spans: &[LiveSpan<T>]) -> Result<Vec<Tick>, 
 {
     let mut ticks = Vec::new(alloc);
     for one in live_spans {
-        ticks.push(beginning(one))?;
+        ticks.push(span_start(one))?;
     }
     for one in live_spans {
         ticks.push(end(one))?;
@@ -75,8 +76,8 @@ fn all_ticks<T>(alloc: Global, live_spans: &[LiveSpan<T>]) -> Result<Vec<Tick>, 
 }
 
 /// Returns the start of a lifespan.
-fn beginning<T>(one: &LiveSpan<T>) -> Tick
-    ensures { result ≡ beginning one.now }
+fn span_start<T>(one: &LiveSpan<T>) -> Tick
+    ensures { result ≡ span_start one.now }
 {
     Tick {
         key: one.key,

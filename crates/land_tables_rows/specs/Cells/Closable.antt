@@ -11,8 +11,8 @@ use Rattle.land_wire_json.specs.declared.bodies.wire_fault.WireFault.{WireFault}
 use Rattle.sqlite_value.specs.Order.{Row}
 
 -- closes a current version at a moment if it matches; every other version is unchanged
-abbrev pub ended : {A : Type 0} → (A → Bool) → ℤ → Version A → Version A
-ended meant stamp v = if meant v.what && int_eq v.until never then record v { until = stamp } else v
+abbrev pub ended_version : {A : Type 0} → (A → Bool) → ℤ → Version A → Version A
+ended_version meant stamp v = if meant v.what && int_eq v.until never then record v { until = stamp } else v
 
 -- the record has that number
 abbrev pub is_numbered : {A : Type 0} → ℕ → ℕ × A → Bool
@@ -26,4 +26,4 @@ pub record DecodesCells {K A C : Type 0} (read : Row → Result (Version A) Wire
       × (form.cells p ≡ columns_from 1 columns r)
   pub closes : (key : K) (stamp : ℤ) (p : laid.Version C) (v : Version A) → IsMoment stamp
       → read (form.cells p) ≡ Ok v
-      → read (form.cells (closed_version (meant_row key) stamp p)) ≡ Ok (ended (meant key) stamp v)
+      → read (form.cells (closed_version (meant_row key) stamp p)) ≡ Ok (ended_version (meant key) stamp v)

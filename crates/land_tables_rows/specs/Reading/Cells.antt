@@ -50,23 +50,23 @@ natural_of (negsuc n) = Err fault.Number
 unfoldable pub natural_in : Value → Result ℕ WireFault
 natural_in cell = integer_in cell >>= natural_of
 
-abbrev pub allowed : (ℕ → Bool) → ℕ → Result ℕ WireFault
-allowed is_allowed n = if is_allowed n then Ok n else Err fault.Number
+abbrev pub number_if : (ℕ → Bool) → ℕ → Result ℕ WireFault
+number_if is_allowed n = if is_allowed n then Ok n else Err fault.Number
 
 -- the number of an object
 unfoldable pub number_in : Value → Result ℕ WireFault
-number_in cell = natural_in cell >>= allowed is_number
+number_in cell = natural_in cell >>= number_if is_number
 
 -- the number that the next new object takes
 abbrev pub is_next : ℕ → Bool
 is_next n = nat_le 2 n && nat_le n last_next
 
 unfoldable pub next_in : Value → Result ℕ WireFault
-next_in cell = natural_in cell >>= allowed is_next
+next_in cell = natural_in cell >>= number_if is_next
 
 -- an amount in minor units
 unfoldable pub amount_in : Value → Result ℕ WireFault
-amount_in cell = natural_in cell >>= allowed is_amount
+amount_in cell = natural_in cell >>= number_if is_amount
 
 -- a flag: 0 or 1
 abbrev pub flag_of : ℕ → Result Bool WireFault

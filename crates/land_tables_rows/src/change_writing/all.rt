@@ -2,7 +2,7 @@
 ghost use Rattle.std.specs.Prelude.{◌≡◌, ◌++◌, IsTrue, map};
 ghost use Rattle.std.specs.List.{list_all, list_any};
 ghost use Rattle.land_core.specs.Numbers.{IsMoment};
-ghost use Rattle.land_tables_history.specs.Written.{existing};
+ghost use Rattle.land_tables_history.specs.Written.{existing_records};
 ghost use Rattle.land_tables_rows.specs.Effects.{Performs};
 ghost use Rattle.land_tables_rows.specs.Recording.{BeginsAll, Changes};
 ghost use Rattle.land_tables_rows.specs.Writing.Holding.{Closes};
@@ -78,7 +78,7 @@ pub fn close_put<S: Alter, K, P: HasKey<K>, X: Closable<K>>(
     ensures same_reference { SameReference tx.old tx.new }
     ensures step { Performs S.Store result
         (Closes X.reading
-        (λ x. list_any (X.has x) (map P.key (existing P.number next put.now))) stamp) tx.old tx.new }
+        (λ x. list_any (X.has x) (map P.key (existing_records P.number next put.now))) stamp) tx.old tx.new }
 {
     for x in put {
         if x.number() < next {
@@ -106,7 +106,7 @@ pub fn change<S: Alter, K, X: HasKey<K> + Closable<K>>(
     ensures same_reference { SameReference tx.old tx.new }
     ensures step { Performs S.Store result
         (Changes X.reading put.now
-        (λ x. list_any (X.has x) (map X.key (existing X.number next put.now) ++ ended.now)) stamp)
+        (λ x. list_any (X.has x) (map X.key (existing_records X.number next put.now) ++ ended.now)) stamp)
         tx.old tx.new }
 {
     close_put::<S, K, X, X>(tx, put, next, stamp)?;

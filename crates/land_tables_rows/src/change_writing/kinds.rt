@@ -4,7 +4,7 @@ ghost use Rattle.std.specs.List.{list_all, list_any};
 ghost use Rattle.std.specs.Prelude.{◌≡◌, ◌++◌, IsTrue, map as map_list};
 ghost use Rattle.land_core.specs.Numbers.{is_number, IsMoment};
 ghost use Rattle.land_tables_history.specs.Changed.{is_changed, listed_members, named_by, new_mutations};
-ghost use Rattle.land_tables_history.specs.Written.{existing};
+ghost use Rattle.land_tables_history.specs.Written.{existing_records};
 ghost use Rattle.land_tables_rows.specs.Effects.{Performs};
 ghost use Rattle.land_tables_rows.specs.Member.Writing.{members};
 ghost use Rattle.land_tables_rows.specs.Mutation.Cells.{fits_mutation};
@@ -77,7 +77,8 @@ pub(crate) fn change_kind<S: Alter, K, X: HasKey<K> + Closable<K>>(
     ensures same_reference { SameReference tx.old tx.new }
     ensures step { Performs S.Store result
         (Changes X.reading put.now
-        (λ x. list_any (X.has x) (map_list X.key (existing X.number next put.now) ++ ended.now)) stamp)
+        (λ x. list_any (X.has x)
+        (map_list X.key (existing_records X.number next put.now) ++ ended.now)) stamp)
         tx.old tx.new }
 {
     change(alloc, tx, put.as_slice(), ended.as_slice(), next, stamp)
@@ -99,7 +100,7 @@ pub(crate) fn change_members<S: Alter>(
     ensures same_reference { SameReference tx.old tx.new }
     ensures step { Performs S.Store result
         (Changes members (listed_members put.now)
-        (λ e. is_changed (existing (λ g. g.0) next put.now) ended.now e.group) stamp) tx.old tx.new }
+        (λ e. is_changed (existing_records (λ g. g.0) next put.now) ended.now e.group) stamp) tx.old tx.new }
 {
     let listed = list_members(alloc, put.as_slice())?;
     close_put::<S, u64, (u64, Members), GroupMember>(tx, put.as_slice(), next, stamp)?;

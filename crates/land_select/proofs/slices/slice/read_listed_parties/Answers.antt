@@ -3,7 +3,7 @@ use Rattle.std.specs.FinMap as map
 use Rattle.land_acts.specs.Slices.{includes_party}
 use Rattle.land_core.specs.Entries.{entries_where}
 use Rattle.land_select.proofs.SlicedRegisters.{all_gathered, included_gathered, roles_gathered}
-use Rattle.land_select.specs.Slices.Gathered.{HoldsOfRegister, KnowsMore, included, with_numbers}
+use Rattle.land_select.specs.Slices.Gathered.{HoldsOfRegister, KnowsMore, numbers_if, with_numbers}
 use Rattle.land_tables_rows.specs.declared.listing.fault.ReadFault.{ReadFault}
 use Rattle.land_tables_schema.proofs.Looking.{look_fails, look_then}
 use Rattle.land_tables_schema.specs.Rows.ReadQueries.{IsStoreRead}
@@ -27,9 +27,9 @@ returns-clause-reads_only g c =
     let when : to_z w64 (of_z w64 t) ≡ t = search rules in
     let Parties : Trees → Type 0 = λ db. KnowsMore (λ r asked it. it ≡ entries_where (λ n p. asked n) r.parties) (with_numbers ns) map.empty found t db in
     let Roles : Trees → Type 0 =
-    λ db. HoldsOfRegister (λ r. map.empty ≡ entries_where (λ grant u. false) r.roles → roles ≡ entries_where (λ grant u. with_numbers (included parts.roles ns) (λ n. false) grant.party) r.roles) t db in
+    λ db. HoldsOfRegister (λ r. map.empty ≡ entries_where (λ grant u. false) r.roles → roles ≡ entries_where (λ grant u. with_numbers (numbers_if parts.roles ns) (λ n. false) grant.party) r.roles) t db in
     let Members : Trees → Type 0 =
-    λ db. HoldsOfRegister (λ r. map.empty ≡ entries_where (λ n m. false) r.members → members ≡ entries_where (λ n m. with_numbers (included parts.members ns) (λ n. false) n) r.members) t db in
+    λ db. HoldsOfRegister (λ r. map.empty ≡ entries_where (λ n m. false) r.members → members ≡ entries_where (λ n m. with_numbers (numbers_if parts.members ns) (λ n. false) n) r.members) t db in
     let two : IsStoreRead {X = Unit {0}} {E = ReadFault} (Ok tt) (λ _. Parties a.now.trees × Roles a.now.trees) a d =
     look_then a b d (rw (when, c.new.ensures) at c.in_ok-found.ensures.reads_only) (rw (when, c.new-2.ensures) at c.in_ok-roles.ensures.reads_only)
     (λ clean same one two. (one, subst (λ (now : Database). Roles now.trees) same two)) in

@@ -4,7 +4,7 @@ use Rattle.land_core.specs.Grants.{grants_in}
 use Rattle.land_core.specs.declared.act.Act.{Act}
 use Rattle.land_acts.specs.Slices.{includes_party}
 use Rattle.land_select.proofs.NamedObjects.{parties_listed}
-use Rattle.land_select.specs.Slices.Gathered.{HoldsOfRegister, KnowsParties, included}
+use Rattle.land_select.specs.Slices.Gathered.{HoldsOfRegister, KnowsParties, numbers_if}
 use Rattle.land_select.specs.Slices.Named.{lists, parties_of}
 use Rattle.land_select_queries.proofs.Chains.{look_after}
 use Rattle.sqlite.specs.Effect.{Database}
@@ -19,7 +19,7 @@ returns-clause-reads_only g c =
     let act = c.args.act.now in
     let office = c.in_ok-office.office in
     let mutations = c.args.mutations.now in
-    let numbers = included parts.parties (parties_of act mutations) ++ map_list (λ grant. grant.party) (grants_in office) in
+    let numbers = numbers_if parts.parties (parties_of act mutations) ++ map_list (λ grant. grant.party) (grants_in office) in
     let when : to_z w64 (of_z w64 t) ≡ t = search rules in
     let known = rw (when, c.as_slice.ensures, c.in_ok-parties.ensures, c.in_ok-referenced.ensures) at c.read_listed_parties.ensures.reads_only in
     look_after a (state g.S.Store c.read_administrators.new.conn) (state g.S.Store c.read_listed_parties.new.conn) c.read_listed_parties.result (rw when at c.in_ok-office.ensures.reads_only) known

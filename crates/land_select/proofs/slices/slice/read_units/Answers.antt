@@ -4,7 +4,7 @@ use Rattle.land_acts.specs.Slices.{includes_unit}
 use Rattle.land_core.specs.Entries.{entries_where}
 use Rattle.land_select.proofs.NamedObjects.{units_listed}
 use Rattle.land_select.proofs.SlicedRegisters.{all_gathered, included_gathered}
-use Rattle.land_select.specs.Slices.Gathered.{HoldsOfRegister, KnowsMore, included, with_numbers}
+use Rattle.land_select.specs.Slices.Gathered.{HoldsOfRegister, KnowsMore, numbers_if, with_numbers}
 use Rattle.land_select.specs.Slices.Named.{units_of}
 use Rattle.land_tables_rows.specs.declared.listing.fault.ReadFault.{ReadFault}
 use Rattle.land_tables_schema.proofs.Looking.{look_fails, look_then}
@@ -24,14 +24,14 @@ returns-clause-reads_only g c =
     let parts = c.args.parts in
     let act = c.args.act.now in
     let mutations = c.args.mutations.now in
-    let ns = included parts.units (units_of act mutations) in
+    let ns = numbers_if parts.units (units_of act mutations) in
     let units = c.in_ok-units.units in
     let parcels = c.in_ok-parcels.parcels in
     let rrrs = c.in_ok-rrrs.rrrs in
     let when : to_z w64 (of_z w64 t) ≡ t = search rules in
     let Units : Trees → Type 0 = λ db. KnowsMore (λ r asked it. it ≡ entries_where (λ n u. asked n) r.units) (with_numbers ns) map.empty units t db in
     let Parcels : Trees → Type 0 =
-    λ db. HoldsOfRegister (λ r. map.empty ≡ entries_where (λ n p. false) r.parcels → parcels ≡ entries_where (λ n p. with_numbers (included parts.parcels ns) (λ n. false) p.unit) r.parcels) t db in
+    λ db. HoldsOfRegister (λ r. map.empty ≡ entries_where (λ n p. false) r.parcels → parcels ≡ entries_where (λ n p. with_numbers (numbers_if parts.parcels ns) (λ n. false) p.unit) r.parcels) t db in
     let Rrrs : Trees → Type 0 = λ db. KnowsMore (λ r asked it. it ≡ entries_where (λ n e. asked e.unit) r.rrrs) (with_numbers ns) map.empty rrrs t db in
     let two : IsStoreRead {X = Unit {0}} {E = ReadFault} (Ok tt) (λ _. Units a.now.trees × Parcels a.now.trees) a d =
     look_then a b d (rw (when, c.new.ensures, c.as_slice-numbers.ensures, c.in_ok-listed.ensures) at c.in_ok-units.ensures.reads_only) (rw (when, c.new-2.ensures, c.as_slice-numbers.ensures, c.in_ok-listed.ensures) at c.in_ok-parcels.ensures.reads_only)

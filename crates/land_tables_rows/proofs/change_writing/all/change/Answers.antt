@@ -1,6 +1,6 @@
 use Rattle.std.proofs.Common.{◌≡◌, ◌++◌, Ok, map, of_z, rules, to_z, w64}
 use Rattle.std.specs.List.{list_any}
-use Rattle.land_tables_history.specs.Written.{existing}
+use Rattle.land_tables_history.specs.Written.{existing_records}
 use Rattle.land_tables_rows.proofs.Loops.{changes, more_closed, step_after}
 use Rattle.land_tables_rows.specs.Writing.Holding.{Closes}
 use Rattle.land_tables_schema.proofs.Steps.{step_fails, step_then}
@@ -21,7 +21,7 @@ returns-clause-step g c =
     let b = state g.S.Store c.close_put.new.tx.conn.now in
     let d = state g.S.Store c.close_all.new.tx.conn.now in
     let e = state g.S.Store c.begin_all.new.tx.conn.now in
-    let put = map g.X.HasKey.key (existing g.X.HasKey.number c.args.next c.args.put.now) in
+    let put = map g.X.HasKey.key (existing_records g.X.HasKey.number c.args.next c.args.put.now) in
     let first = rw (stamp) at c.in_ok-close_put.ensures.step in
     let next = rw (stamp) at c.in_ok-close_all.ensures.step in
     let last = rw (stamp) at c.begin_all.ensures.step in

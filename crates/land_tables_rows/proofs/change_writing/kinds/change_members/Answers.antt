@@ -4,7 +4,7 @@ use Rattle.std.specs.Prelude.{nat_eq}
 use Rattle.std.proofs.lemmas.Bool.{and_parts}
 use Rattle.land_core.specs.Numbers.{is_number}
 use Rattle.land_tables_history.specs.Changed.{listed_members}
-use Rattle.land_tables_history.specs.Written.{existing}
+use Rattle.land_tables_history.specs.Written.{existing_records}
 use Rattle.land_tables_history.specs.declared.group_member.GroupMember.{GroupMember}
 use Rattle.land_tables_rows.proofs.Fitting.{groups_known, members_fit}
 use Rattle.land_tables_rows.proofs.Loops.{changes, more_closed, step_after}
@@ -34,7 +34,7 @@ returns-clause-step g c =
     let groups = c.args.put.now in
     let ended = c.args.ended.now in
     let listed : c.as_slice-4.result.now ≡ listed_members groups = c.as_slice-4.ensures ∙ c.in_ok-listed.ensures ∙ ap listed_members c.as_slice.ensures in
-    let keys : List ℕ = map (λ e. e.0) (existing (λ e. e.0) c.args.next groups) in
+    let keys : List ℕ = map (λ e. e.0) (existing_records (λ e. e.0) c.args.next groups) in
     let has : GroupMember → ℕ → Bool = λ e group. nat_eq e.group group in
     let a = state g.S.Store c.args.tx.now.conn.now in
     let b = state g.S.Store c.close_put.new.tx.conn.now in

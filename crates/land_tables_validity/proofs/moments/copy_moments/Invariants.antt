@@ -1,5 +1,5 @@
 use Rattle.std.proofs.Common.{◌≡◌, take}
-use Rattle.land_tables_validity.proofs.moments.listed.Given as goal
+use Rattle.land_tables_validity.proofs.moments.copy_moments.Given as goal
 
 -- the commits of the prefix are copied
 abbrev pub invariant-loop-moment : goal.invariant-loop-moment

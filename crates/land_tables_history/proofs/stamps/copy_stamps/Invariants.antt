@@ -1,5 +1,5 @@
 use Rattle.std.proofs.Common.{◌≡◌, take, map as map_list}
-use Rattle.land_tables_history.proofs.stamps.listed.Given as goal
+use Rattle.land_tables_history.proofs.stamps.copy_stamps.Given as goal
 
 -- each commit of the prefix has its stamp
 abbrev pub invariant-loop-moment : goal.invariant-loop-moment
