@@ -12,7 +12,7 @@ use land_tables_history::moment::Moment;
 use land_tables_history::version::Version;
 use std::alloc::AllocError;
 
-/// Whether a stamp is after another one, if there is one, and at most `upto`.
+/// Checks if a stamp is after another one, if there is one, and at most `upto`.
 pub(crate) fn is_between(after: Option<i64>, upto: i64, stamp: i64) -> bool
     ensures { result ≡ is_between after upto stamp }
 {

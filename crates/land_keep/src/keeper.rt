@@ -48,7 +48,7 @@ pub trait Keeper {
         ensures sound { IsHonestAndOpen (honest self.now) (closed self.now)
             → IsSoundTimeline (timeline self.now) };
 
-    /// Whether the keeper is closed.
+    /// Checks if the keeper is closed.
     fn is_closed(&self) -> bool
         ensures { result ≡ closed self.now };
 

@@ -201,7 +201,7 @@ pub fn answer<K: Keeper>(alloc: Global, keeper: &mut K, clock: i64, request: &Re
     }
 }
 
-/// Whether the fields of each request are within their limits, as `run` requires.
+/// Checks if the fields of each request are within their limits, as `run` requires.
 pub fn are_well_formed(requests: &[Request]) -> bool
     ensures { IsTrue result ↔ All (λ request. is_well_formed_request request ≡ true) requests.now }
 {

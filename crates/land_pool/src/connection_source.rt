@@ -49,6 +49,6 @@ pub trait ConnectionSource {
         ensures ended { Records (ended self.old) (ended self.new) number complete fresh
             (Self.Writer.contents writer) };
 
-    /// Whether a connection is broken, or has been idle too long.
+    /// Checks if a connection is broken, or has been idle too long.
     fn has_failed(reader: &Self::Reader, writer: &Self::Writer) -> bool;
 }

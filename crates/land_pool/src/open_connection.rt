@@ -269,7 +269,7 @@ fn flush<R, W: Write>(connection: &mut OpenConnection<R, W>) -> Progress
     Progress::Open
 }
 
-/// Whether the last reply is written.
+/// Checks if the last reply is written.
 fn is_complete(finished: bool, output: &[u8]) -> bool
     ensures { result ≡ true → (finished ≡ true) × (output.now ≡ []) }
 {

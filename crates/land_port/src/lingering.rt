@@ -34,7 +34,7 @@ impl Lingering {
         }
     }
 
-    /// Whether there are none.
+    /// Checks if there are none.
     pub(crate) fn is_empty(&self) -> bool {
         self.sockets.is_empty()
     }

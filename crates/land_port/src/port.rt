@@ -75,7 +75,7 @@ fn take_event(socket: &Socket, event: &Event, ready: &mut VecDeque<usize>) {
     }
 }
 
-/// Whether an error of accept took the connection from the pending ones, so that the next one can be
+/// Checks if an error of accept took the connection from the pending ones, so that the next one can be
 /// accepted.
 fn is_of_one_connection(kind: ErrorKind) -> bool {
     match kind {

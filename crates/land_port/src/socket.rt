@@ -201,12 +201,12 @@ impl Socket {
         }
     }
 
-    /// Whether the connection is broken, or a timeout has passed.
+    /// Checks if the connection is broken, or a timeout has passed.
     pub(crate) fn has_failed(&self) -> bool {
         self.is_broken.get() || self.is_overdue()
     }
 
-    /// Whether a timeout has passed: 30 s without a byte read or written, 60 s from the first bytes of a
+    /// Checks if a timeout has passed: 30 s without a byte read or written, 60 s from the first bytes of a
     /// request without its last, or 30 s in which the client accepted no byte of its replies.
     fn is_overdue(&self) -> bool {
         let now = self.now.get();
@@ -218,7 +218,7 @@ impl Socket {
             || now.duration_since(blocked_at) >= read_timeout(Duration::from_secs(0))
     }
 
-    /// Whether the whole input was read.
+    /// Checks if the whole input was read.
     pub(crate) fn is_at_end(&self) -> bool {
         self.is_at_end.get()
     }
@@ -259,7 +259,7 @@ impl Socket {
         self.is_queued.replace(false)
     }
 
-    /// Whether bytes were read or written in this turn. Then there may be more to do without another event.
+    /// Checks if bytes were read or written in this turn. Then there may be more to do without another event.
     pub(crate) fn has_advanced(&self) -> bool {
         self.has_advanced.get()
     }

@@ -18,7 +18,7 @@ use land_tables_rows::listing::fault::ReadFault;
 use sqlite::{Alter, Connection, Error};
 use std::alloc::Global;
 
-/// Whether a change can be written with a stamp.
+/// Checks if a change can be written with a stamp.
 fn can_write_change(change: &Change, stamp: i64) -> bool
     ensures { result ≡ (int_le (pos 0) stamp && int_le stamp last_moment && fits_change change.now) }
 {

@@ -250,7 +250,7 @@ impl<S: Alter> Tables<S> {
         self.next
     }
 
-    /// Whether the store has failed.
+    /// Checks if the store has failed.
     pub fn is_closed(&self) -> bool
         ensures { result ≡ self.now.is_closed }
     {

@@ -188,7 +188,7 @@ pub fn full_line_of(alloc: Global, reply: &Reply) -> Result<String, AllocError> 
     Ok(line)
 }
 
-/// Whether a reply is this line. Error: out of memory, also if the reply is 501.
+/// Checks if a reply is this line. Error: out of memory, also if the reply is 501.
 pub fn is_told(alloc: Global, reply: &Reply, line: &str) -> Result<bool, AllocError> {
     let mut told = String::new(alloc);
     write_reply(&mut told, reply)?;

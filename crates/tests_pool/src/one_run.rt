@@ -97,7 +97,7 @@ pub(crate) fn plain_output(
     }
 }
 
-/// Whether two keepers have the same party with a number, or none.
+/// Checks if two keepers have the same party with a number, or none.
 fn have_same_party(
     alloc: Global,
     keeper: &mut PlainKeeper,
@@ -152,7 +152,7 @@ pub(crate) struct OneRun<'a> {
     is_out_of_memory: bool,
 }
 
-/// Whether each of these connections has ended once, and no other.
+/// Checks if each of these connections has ended once, and no other.
 fn have_ended(endings: &[ScriptedEnding], connections: usize) -> bool {
     for number in 0..connections {
         if endings

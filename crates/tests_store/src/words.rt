@@ -596,7 +596,7 @@ fn strings(alloc: Global, row: &[&str]) -> Result<Vec<String>, AllocError> {
     Ok(words)
 }
 
-/// Whether arguments are read as this command.
+/// Checks if arguments are read as this command.
 fn name(alloc: Global, words: &[String], command: Command<'_>) -> Result<bool, AllocError> {
     match read_words(alloc, words) {
         Ok(found) => Ok(found == command),
@@ -605,7 +605,7 @@ fn name(alloc: Global, words: &[String], command: Command<'_>) -> Result<bool, A
     }
 }
 
-/// Whether arguments are read as the command of their row.
+/// Checks if arguments are read as the command of their row.
 fn is_named(alloc: Global, row: &Words) -> Result<bool, AllocError> {
     let words = strings(alloc, row.words)?;
     name(alloc, &words, row.command)
@@ -634,7 +634,7 @@ fn refusal_of(alloc: Global, row: &Refused) -> Result<Option<String>, AllocError
     refusal(alloc, &words)
 }
 
-/// Whether the message by which arguments are refused begins with that of their row.
+/// Checks if the message by which arguments are refused begins with that of their row.
 fn is_refused(alloc: Global, row: &Refused) -> Result<bool, AllocError> {
     match refusal_of(alloc, row)? {
         Some(text) => Ok(text.as_str().starts_with(row.text)),
@@ -650,7 +650,7 @@ fn other_words_are_refused(rt: HostRuntime) -> Result<(), Fail> {
     Ok(())
 }
 
-/// Whether that message contains the part of their row.
+/// Checks if that message contains the part of their row.
 fn is_helped(alloc: Global, row: &Refused) -> Result<bool, AllocError> {
     match refusal_of(alloc, row)? {
         Some(text) => Ok(text.as_str().contains(row.text)),

@@ -8,7 +8,7 @@ ghost use Rattle.land_tables_rows.specs.Cells.Texts.{is_storable};
 use land_core::text::Text;
 use land_core::{content, limits};
 
-/// Whether a string is a valid label of a parcel.
+/// Checks if a string is a valid label of a parcel.
 pub fn is_label(text: &Text) -> bool
     ensures { result ≡ is_storable is_label text.now }
 {
@@ -16,7 +16,7 @@ pub fn is_label(text: &Text) -> bool
     limits::is_label(text.as_str())
 }
 
-/// Whether strings are valid words of a restriction or a responsibility.
+/// Checks if strings are valid words of a restriction or a responsibility.
 pub fn are_words(text: &Text) -> bool
     ensures { result ≡ is_storable are_words text.now }
 {
@@ -24,7 +24,7 @@ pub fn are_words(text: &Text) -> bool
     limits::are_words(text.as_str())
 }
 
-/// Whether a string is a valid reference of a mutation.
+/// Checks if a string is a valid reference of a mutation.
 pub fn is_reference(text: &Text) -> bool
     ensures { result ≡ is_storable is_reference text.now }
 {
@@ -32,7 +32,7 @@ pub fn is_reference(text: &Text) -> bool
     limits::is_reference(text.as_str())
 }
 
-/// Whether a string is a valid currency.
+/// Checks if a string is a valid currency.
 pub fn is_currency(text: &Text) -> bool
     ensures { result ≡ is_storable is_currency text.now }
 {

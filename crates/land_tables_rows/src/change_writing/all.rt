@@ -12,14 +12,14 @@ use crate::change_writing::versioned::{Closable, HasKey, Versioned};
 use sqlite::{Alter, Error, Transaction};
 use std::alloc::Global;
 
-/// Whether all records can be written.
+/// Checks if all records can be written.
 pub fn all_fit<X: Versioned>(put: &[X]) -> bool
     ensures { result ≡ list_all X.fits put.now }
 {
     put.iter().all(|x| x.fits())
 }
 
-/// Whether all keys can be written.
+/// Checks if all keys can be written.
 pub fn all_keys_fit<K, X: Closable<K>>(keys: &[K]) -> bool
     ensures { result ≡ list_all X.fits_key keys.now }
 {

@@ -18,7 +18,7 @@ use land_core::change::Change;
 use sqlite::{Alter, Error, Transaction};
 use std::alloc::Global;
 
-/// Whether a change can be written: its records are within the limits of their fields, its ended keys are
+/// Checks if a change can be written: its records are within the limits of their fields, its ended keys are
 /// object numbers, and its next number is 2 to 1,000,000,001.
 pub fn fits(change: &Change) -> bool
     ensures { result ≡ fits_change change.now }
@@ -29,7 +29,7 @@ pub fn fits(change: &Change) -> bool
         && writing::fits(change.next)
 }
 
-/// Whether the parties, roles, members and mandates of a change can be written.
+/// Checks if the parties, roles, members and mandates of a change can be written.
 fn parties_and_roles_fit(change: &Change) -> bool
     ensures { result ≡ fits_parties_and_roles change.now }
 {
@@ -39,7 +39,7 @@ fn parties_and_roles_fit(change: &Change) -> bool
         && fit_kind(&change.put.mandates, &change.ended.mandates)
 }
 
-/// Whether its units, parcels and entries can be written.
+/// Checks if its units, parcels and entries can be written.
 fn units_and_entries_fit(change: &Change) -> bool
     ensures { result ≡ fits_units_and_entries change.now }
 {
@@ -48,7 +48,7 @@ fn units_and_entries_fit(change: &Change) -> bool
         && fit_kind(&change.put.rrrs, &change.ended.rrrs)
 }
 
-/// Whether its sources and mutations can be written.
+/// Checks if its sources and mutations can be written.
 fn sources_and_mutations_fit(change: &Change) -> bool
     ensures { result ≡ fits_sources_and_mutations change.now }
 {

@@ -24,14 +24,14 @@ use land_tables_history::group_member::GroupMember;
 use sqlite::{Alter, Error, Transaction};
 use std::alloc::Global;
 
-/// Whether the inserted records and the ended keys can be written.
+/// Checks if the inserted records and the ended keys can be written.
 pub(crate) fn fit_kind<K, X: Closable<K>>(put: &Sequence<X>, ended: &Sequence<K>) -> bool
     ensures { result ≡ fits_kind X.fits X.fits_key put.now ended.now }
 {
     all_fit(put.as_slice()) && all_keys_fit::<K, X>(ended.as_slice())
 }
 
-/// Whether groups can be written, and the numbers of those that end.
+/// Checks if groups can be written, and the numbers of those that end.
 pub(crate) fn groups_fit(put: &Sequence<(u64, Members)>, ended: &NumberList) -> bool
     ensures { result ≡ fits_kind fits_group is_number put.now ended.now }
 {
@@ -46,7 +46,7 @@ fn all_groups_fit(groups: &[(u64, Members)]) -> bool
         .all(|(group, members)| group_fits(*group, members))
 }
 
-/// Whether a group's number and those of its members are within their limits.
+/// Checks if a group's number and those of its members are within their limits.
 fn group_fits(group: u64, members: &Members) -> bool
     ensures { result ≡ fits_group (group, members.now) }
 {

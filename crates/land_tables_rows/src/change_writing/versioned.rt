@@ -16,7 +16,7 @@ pub trait Versioned {
     /// Whether the record can be written.
     ghost fits: { Self → Bool };
 
-    /// Whether the record can be written.
+    /// Checks if the record can be written.
     fn fits(&self) -> bool
         ensures { result ≡ fits self.now };
 
@@ -73,7 +73,7 @@ pub trait Closable<K>: Versioned {
     /// Whether a key can be written.
     ghost fits_key: { K → Bool };
 
-    /// Whether a key can be written.
+    /// Checks if a key can be written.
     fn fits_key(key: &K) -> bool
         ensures { result ≡ fits_key key.now };
 

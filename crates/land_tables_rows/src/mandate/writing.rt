@@ -12,7 +12,7 @@ use land_core::mandates::Mandate;
 use land_tables_schema::rows::tables as rows;
 use sqlite::{Alter, Error, Transaction};
 
-/// Whether a mandate can be written: the numbers of the principal and of the agent are within their limits.
+/// Checks if a mandate can be written: the numbers of the principal and of the agent are within their limits.
 pub fn fits(mandate: Mandate) -> bool
     ensures { result ≡ fits_mandate mandate }
 {

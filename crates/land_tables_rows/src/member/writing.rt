@@ -11,7 +11,7 @@ use land_tables_history::group_member::GroupMember;
 use land_tables_schema::rows::tables as rows;
 use sqlite::{Alter, Error, Transaction};
 
-/// Whether a member can be written: the numbers of the group and of the party are within their limits.
+/// Checks if a member can be written: the numbers of the group and of the party are within their limits.
 pub fn fits(entry: &GroupMember) -> bool
     ensures { result ≡ fits_member entry.now }
 {

@@ -10,7 +10,7 @@ use land_core::limits::LAST_NEXT;
 use land_tables_schema::rows::tables as rows;
 use sqlite::{Alter, Error, Transaction};
 
-/// Whether a number can be written as the next number: 2 to 1,000,000,001.
+/// Checks if a number can be written as the next number: 2 to 1,000,000,001.
 pub fn fits(next: u64) -> bool
     ensures { result ≡ is_next next }
 {

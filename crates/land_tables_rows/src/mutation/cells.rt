@@ -40,8 +40,8 @@ pub fn mutation_cells<'a>(
     }
 }
 
-/// Whether a mutation is within the limits of its fields, so that it decodes from its cells. By their types,
-/// the share in its content is a fraction, and its outlines are valid rings.
+/// Checks if a mutation is within the limits of its fields, so that it decodes from its cells. By their
+/// types, the share in its content is a fraction, and its outlines are valid rings.
 pub fn fits_mutation(number: u64, mutation: &MutationRecord) -> bool
     ensures fits { result ≡ fits_mutation (number, mutation.now) }
     ensures exact { IsExactMutation mutation.now }
@@ -56,7 +56,7 @@ pub fn fits_mutation(number: u64, mutation: &MutationRecord) -> bool
         && mutation.content.is_well_formed()
 }
 
-/// Whether an integer is a moment: Unix time in milliseconds, from 1970 to the end of 2099.
+/// Checks if an integer is a moment: Unix time in milliseconds, from 1970 to the end of 2099.
 fn is_moment(at: i64) -> bool
     ensures { result ≡ is_moment at }
 {

@@ -16,8 +16,8 @@ use land_wire_json::texts::mutation::content_text;
 use sqlite::{Alter, Error, Transaction};
 use std::alloc::Global;
 
-/// Whether a mutation can be written: its numbers, its reference and its content are within their limits, and
-/// it was lodged at a moment.
+/// Checks if a mutation can be written: its numbers, its reference and its content are within their limits,
+/// and it was lodged at a moment.
 pub fn fits(number: u64, mutation: &MutationRecord) -> bool
     ensures { result ≡ fits_mutation (number, mutation.now) }
 {

@@ -11,7 +11,7 @@ use land_tables_history::naming::Naming;
 use land_tables_schema::rows::tables as rows;
 use sqlite::{Alter, Error, Transaction};
 
-/// Whether a link can be written: the numbers of the mutation and of the unit are within their limits.
+/// Checks if a link can be written: the numbers of the mutation and of the unit are within their limits.
 pub fn fits(naming: Naming) -> bool
     ensures { result ≡ fits_naming naming }
 {

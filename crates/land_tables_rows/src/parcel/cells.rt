@@ -37,7 +37,7 @@ pub fn parcel_cells(number: u64, parcel: &ParcelRecord) -> Result<ParcelCells<'_
     })
 }
 
-/// Whether a parcel is within the limits of its fields, so that it decodes from its cells. By its type, its
+/// Checks if a parcel is within the limits of its fields, so that it decodes from its cells. By its type, its
 /// outline is a valid ring.
 pub fn fits_parcel(number: u64, parcel: &ParcelRecord) -> bool
     ensures fits { result ≡ fits_parcel (number, parcel.now) }

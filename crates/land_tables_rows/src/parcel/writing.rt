@@ -13,7 +13,7 @@ use land_core::parcel::ParcelRecord;
 use land_tables_schema::rows::tables as rows;
 use sqlite::{Alter, Error, Transaction};
 
-/// Whether a parcel can be written: its numbers and its label are within their limits.
+/// Checks if a parcel can be written: its numbers and its label are within their limits.
 pub fn fits(number: u64, parcel: &ParcelRecord) -> bool
     ensures { result ≡ fits_parcel (number, parcel.now) }
 {

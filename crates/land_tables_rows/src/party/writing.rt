@@ -12,7 +12,7 @@ use land_core::words::party_word;
 use land_tables_schema::rows::tables as rows;
 use sqlite::{Alter, Error, Transaction};
 
-/// Whether a party can be written: its number and its name are within their limits.
+/// Checks if a party can be written: its number and its name are within their limits.
 pub fn fits(number: u64, party: &PartyRecord) -> bool
     ensures { result ≡ fits_party number party.now }
 {

@@ -13,7 +13,7 @@ use land_core::words::role_word;
 use land_tables_schema::rows::tables as rows;
 use sqlite::{Alter, Error, Transaction};
 
-/// Whether a grant can be written: the number of its party is within its limits.
+/// Checks if a grant can be written: the number of its party is within its limits.
 pub fn fits(grant: Grant) -> bool
     ensures { result ≡ fits_grant grant }
 {

@@ -39,8 +39,8 @@ fn rowids(alloc: Global, rows: &[Row]) -> Result<Vec<i64>, Error>
     Ok(ids)
 }
 
-/// Whether no two numbers are the same. Strictly increasing numbers, the usual order of a table's rowids, are
-/// neither copied nor sorted.
+/// Checks if no two numbers are the same. Strictly increasing numbers, the usual order of a table's rowids,
+/// are neither copied nor sorted.
 fn are_apart(alloc: Global, ids: &[i64]) -> Result<bool, AllocError>
     ensures { IfOk result (λ it. (it ≡ true) ↔ IsDistinct int_eq ids.now) }
 {
@@ -52,7 +52,7 @@ fn are_apart(alloc: Global, ids: &[i64]) -> Result<bool, AllocError>
     Ok(is_rising(sorted.as_slice()))
 }
 
-/// Whether each number is less than its successor.
+/// Checks if each number is less than its successor.
 fn is_rising(ids: &[i64]) -> bool
     ensures { (result ≡ true) ↔ IsStrictlySortedBy int_cmp ids.now }
 {

@@ -63,7 +63,7 @@ pub fn rrr_cells(number: u64, entry: &RrrRecord) -> RrrCells<'_>
     }
 }
 
-/// Whether an entry is within the limits of its fields, so that it decodes from its cells. By its type, the
+/// Checks if an entry is within the limits of its fields, so that it decodes from its cells. By its type, the
 /// share of a right is a fraction.
 pub fn fits_rrr(number: u64, entry: &RrrRecord) -> bool
     ensures fits { result ≡ fits_rrr (number, entry.now) }

@@ -13,7 +13,7 @@ use land_core::rrr::RrrRecord;
 use land_tables_schema::rows::tables as rows;
 use sqlite::{Alter, Error, Transaction};
 
-/// Whether an entry can be written: its numbers and the fields of its class are within their limits.
+/// Checks if an entry can be written: its numbers and the fields of its class are within their limits.
 pub fn fits(number: u64, entry: &RrrRecord) -> bool
     ensures { result ≡ fits_rrr (number, entry.now) }
 {

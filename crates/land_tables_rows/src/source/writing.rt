@@ -12,7 +12,7 @@ use land_core::words::source_word;
 use land_tables_schema::rows::tables as rows;
 use sqlite::{Alter, Error, Transaction};
 
-/// Whether a source can be written: its number and its title are within their limits.
+/// Checks if a source can be written: its number and its title are within their limits.
 pub fn fits(number: u64, source: &SourceRecord) -> bool
     ensures { result ≡ fits_source number source.now }
 {

@@ -11,7 +11,7 @@ use land_core::unit::UnitRecord;
 use land_tables_schema::rows::tables as rows;
 use sqlite::{Alter, Error, Transaction};
 
-/// Whether a unit can be written: its number and its name are within their limits.
+/// Checks if a unit can be written: its number and its name are within their limits.
 pub fn fits(number: u64, unit: &UnitRecord) -> bool
     ensures { result ≡ fits_unit number unit.now }
 {

@@ -89,7 +89,7 @@ pub(crate) fn mutation(alloc: Global, it: &Lodged) -> Result<MutationRecord, Sto
     })
 }
 
-/// Whether a transfer is the expected one.
+/// Checks if a transfer is the expected one.
 fn is_transfer(it: &Transfer, asked: &Asked) -> bool {
     match asked {
         Asked::Transfer(unit, right, receiver, n, d) => {
@@ -103,7 +103,7 @@ fn is_transfer(it: &Transfer, asked: &Asked) -> bool {
     }
 }
 
-/// Whether a mortgage is the expected one.
+/// Checks if a mortgage is the expected one.
 fn is_mortgage(it: &Mortgage, asked: &Asked) -> bool {
     match asked {
         Asked::Mortgage(unit, creditor, amount, currency) => {
@@ -116,7 +116,7 @@ fn is_mortgage(it: &Mortgage, asked: &Asked) -> bool {
     }
 }
 
-/// Whether a discharge is the expected one.
+/// Checks if a discharge is the expected one.
 fn is_discharge(it: &Discharge, asked: &Asked) -> bool {
     match asked {
         Asked::Discharge(unit, mortgage) => it.unit == *unit && it.mortgage == *mortgage,
@@ -124,7 +124,7 @@ fn is_discharge(it: &Discharge, asked: &Asked) -> bool {
     }
 }
 
-/// Whether a content is the expected one.
+/// Checks if a content is the expected one.
 pub fn is_asked(content: &Content, asked: &Asked) -> bool {
     match content {
         Content::Transfer(it) => is_transfer(it, asked),

@@ -237,7 +237,7 @@ fn told_of_deciding(alloc: Global, act: Act, rows: &[Row]) -> Result<usize, Stop
     told_rows(alloc, &Ask::Do(act), rows)
 }
 
-/// Whether the verdicts on an approval and on a refusal are as expected.
+/// Checks if the verdicts on an approval and on a refusal are as expected.
 fn are_told(alloc: Global, it: &Deciders) -> Result<bool, Stop> {
     let decision = Decision { mutation: it.0 };
     let approving = told_of_deciding(alloc, Act::Approve(decision), it.1)?;

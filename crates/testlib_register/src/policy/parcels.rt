@@ -245,7 +245,7 @@ fn view(number: u64) -> Ask {
     }
 }
 
-/// Whether the verdicts on the view of a mutation are as expected.
+/// Checks if the verdicts on the view of a mutation are as expected.
 fn are_told(register: &Register, number: u64, rows: &[Row]) -> bool {
     let ask = view(number);
     told_of(register, &ask, false, rows) == rows.len()

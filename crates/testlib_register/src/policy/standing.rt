@@ -111,12 +111,12 @@ const FARM_THEN: Ask = Ask::Sheet {
     at: Some(0),
 };
 
-/// Whether this rule denies Anna, for the current register and the one at the requested moment.
+/// Checks if this rule denies Anna, for the current register and the one at the requested moment.
 fn is_denied(now: &Register, at: &Register, ask: Ask, rule: u8) -> bool {
     verdict_on(now, at, caller(ANNA, Citizen), ask, true) == told(rule)
 }
 
-/// Whether sight is read at the requested moment and roles now, if one of the registers is empty.
+/// Checks if sight is read at the requested moment and roles now, if one of the registers is empty.
 fn are_read_apart(register: &Register, nothing: &Register) -> bool {
     is_denied(register, nothing, VIEW, 27)
         && is_denied(register, nothing, FARM_THEN, 11)

@@ -73,7 +73,7 @@ struct Standing(
     &'static [u64],
 );
 
-/// Whether records have these numbers.
+/// Checks if records have these numbers.
 fn have<V>(records: &Records<V>, numbers: &[u64]) -> bool {
     let mut rows = numbers.iter();
     let mut count = 0usize;
@@ -103,7 +103,7 @@ struct Changing {
     shown: &'static [Shown],
 }
 
-/// Whether the numbers of a register and some of its objects are as expected, and the register is sound.
+/// Checks if the numbers of a register and some of its objects are as expected, and the register is sound.
 fn is_changed(alloc: Global, register: &Register, it: &Changing) -> Result<bool, Stop> {
     Ok(
         register.next == it.next
@@ -128,8 +128,8 @@ fn change(alloc: Global, register: &mut Register, it: &Changing) -> Result<Made,
     make_by(alloc, register, &mut change, it.facts)
 }
 
-/// Whether a change was made correctly. One that was made at the second attempt returns out of memory, since
-/// an allocation failed.
+/// Checks if a change was made correctly. One that was made at the second attempt returns out of memory,
+/// since an allocation failed.
 fn is_well_made(made: Made, good: bool) -> Result<bool, Stop> {
     match made {
         Made::AtOnce => Ok(good),
@@ -144,7 +144,7 @@ fn change_well(alloc: Global, register: &mut Register, it: &Changing) -> Result<
     is_well_made(made, is_changed(alloc, register, it)?)
 }
 
-/// Whether the result of a change is as expected.
+/// Checks if the result of a change is as expected.
 fn changes(alloc: Global, it: &Changing) -> Result<bool, Stop> {
     let mut register = register_with(alloc, it.base)?;
     change_well(alloc, &mut register, it)

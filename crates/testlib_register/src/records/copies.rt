@@ -17,7 +17,7 @@ pub(super) fn fields<T: Debug>(alloc: Global, value: &T) -> Result<String, Alloc
     format!(in alloc; "{value:?}")
 }
 
-/// Whether a register is the new one.
+/// Checks if a register is the new one.
 fn is_new(alloc: Global, register: &Register) -> Result<bool, Stop> {
     Ok(
         is_shown(alloc, register, &OFFICE)?
@@ -47,7 +47,7 @@ fn are_new(alloc: Global, register: &Register, copy: &Register) -> Result<bool, 
     Ok(is_new(alloc, register)? && is_new(alloc, copy)?)
 }
 
-/// Whether the register is still the new one after a failed copy. Then returns out of memory.
+/// Checks if the register is still the new one after a failed copy. Then returns out of memory.
 fn is_new_still(alloc: Global, register: &Register) -> Result<bool, Stop> {
     if is_new(alloc, register)? {
         Err(AllocError.into())
@@ -56,7 +56,7 @@ fn is_new_still(alloc: Global, register: &Register) -> Result<bool, Stop> {
     }
 }
 
-/// Whether a copy of the register is the new one. The register stays so, whether or not memory was refused.
+/// Checks if a copy of the register is the new one. The register stays so, whether or not memory was refused.
 fn is_copied_new(alloc: Global, register: &Register) -> Result<bool, Stop> {
     match register.copy(alloc) {
         Ok(copy) => are_new(alloc, register, &copy),
@@ -74,13 +74,13 @@ pub fn out_of_memory_leaves_the_copied_register(alloc: Global) -> Result<(), Sto
     expect(stays_new(alloc)?, "the register", 0)
 }
 
-/// Whether a copy prints the same fields as the original.
+/// Checks if a copy prints the same fields as the original.
 fn is_copied<T: Debug + Duplicate>(alloc: Global, value: &T) -> Result<bool, Stop> {
     let copied = fields(alloc, &value.copy(alloc)?)?;
     Ok(fields(alloc, value)?.as_str() == copied.as_str())
 }
 
-/// Whether a register and another one are sound, and have one next number.
+/// Checks if a register and another one are sound, and have one next number.
 fn are_sound(alloc: Global, register: &Register, other: &Register) -> Result<bool, Stop> {
     Ok(
         register.next == other.next
@@ -107,7 +107,7 @@ fn with_all(alloc: Global) -> Result<Register, Stop> {
     register_with(alloc, WITH_ALL)
 }
 
-/// Whether a copy of a register of many records is alike and sound.
+/// Checks if a copy of a register of many records is alike and sound.
 fn is_whole_copied(alloc: Global) -> Result<bool, Stop> {
     let register = with_all(alloc)?;
     is_well_copied(alloc, &register)
@@ -118,7 +118,7 @@ pub fn a_register_and_its_copy_are_alike_and_sound(alloc: Global) -> Result<(), 
     expect(is_whole_copied(alloc)?, "the copy", 0)
 }
 
-/// Whether the copy of an object of a register is alike.
+/// Checks if the copy of an object of a register is alike.
 fn is_object_copied(
     alloc: Global,
     register: &Register,

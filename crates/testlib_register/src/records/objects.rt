@@ -70,7 +70,7 @@ fn is_unit(it: &Unit, name: &str, checked: bool) -> bool {
     it.name.as_str() == name && it.checked == checked
 }
 
-/// Whether a parcel has this outline and doubled area.
+/// Checks if a parcel has this outline and doubled area.
 fn has_outline(it: &Parcel, area: u64, outline: &str) -> Result<bool, AllocError> {
     let written = it.outline.write_wkt()?;
     Ok(written.as_str() == outline && it.outline.doubled_area() == area)
@@ -132,7 +132,7 @@ fn is_mutation(it: &Mutation, lodged: &Lodged) -> bool {
         && is_asked(&it.content, &lodged.4)
 }
 
-/// Whether an object has this number and the expected data.
+/// Checks if an object has this number and the expected data.
 fn looks(object: &Object, number: u64, look: &Look) -> Result<bool, AllocError> {
     match (object, look) {
         (Object::Party(it), Look::Party(kind, name, shares, roles)) => {
@@ -161,7 +161,7 @@ fn looks(object: &Object, number: u64, look: &Look) -> Result<bool, AllocError> 
     }
 }
 
-/// Whether an object of a register is as its row expects.
+/// Checks if an object of a register is as its row expects.
 pub(super) fn is_shown(
     alloc: Global,
     register: &Register,

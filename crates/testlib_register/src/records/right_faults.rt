@@ -38,7 +38,7 @@ fn held(alloc: Global, base: &[Part], rights: &[Right]) -> Result<Option<Unsound
 /// Rights, and the faults of the garden if its shares are checked and if they are not.
 struct Holding(&'static [Right], Option<Unsound>, Option<Unsound>);
 
-/// Whether the garden has the faults of its rights, checked and unchecked.
+/// Checks if the garden has the faults of its rights, checked and unchecked.
 fn has_faults(alloc: Global, it: &Holding) -> Result<bool, Stop> {
     let checked = held(alloc, CHECKED_BARE, it.0)?;
     Ok(checked == it.1 && held(alloc, UNCHECKED_BARE, it.0)? == it.2)

@@ -50,12 +50,12 @@ fn serve_stream<K: Keeper>(
     serve(alloc, &mut reader, told, keeper, &mut clock)
 }
 
-/// Whether the given number of requests were answered.
+/// Checks if the given number of requests were answered.
 fn has_replies(serve_stream: &Result<Served, DeskFault>, replies: u64) -> bool {
     *serve_stream == Ok(Served { replies })
 }
 
-/// Whether the change got its own reply, followed by the reply of a failed store.
+/// Checks if the change got its own reply, followed by the reply of a failed store.
 fn is_done_then_failed(talk: &Transcript, written: &[u8]) -> bool {
     let Some(mark) = talk.marks.first() else {
         return false;
@@ -90,7 +90,7 @@ fn ending_of(
     Ending::Other
 }
 
-/// Whether a keeper is closed, and the next request gets 503, after which the connection closes.
+/// Checks if a keeper is closed, and the next request gets 503, after which the connection closes.
 fn is_closed<K: Keeper>(alloc: Global, keeper: &mut K, talk: &Transcript, told: &mut Sink) -> bool {
     let outcome = serve_stream(alloc, keeper, talk, told);
     keeper.is_closed() && told.taken.as_slice() == CLOSED && has_replies(&outcome, 1)

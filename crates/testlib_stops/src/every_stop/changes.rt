@@ -56,7 +56,7 @@ fn held_by_files(alloc: Global, files: &Disks, story: &Story) -> Result<HeldRegi
     held_by_image(alloc, &image, story)
 }
 
-/// Whether that register is allowed, by the outcome of the change.
+/// Checks if that register is allowed, by the outcome of the change.
 fn is_allowed_after(ending: Ending, held: HeldRegister) -> bool {
     match ending {
         Ending::Unasked => held.is_before,

@@ -71,7 +71,7 @@ fn has_stopped(disk: &mut Fuse<Memory>) -> bool {
     !disk.may_be_used() || disk.len().is_err()
 }
 
-/// Whether one of the disks has stopped.
+/// Checks if one of the disks has stopped.
 pub fn have_stopped(files: &mut Disks) -> bool {
     has_stopped(&mut files.log) || has_stopped(&mut files.db)
 }

@@ -115,7 +115,7 @@ fn version_in(alloc: Global, files: &Disks) -> Result<u64, Stop> {
     )
 }
 
-/// Whether that version is allowed, by the outcome of the migration.
+/// Checks if that version is allowed, by the outcome of the migration.
 fn is_allowed_after(ending: Ending, version: u64) -> bool {
     match ending {
         Ending::Unopened => version == 1,

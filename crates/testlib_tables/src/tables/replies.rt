@@ -36,7 +36,7 @@ const KINDS: &[Kind] = &[
 /// Requested times: none, past ones, and one in the future.
 const MOMENTS: &[Option<i64>] = &[None, Some(1009), Some(1011), Some(1015), Some(5000)];
 
-/// Whether a reply is an out-of-memory error.
+/// Checks if a reply is an out-of-memory error.
 fn is_out_of_memory(reply: &Reply) -> bool {
     match reply {
         Reply::Store(number) => *number == 501,
@@ -44,7 +44,7 @@ fn is_out_of_memory(reply: &Reply) -> bool {
     }
 }
 
-/// Whether a reply is this list.
+/// Checks if a reply is this list.
 fn lists(reply: &Reply, numbers: &[u64]) -> bool {
     match reply {
         Reply::Numbers(found) => found.as_slice() == numbers,
@@ -52,7 +52,7 @@ fn lists(reply: &Reply, numbers: &[u64]) -> bool {
     }
 }
 
-/// Whether a reply is a denial by this rule.
+/// Checks if a reply is a denial by this rule.
 fn denies(reply: &Reply, rule: u8) -> bool {
     match reply {
         Reply::Denied(found) => *found == rule,
@@ -60,7 +60,7 @@ fn denies(reply: &Reply, rule: u8) -> bool {
     }
 }
 
-/// Whether a reply is this fault of the request.
+/// Checks if a reply is this fault of the request.
 fn has_fault(reply: &Reply, number: u16) -> bool {
     match reply {
         Reply::Fault(found) => *found == number,
@@ -68,7 +68,7 @@ fn has_fault(reply: &Reply, number: u16) -> bool {
     }
 }
 
-/// Whether the reply to a list equals another.
+/// Checks if the reply to a list equals another.
 fn is_alike(reply: &Reply, other: &Reply) -> bool {
     match other {
         Reply::Numbers(numbers) => lists(reply, numbers.as_slice()),
@@ -78,7 +78,7 @@ fn is_alike(reply: &Reply, other: &Reply) -> bool {
     }
 }
 
-/// Whether two replies are equal. Running out of memory stops the test.
+/// Checks if two replies are equal. Running out of memory stops the test.
 fn compare_or_stop(reply: &Reply, other: &Reply) -> Result<bool, Stop> {
     if is_out_of_memory(reply) || is_out_of_memory(other) {
         Err(Stop::Memory)
@@ -87,7 +87,7 @@ fn compare_or_stop(reply: &Reply, other: &Reply) -> Result<bool, Stop> {
     }
 }
 
-/// Whether two keepers give a caller the same reply for a kind at a time.
+/// Checks if two keepers give a caller the same reply for a kind at a time.
 fn same_reply<K: Keeper, L: Keeper>(
     alloc: Global,
     keeper: &mut K,
@@ -101,7 +101,7 @@ fn same_reply<K: Keeper, L: Keeper>(
     compare_or_stop(&reply, &answer(alloc, other, 1000, request))
 }
 
-/// Whether two keepers give a caller the same replies for all kinds at a time.
+/// Checks if two keepers give a caller the same replies for all kinds at a time.
 fn same_for_kinds<K: Keeper, L: Keeper>(
     alloc: Global,
     keeper: &mut K,
@@ -118,7 +118,7 @@ fn same_for_kinds<K: Keeper, L: Keeper>(
     Ok(true)
 }
 
-/// Whether two keepers give a caller the same replies at all times.
+/// Checks if two keepers give a caller the same replies at all times.
 fn same_for_caller<K: Keeper, L: Keeper>(
     alloc: Global,
     keeper: &mut K,

@@ -89,7 +89,7 @@ fn text_at(
     Ok(text_shown(alloc, &object)?)
 }
 
-/// Whether the object with a number in a register equals the plain keeper's at a time.
+/// Checks if the object with a number in a register equals the plain keeper's at a time.
 fn is_same(
     alloc: Global,
     register: &Register,
@@ -101,7 +101,7 @@ fn is_same(
     Ok(text.as_str() == text_at(alloc, plain, what, at)?.as_str())
 }
 
-/// Whether all objects of a kind are equal.
+/// Checks if all objects of a kind are equal.
 fn are_same(
     alloc: Global,
     register: &Register,
@@ -117,7 +117,7 @@ fn are_same(
     Ok(true)
 }
 
-/// Whether all objects are equal.
+/// Checks if all objects are equal.
 fn equals_plain(
     alloc: Global,
     register: &Register,
@@ -145,7 +145,7 @@ fn count(register: &Register) -> usize {
     count
 }
 
-/// Whether the register in tables at a time is the plain keeper's, and has the given number of objects.
+/// Checks if the register in tables at a time is the plain keeper's, and has the given number of objects.
 fn matches_row<S: Alter>(
     alloc: Global,
     tables: &mut Tables<S>,
