@@ -168,7 +168,7 @@ pub enum Act {
 impl Act {
     ghost use Rattle.land_core.specs.Acts.{is_well_formed};
 
-    /// Whether each field is within its limits.
+    /// Checks if each field is within its limits.
     pub fn is_well_formed(&self) -> bool
         ensures { result ≡ is_well_formed self.now }
     {
@@ -226,7 +226,7 @@ impl Lodging {
     }
 }
 
-/// Whether a unit may be registered with these parcels: 1 to 64, each with a valid label.
+/// Checks if a unit may be registered with these parcels: 1 to 64, each with a valid label.
 fn are_parcels(parcels: &[NewParcel]) -> bool
     ensures { result ≡ are_parcels parcels.now }
 {
@@ -239,8 +239,8 @@ fn have_labels(parcels: &[NewParcel]) -> bool
     parcels.iter().all(|parcel| is_label(parcel.label.as_str()))
 }
 
-/// Whether a unit may be registered with these rights: 1 to 64, each of a party with a valid number, at least
-/// one of them an ownership.
+/// Checks if a unit may be registered with these rights: 1 to 64, each of a party with a valid number, at
+/// least one of them an ownership.
 fn are_rights(rights: &[NewRight]) -> bool
     ensures { result ≡ are_rights rights.now }
 {
@@ -253,7 +253,7 @@ fn have_parties(rights: &[NewRight]) -> bool
     rights.iter().all(|right| is_number(right.party))
 }
 
-/// Whether any of the rights is an ownership.
+/// Checks if any of the rights is an ownership.
 pub fn have_owner(rights: &[NewRight]) -> bool
     ensures { result ≡ have_owner rights.now }
 {
@@ -262,7 +262,7 @@ pub fn have_owner(rights: &[NewRight]) -> bool
         .any(|right| right.right_type.is(RightType::Ownership))
 }
 
-/// Whether a group may have these members: 2 to 64, each with a valid number.
+/// Checks if a group may have these members: 2 to 64, each with a valid number.
 fn are_members(members: &[Member]) -> bool
     ensures { result ≡ are_members members.now }
 {

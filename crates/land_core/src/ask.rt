@@ -47,7 +47,7 @@ pub struct Request {
 impl Request {
     ghost use Rattle.land_core.specs.Acts.{is_well_formed_request};
 
-    /// Whether each field is within its limits.
+    /// Checks if each field is within its limits.
     pub fn is_well_formed(&self) -> bool
         ensures { result ≡ is_well_formed_request self.now }
     {

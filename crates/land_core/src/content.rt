@@ -65,7 +65,7 @@ pub enum Content {
 impl Content {
     ghost use Rattle.land_core.specs.Contents.{is_same_content, is_well_formed_content, names_unit};
 
-    /// Whether each field is within its limits.
+    /// Checks if each field is within its limits.
     pub fn is_well_formed(&self) -> bool
         ensures { result ≡ is_well_formed_content self.now }
     {
@@ -78,7 +78,7 @@ impl Content {
         }
     }
 
-    /// Whether two contents are equal.
+    /// Checks if two contents are equal.
     pub fn is_same(&self, other: &Content) -> bool
         ensures { result ≡ is_same_content self.now other.now }
     {
@@ -92,7 +92,7 @@ impl Content {
         }
     }
 
-    /// Whether it refers to the unit.
+    /// Checks if it refers to the unit.
     pub fn names_unit(&self, unit: u64) -> bool
         ensures { result ≡ names_unit unit self.now }
     {
@@ -158,14 +158,14 @@ impl Discharge {
     }
 }
 
-/// Whether an amount is 1 to 1_000_000_000_000_000 minor units.
+/// Checks if an amount is 1 to 1_000_000_000_000_000 minor units.
 pub fn is_amount(amount: u64) -> bool
     ensures { result ≡ is_amount amount }
 {
     1 <= amount && amount <= 1_000_000_000_000_000
 }
 
-/// Whether a text is three letters A to Z (ISO 4217).
+/// Checks if a text is three letters A to Z (ISO 4217).
 pub fn is_currency(text: &str) -> bool
     ensures { result ≡ is_currency text.now }
 {

@@ -67,7 +67,7 @@ impl Mandates {
         pairs
     }
 
-    /// Whether a mandate exists.
+    /// Checks if a mandate exists.
     pub fn contains(&self, mandate: Mandate) -> bool
         ensures { result ≡ has_mandate self.now mandate }
     {

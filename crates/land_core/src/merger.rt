@@ -49,35 +49,35 @@ impl Merger {
     }
 }
 
-/// Whether a list contains a number.
+/// Checks if a list contains a number.
 pub fn lists_number(numbers: &[u64], number: u64) -> bool
     ensures { result ≡ lists_number numbers.now number }
 {
     numbers.iter().any(|it| *it == number)
 }
 
-/// Whether these are valid numbers of other units: at most 15, strictly ascending, without the unit itself.
+/// Checks if these are valid numbers of other units: at most 15, strictly ascending, without the unit itself.
 fn are_other_units(unit: u64, others: &[u64]) -> bool
     ensures { result ≡ are_other_units unit others.now }
 {
     others.len() <= 15 && are_ascending_numbers(others) && !lists_number(others, unit)
 }
 
-/// Whether these are valid numbers of merged parcels: 2 to 16, strictly ascending.
+/// Checks if these are valid numbers of merged parcels: 2 to 16, strictly ascending.
 fn are_merged_parcels(parcels: &[u64]) -> bool
     ensures { result ≡ are_merged_parcels parcels.now }
 {
     2 <= parcels.len() && parcels.len() <= 16 && are_ascending_numbers(parcels)
 }
 
-/// Whether these are strictly ascending numbers of objects.
+/// Checks if these are strictly ascending numbers of objects.
 fn are_ascending_numbers(numbers: &[u64]) -> bool
     ensures { result ≡ are_ascending_numbers numbers.now }
 {
     all_above(0, numbers) && are_numbers(numbers)
 }
 
-/// Whether the numbers are strictly ascending and the first is above `last`.
+/// Checks if the numbers are strictly ascending and the first is above `last`.
 pub fn all_above(last: u64, numbers: &[u64]) -> bool
     ensures { result ≡ all_above last numbers.now }
 {

@@ -37,7 +37,7 @@ pub struct MutationRecord {
 impl MutationRecord {
     ghost use Rattle.land_core.specs.Mutations.{is_lodged_as, is_undecided};
 
-    /// Whether it is neither approved nor refused.
+    /// Checks if it is neither approved nor refused.
     pub fn is_undecided(&self) -> bool
         ensures { result ≡ is_undecided self.now }
     {
@@ -47,7 +47,7 @@ impl MutationRecord {
         }
     }
 
-    /// Whether it has this lodger and this reference.
+    /// Checks if it has this lodger and this reference.
     pub fn is_lodged_as(&self, lodger: u64, reference: &str) -> bool
         ensures { result ≡ is_lodged_as lodger reference.now self.now }
     {

@@ -121,14 +121,14 @@ impl Register {
         })
     }
 
-    /// Whether a party has a role.
+    /// Checks if a party has a role.
     pub fn holds(&self, party: u64, role: Role) -> bool
         ensures { result ≡ holds self.now party role }
     {
         self.roles.contains(Grant { party, role })
     }
 
-    /// Whether an object of this kind and number exists.
+    /// Checks if an object of this kind and number exists.
     pub fn stands(&self, kind: Kind, number: u64) -> bool
         ensures { result ≡ stands self.now kind number }
     {
@@ -142,7 +142,7 @@ impl Register {
         }
     }
 
-    /// Whether a party of this number exists and is not a group.
+    /// Checks if a party of this number exists and is not a group.
     pub fn has_single_party(&self, number: u64) -> bool
         ensures { result ≡ has_single_party self.now number }
     {
@@ -152,7 +152,7 @@ impl Register {
         }
     }
 
-    /// Whether a group of this number exists.
+    /// Checks if a group of this number exists.
     pub fn has_group(&self, number: u64) -> bool
         ensures { result ≡ has_group self.now number }
     {
@@ -162,7 +162,7 @@ impl Register {
         }
     }
 
-    /// Whether a party is a member of a group.
+    /// Checks if a party is a member of a group.
     pub fn is_member(&self, group: u64, party: u64) -> bool
         ensures { result ≡ is_member self.now group party }
     {

@@ -66,7 +66,7 @@ impl Roles {
         grants
     }
 
-    /// Whether a party has a role.
+    /// Checks if a party has a role.
     pub fn contains(&self, grant: Grant) -> bool
         ensures { result ≡ has_grant self.now grant }
     {

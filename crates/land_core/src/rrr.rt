@@ -19,7 +19,7 @@ pub enum RightType {
 }
 
 impl RightType {
-    /// Whether two types are equal.
+    /// Checks if two types are equal.
     pub fn is(self, other: RightType) -> bool
         ensures { result ≡ is_type self other }
     {
@@ -86,7 +86,7 @@ impl Class {
         }
     }
 
-    /// Whether it is a right of this type.
+    /// Checks if it is a right of this type.
     pub fn is_right_of(&self, wanted: RightType) -> bool
         ensures { result ≡ is_right_of wanted self.now }
     {
@@ -147,7 +147,7 @@ pub struct RrrRecord {
 }
 
 impl RrrRecord {
-    /// Whether it is a right of a type in a unit.
+    /// Checks if it is a right of a type in a unit.
     pub fn is_right_in(&self, unit: u64, right_type: RightType) -> bool
         ensures { result ≡ is_right_in unit right_type self.now }
     {

@@ -58,7 +58,7 @@ impl Subdivision {
     }
 }
 
-/// Whether these are valid further parts: 1 to 15.
+/// Checks if these are valid further parts: 1 to 15.
 fn are_further_parts(parts: &[Part]) -> bool
     ensures { result ≡ are_further_parts parts.now }
 {
@@ -83,7 +83,7 @@ fn is_part(part: &Part) -> bool
     is_label(part.label.as_str()) && is_new_name(&part.unit)
 }
 
-/// Whether the name of the new unit, if any, is valid.
+/// Checks if the name of the new unit, if any, is valid.
 fn is_new_name(name: &Option<Text>) -> bool
     ensures { result ≡ is_new_name name.now }
 {

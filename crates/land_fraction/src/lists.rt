@@ -36,8 +36,8 @@ pub fn common(shares: &[Fraction]) -> Option<u64>
     Some(multiple)
 }
 
-/// Whether the shares sum to 1: for some common multiple of their denominators, at most 1_000_000_000, their
-/// parts sum to it. The empty list does not.
+/// Checks if the shares sum to 1: for some common multiple of their denominators, at most 1_000_000_000,
+/// their parts sum to it. The empty list does not.
 pub fn is_whole(shares: &[Fraction]) -> Whole
     ensures meaning { IsWholeness shares.now result }
     ensures value { result ≡ wholeness shares.now }
@@ -59,7 +59,7 @@ fn least_multiple(a: u64, b: u64) -> u64
     a / greatest_divisor(a, b) * b
 }
 
-/// Whether the shares together have all of `multiple` equal parts.
+/// Checks if the shares together have all of `multiple` equal parts.
 fn has_all_parts(shares: &[Fraction], multiple: u64) -> bool
     requires bound { multiple ≤ max_denominator }
     ensures { IsTrue result ↔ (parts_of multiple shares.now ≡ multiple) }

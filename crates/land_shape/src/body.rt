@@ -86,7 +86,7 @@ impl<'a> Progress<'a> {
         }
     }
 
-    /// Whether the current words are a point.
+    /// Checks if the current words are a point.
     fn has_point(&self) -> bool
         ensures { result ≡ is_point (progress_of self.now).words }
     {

@@ -52,7 +52,7 @@ impl EdgeBox {
         }
     }
 
-    /// Whether the box overlaps that of the edge from `a` to `b`.
+    /// Checks if the box overlaps that of the edge from `a` to `b`.
     pub(crate) fn overlaps_edge(self, a: Point, b: Point) -> bool
         ensures { IsTrue result
             ↔ BoxesOverlap (place_of self.least) (place_of self.greatest) (place_of a) (place_of b) }

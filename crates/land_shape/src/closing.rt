@@ -12,14 +12,14 @@ const MIN_POINTS: usize = 4;
 
 const MAX_POINTS: usize = 201;
 
-/// Whether two points are at one place.
+/// Checks if two points are at one place.
 pub(crate) fn is_same_place(a: Point, b: Point) -> bool
     ensures { IsTrue result ↔ (place_of a ≡ place_of b) }
 {
     a.x == b.x && a.y == b.y
 }
 
-/// Whether the last point is the first.
+/// Checks if the last point is the first.
 fn is_closed(listed: &[Point]) -> bool
     requires { 0 < length listed.now }
     ensures { IsTrue result ↔ IsClosed (places listed.now) }

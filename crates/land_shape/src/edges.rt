@@ -28,35 +28,35 @@ impl Edge {
     }
 }
 
-/// Whether a coordinate lies between two ends, inclusive.
+/// Checks if a coordinate lies between two ends, inclusive.
 fn is_between(a: i64, b: i64, x: i64) -> bool
     ensures { result ≡ is_between a b x }
 {
     a.min(b) <= x && x <= a.max(b)
 }
 
-/// Whether two points are at one place.
+/// Checks if two points are at one place.
 fn is_at(a: Point, b: Point) -> bool
     ensures { result ≡ is_same_place (place_of a) (place_of b) }
 {
     a.x == b.x && a.y == b.y
 }
 
-/// Whether a point lies on the line through an edge.
+/// Checks if a point lies on the line through an edge.
 fn is_on_line(point: Point, edge: Edge) -> bool
     ensures { result ≡ is_on_line (place_of point) (edge_of edge) }
 {
     edge.from.shift_to(edge.to).cross(edge.from.shift_to(point)) == 0
 }
 
-/// Whether a point lies in the box around an edge.
+/// Checks if a point lies in the box around an edge.
 fn is_in_box(point: Point, edge: Edge) -> bool
     ensures { result ≡ is_in_box (place_of point) (edge_of edge) }
 {
     is_between(edge.from.x, edge.to.x, point.x) && is_between(edge.from.y, edge.to.y, point.y)
 }
 
-/// Whether a point lies on an edge.
+/// Checks if a point lies on an edge.
 fn lies_on(point: Point, edge: Edge) -> bool
     ensures { result ≡ lies_on (place_of point) (edge_of edge) }
 {
@@ -66,7 +66,7 @@ fn lies_on(point: Point, edge: Edge) -> bool
     is_on_line(point, edge)
 }
 
-/// Whether a point lies on an edge but not at its ends.
+/// Checks if a point lies on an edge but not at its ends.
 pub(crate) fn lies_inside(point: Point, edge: Edge) -> bool
     ensures { result ≡ lies_inside (place_of point) (edge_of edge) }
 {

@@ -13,14 +13,14 @@ use crate::plane::Point;
 use crate::tokens::Word;
 use std::alloc::Global;
 
-/// Whether a word is not a number.
+/// Checks if a word is not a number.
 fn is_no_number(word: &[u8]) -> bool
     ensures { IsTrue result ↔ IsNotNumber word.now }
 {
     coordinate(word) == Err(ShapeFault::Number)
 }
 
-/// Whether any word of a point is not a number.
+/// Checks if any word of a point is not a number.
 fn has_wrong_word(words: &[Word<'_>]) -> bool
     ensures { IsTrue result ↔ SomeOf IsNotNumber words.now }
 {
@@ -32,7 +32,7 @@ fn has_wrong_word(words: &[Word<'_>]) -> bool
     false
 }
 
-/// Whether any point has a word that is not a number.
+/// Checks if any point has a word that is not a number.
 fn has_wrong_point(points: &[WrittenPoint<'_>]) -> bool
     ensures { IsTrue result ↔ SomeOf (SomeOf IsNotNumber) points.now }
 {

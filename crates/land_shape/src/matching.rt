@@ -9,8 +9,8 @@ use crate::sorting::{have_same_edges, sorted_points};
 use crate::walking::pieces_one_way;
 use std::alloc::{AllocError, Global};
 
-/// Whether two lists of rings have the same ground: with every edge cut at every corner of any of the rings,
-/// each edge occurs in both equally often, minus the occurrences of the reversed edge.
+/// Checks if two lists of rings have the same ground: with every edge cut at every corner of any of the
+/// rings, each edge occurs in both equally often, minus the occurrences of the reversed edge.
 pub fn chain_matches(alloc: Global, rings: &[Ring], others: &[Ring]) -> Result<bool, AllocError>
     ensures { IfOk result (λ yes. IsTrue yes ↔ Match rings.now others.now) }
 {

@@ -28,21 +28,21 @@ fn capped_value(digits: &[u8]) -> u64
     value
 }
 
-/// Whether all bytes are digits.
+/// Checks if all bytes are digits.
 fn are_digits(bytes: &[u8]) -> bool
     ensures { result ≡ are_digits bytes.now }
 {
     bytes.iter().all(|byte| byte.is_ascii_digit())
 }
 
-/// Whether all bytes are zeros.
+/// Checks if all bytes are zeros.
 fn are_zeros(bytes: &[u8]) -> bool
     ensures { result ≡ are_zeros bytes.now }
 {
     bytes.iter().all(|byte| *byte == b'0')
 }
 
-/// Whether the bytes are at most 20 zeros.
+/// Checks if the bytes are at most 20 zeros.
 fn are_few_zeros(bytes: &[u8]) -> bool
     ensures { result ≡ are_few_zeros bytes.now }
 {

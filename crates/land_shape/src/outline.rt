@@ -75,7 +75,7 @@ impl Ring {
         write_points(*self.points.allocator(), &self.points)
     }
 
-    /// Whether two rings have the same points in the same order, from the same first point.
+    /// Checks if two rings have the same points in the same order, from the same first point.
     pub fn is_same(&self, other: &Ring) -> bool
         ensures { result ≡ is_same_ring self.now other.now }
     {

@@ -9,7 +9,7 @@ use crate::body::{WrittenPoint, WrittenRing};
 use crate::faults::ShapeFault;
 use crate::polygon::WrittenPolygon;
 
-/// Whether a point has three words or more.
+/// Checks if a point has three words or more.
 fn has_long_point(points: &[WrittenPoint<'_>]) -> bool
     ensures { IsTrue result ↔ SomeOf HasManyWords points.now }
 {

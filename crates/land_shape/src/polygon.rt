@@ -50,7 +50,7 @@ fn split_head<'b, 'a>(tokens: &'b [Token<'a>]) -> Option<(bool, &'b [Token<'a>])
     Some(split_tag(rest))
 }
 
-/// Whether the tokens are only the word EMPTY.
+/// Checks if the tokens are only the word EMPTY.
 fn is_only_empty_word(tokens: &[Token<'_>]) -> bool
     ensures { result ≡ is_only_empty_word tokens.now }
 {

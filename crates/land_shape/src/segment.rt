@@ -29,28 +29,28 @@ fn turns_of(a: Point, b: Point, c: Point, d: Point) -> Turns
     }
 }
 
-/// Whether both numbers lie between the bounds.
+/// Checks if both numbers lie between the bounds.
 fn are_inside(low: i128, high: i128, first: i128, second: i128) -> bool
     ensures { IsTrue result ↔ AreInside low high first second }
 {
     low <= first && first <= high && low <= second && second <= high
 }
 
-/// Whether the closed segments from `a` to `b` and from `c` to `d` overlap on one axis.
+/// Checks if the closed segments from `a` to `b` and from `c` to `d` overlap on one axis.
 fn overlap(a: i64, b: i64, c: i64, d: i64) -> bool
     ensures { IsTrue result ↔ Overlap a b c d }
 {
     c.min(d) <= a.max(b) && a.min(b) <= c.max(d)
 }
 
-/// Whether the boxes of the segments from `a` to `b` and from `c` to `d` overlap.
+/// Checks if the boxes of the segments from `a` to `b` and from `c` to `d` overlap.
 pub(crate) fn boxes_overlap(a: Point, b: Point, c: Point, d: Point) -> bool
     ensures { IsTrue result ↔ BoxesOverlap (place_of a) (place_of b) (place_of c) (place_of d) }
 {
     overlap(a.x, b.x, c.x, d.x) && overlap(a.y, b.y, c.y, d.y)
 }
 
-/// Whether the closed segments from `a` to `b` and from `c` to `d` have a common point.
+/// Checks if the closed segments from `a` to `b` and from `c` to `d` have a common point.
 pub(crate) fn have_common_point(a: Point, b: Point, c: Point, d: Point) -> bool
     ensures { IsTrue result ↔ HaveCommonPoint (place_of a) (place_of b) (place_of c) (place_of d) }
 {

@@ -15,7 +15,7 @@ use crate::segment::have_common_point;
 /// The number of consecutive edges that are compared with each later edge by their common box.
 const GROUP_SIZE: usize = 8;
 
-/// Whether the edges from `i` and from a later `j`, which are not neighbours, have a common point.
+/// Checks if the edges from `i` and from a later `j`, which are not neighbours, have a common point.
 fn edges_meet(points: &[Point], i: usize, j: usize) -> bool
     requires i_in { i < length points.now }
     requires j_in { j < length points.now }
@@ -30,7 +30,7 @@ fn edges_meet(points: &[Point], i: usize, j: usize) -> bool
     )
 }
 
-/// Whether the edges from `a` to `b` and from `b` to `c` have only `b` in common.
+/// Checks if the edges from `a` to `b` and from `b` to `c` have only `b` in common.
 fn meet_at_joint(a: Point, b: Point, c: Point) -> bool
     requires { ¬ (place_of a ≡ place_of b) }
     ensures { IsTrue result ↔ MeetOnlyAt (place_of b) (place_of a) (place_of b) (place_of b) (place_of c) }
@@ -40,7 +40,7 @@ fn meet_at_joint(a: Point, b: Point, c: Point) -> bool
     first.cross(second) != 0 || first.dot(second) >= 0
 }
 
-/// Whether the edges from `i` and from a later `j` have no common point except their joint.
+/// Checks if the edges from `i` and from a later `j` have no common point except their joint.
 fn meet_only_at_joint(points: &[Point], i: usize, j: usize) -> bool
     requires order { i < j }
     requires within { j < length points.now }
@@ -64,7 +64,7 @@ fn meet_only_at_joint(points: &[Point], i: usize, j: usize) -> bool
     }
 }
 
-/// Whether the edges with index at least `start`, below `end` and below `j` meet the edge from `j` only at
+/// Checks if the edges with index at least `start`, below `end` and below `j` meet the edge from `j` only at
 /// joints.
 fn earlier_meet_only_at_joint(points: &[Point], start: usize, end: usize, j: usize) -> bool
     requires within { j < length points.now }
@@ -80,8 +80,8 @@ fn earlier_meet_only_at_joint(points: &[Point], start: usize, end: usize, j: usi
     true
 }
 
-/// Whether the edges with index at least `start` and below `end` meet each later one only at joints. An edge
-/// outside their box meets none of them, so it is skipped.
+/// Checks if the edges with index at least `start` and below `end` meet each later one only at joints. An
+/// edge outside their box meets none of them, so it is skipped.
 fn group_meets_only_at_joints(points: &[Point], start: usize, end: usize) -> bool
     requires order { start < end }
     requires within { end ≤ length points.now }
@@ -113,7 +113,7 @@ fn group_end(count: usize, start: usize) -> usize
     }
 }
 
-/// Whether no two different edges have a common point except the joint of neighbours.
+/// Checks if no two different edges have a common point except the joint of neighbours.
 fn all_meet_only_at_joints(points: &[Point]) -> bool
     requires long { HaveLength (places points.now) }
     ensures { IsTrue result ↔ AllMeetOnlyAtJoints (places points.now) }
@@ -129,7 +129,7 @@ fn all_meet_only_at_joints(points: &[Point]) -> bool
     true
 }
 
-/// Whether each edge has two different ends.
+/// Checks if each edge has two different ends.
 fn have_length(points: &[Point]) -> bool
     ensures { IsTrue result ↔ HaveLength (places points.now) }
 {
@@ -141,7 +141,7 @@ fn have_length(points: &[Point]) -> bool
     true
 }
 
-/// Whether each edge has two different ends, and no two edges have a common point except the joint of
+/// Checks if each edge has two different ends, and no two edges have a common point except the joint of
 /// neighbours.
 pub(crate) fn meets_only_at_joints(points: &[Point]) -> bool
     ensures { IsTrue result ↔ (HaveLength (places points.now) × AllMeetOnlyAtJoints (places points.now)) }

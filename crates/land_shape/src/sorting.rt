@@ -30,7 +30,7 @@ fn sorted_edges(list: Vec<Edge>) -> Vec<Edge>
     sorted
 }
 
-/// Whether two lists contain each edge equally often.
+/// Checks if two lists contain each edge equally often.
 pub(crate) fn have_same_edges(list: Vec<Edge>, other: Vec<Edge>) -> bool
     ensures { IsTrue result ↔ HaveSameEdges (edges list.items) (edges other.items) }
 {

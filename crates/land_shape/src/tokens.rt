@@ -44,7 +44,7 @@ pub(crate) enum Token<'a> {
     Word(Word<'a>),
 }
 
-/// Whether a byte can be part of a word: not a parenthesis, comma or white space.
+/// Checks if a byte can be part of a word: not a parenthesis, comma or white space.
 fn is_word_byte(byte: u8) -> bool
     ensures { result ≡ is_word_byte byte }
 {

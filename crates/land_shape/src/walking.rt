@@ -11,7 +11,7 @@ use crate::edges::{Edge, lies_inside};
 use crate::plane::Point;
 use std::alloc::{AllocError, Global};
 
-/// Whether a point comes before another.
+/// Checks if a point comes before another.
 fn is_before(a: Point, b: Point) -> bool
     ensures { result ≡ is_before (place_of a) (place_of b) }
 {

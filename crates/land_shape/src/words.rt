@@ -4,7 +4,7 @@ ghost use Rattle.std.specs.Prelude.{◌≡◌};
 ghost use Rattle.std.specs.Str.{str_eq_ignore_ascii_case};
 ghost use Rattle.land_shape.specs.Grammar.{is_keyword, is_tag, is_tagged_keyword, is_empty_word};
 
-/// Whether two words are equal, ignoring ASCII case.
+/// Checks if two words are equal, ignoring ASCII case.
 fn equals_ignoring_case(word: &[u8], other: &[u8]) -> bool
     ensures { result ≡ str_eq_ignore_ascii_case word.now other.now }
 {
@@ -25,7 +25,7 @@ pub(crate) fn is_tag(word: &[u8]) -> bool
         || equals_ignoring_case(word, b"zm")
 }
 
-/// Whether a word is the keyword with a tag joined to it.
+/// Checks if a word is the keyword with a tag joined to it.
 pub(crate) fn is_tagged_keyword(word: &[u8]) -> bool
     ensures { result ≡ is_tagged_keyword word.now }
 {

@@ -110,7 +110,7 @@ fn has_dangling_mandate(register: &Register) -> bool
         .any(|mandate| is_dangling_mandate(register, *mandate))
 }
 
-/// Whether a mandate is not between two different single parties that exist.
+/// Checks if a mandate is not between two different single parties that exist.
 fn is_dangling_mandate(register: &Register, mandate: Mandate) -> bool
     ensures { result ≡ is_dangling_mandate register.now mandate }
 {
@@ -150,7 +150,7 @@ fn has_broken_group(alloc: Global, register: &Register) -> Result<bool, AllocErr
     Ok(false)
 }
 
-/// Whether a group has 2 to 64 members whose shares sum to 1.
+/// Checks if a group has 2 to 64 members whose shares sum to 1.
 fn is_whole_group(alloc: Global, register: &Register, group: u64) -> Result<bool, AllocError>
     ensures { IfOk result (λ it. it ≡ are_group_shares (shares_of register.now group)) }
 {
@@ -163,7 +163,7 @@ fn is_whole_group(alloc: Global, register: &Register, group: u64) -> Result<bool
     }
 }
 
-/// Whether these are 2 to 64 shares that sum to 1.
+/// Checks if these are 2 to 64 shares that sum to 1.
 fn are_group_shares(shares: &[Fraction]) -> bool
     ensures { result ≡ are_group_shares shares.now }
 {

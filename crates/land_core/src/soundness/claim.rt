@@ -56,7 +56,7 @@ impl Claim {
         }
     }
 
-    /// Whether it is a right of this type.
+    /// Checks if it is a right of this type.
     pub(crate) fn is_right_of(self, wanted: RightType) -> bool
         ensures { result ≡ is_claim_of wanted self }
     {
@@ -66,7 +66,7 @@ impl Claim {
         }
     }
 
-    /// Whether two claims clash in a unit: two rights of the same type and party, or two mortgages of the
+    /// Checks if two claims clash in a unit: two rights of the same type and party, or two mortgages of the
     /// same rank.
     pub(crate) fn do_clash(self, other: Claim) -> bool
         ensures { result ≡ do_claims_clash self other }

@@ -9,7 +9,7 @@ use crate::register::Register;
 use std::alloc::{AllocError, Global};
 use std::collections::BTreeSet;
 
-/// Whether a mutation's lodger or source does not exist, or its content is not within its limits.
+/// Checks if a mutation's lodger or source does not exist, or its content is not within its limits.
 pub(crate) fn has_dangling_mutation(register: &Register) -> bool
     ensures { result ≡ has_dangling_mutation register.now }
 {
@@ -27,7 +27,7 @@ fn is_dangling_mutation(register: &Register, mutation: &MutationRecord) -> bool
         && mutation.content.is_well_formed())
 }
 
-/// Whether a party has lodged two mutations with the same reference.
+/// Checks if a party has lodged two mutations with the same reference.
 pub(crate) fn has_reused_reference(alloc: Global, register: &Register) -> Result<bool, AllocError>
     ensures { IfOk result (λ it. it ≡ has_reused_reference register.now) }
 {

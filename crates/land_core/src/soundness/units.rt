@@ -93,7 +93,7 @@ fn has_clash(register: &Register, by_unit: &ByUnit) -> bool
         .any(|(number, _)| have_clash(by_unit.claims.under(*number)))
 }
 
-/// Whether any two claims clash.
+/// Checks if any two claims clash.
 fn have_clash(claims: &[Claim]) -> bool
     ensures { result ≡ have_clash claims.now }
 {
@@ -107,7 +107,7 @@ fn have_clash(claims: &[Claim]) -> bool
     false
 }
 
-/// Whether a claim clashes with any of the others.
+/// Checks if a claim clashes with any of the others.
 fn clashes(claim: Claim, others: &[Claim]) -> bool
     ensures { result ≡ list_any (do_claims_clash claim) others.now }
 {
@@ -145,7 +145,7 @@ fn has_unit_without_whole_shares(
     Ok(false)
 }
 
-/// Whether the shares of each type of right that occurs sum to 1.
+/// Checks if the shares of each type of right that occurs sum to 1.
 fn are_whole(alloc: Global, claims: &[Claim]) -> Result<bool, AllocError>
     ensures { IfOk result (λ it. it ≡ are_claims_whole claims.now) }
 {
