@@ -55,7 +55,7 @@ pub(crate) fn plan_of(
     let rrrs = Sequence::of_one(alloc, (number, entry))?;
     let mut made = Sequence::of_one(alloc, source)?;
     made.push(number)?;
-    let mut change = Change::nothing(alloc, source + 2);
+    let mut change = Change::empty(alloc, source + 2);
     change.put.sources = sources;
     change.put.rrrs = rrrs;
     Ok((

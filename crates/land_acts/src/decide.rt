@@ -81,11 +81,11 @@ pub(crate) fn approval_plan(
 {
     let Some(mutation) = slice.mutations.get(it.mutation) else {
         return Ok((
-            Change::nothing(alloc, slice.next),
+            Change::empty(alloc, slice.next),
             done_on(alloc, it.mutation, stamp),
         ));
     };
-    let made = by_content::made(alloc, slice, &mutation.content)?;
+    let made = by_content::created_numbers(alloc, slice, &mutation.content)?;
     let mutations = decided_mutation(alloc, it.mutation, mutation, MutationState::Approved)?;
     let mut change = by_content::change(alloc, slice, mutation.source, &mutation.content)?;
     change.put.mutations = mutations;
@@ -110,12 +110,12 @@ pub(crate) fn refusal_plan(
 {
     let Some(mutation) = slice.mutations.get(it.mutation) else {
         return Ok((
-            Change::nothing(alloc, slice.next),
+            Change::empty(alloc, slice.next),
             done_on(alloc, it.mutation, stamp),
         ));
     };
     let mutations = decided_mutation(alloc, it.mutation, mutation, MutationState::Refused)?;
-    let mut change = Change::nothing(alloc, slice.next);
+    let mut change = Change::empty(alloc, slice.next);
     change.put.mutations = mutations;
     Ok((change, done_on(alloc, it.mutation, stamp)))
 }

@@ -50,7 +50,7 @@ pub(crate) fn plan_of(
     let parties = Sequence::of_one(alloc, (number, party))?;
     let roles = Sequence::of_one(alloc, citizen)?;
     let made = Sequence::of_one(alloc, number)?;
-    let mut change = Change::nothing(alloc, number + 1);
+    let mut change = Change::empty(alloc, number + 1);
     change.put.parties = parties;
     change.put.roles = roles;
     Ok((

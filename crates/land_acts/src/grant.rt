@@ -36,7 +36,7 @@ pub(crate) fn plan_of(
     ensures { IfOk result (IsPlanOf (grant_change slice.now it.now) (grant_done it.now stamp)) }
 {
     let roles = Sequence::of_one(alloc, *it)?;
-    let mut change = Change::nothing(alloc, slice.next);
+    let mut change = Change::empty(alloc, slice.next);
     change.put.roles = roles;
     Ok((change, done_on(alloc, it.party, stamp)))
 }

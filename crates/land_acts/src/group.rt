@@ -65,7 +65,7 @@ pub(crate) fn plan_of(
     let members = members_of_list(alloc, it.members.as_slice())?;
     let members = Sequence::of_one(alloc, (number, members))?;
     let made = Sequence::of_one(alloc, number)?;
-    let mut change = Change::nothing(alloc, number + 1);
+    let mut change = Change::empty(alloc, number + 1);
     change.put.parties = parties;
     change.put.members = members;
     Ok((

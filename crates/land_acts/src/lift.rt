@@ -55,7 +55,7 @@ pub(crate) fn plan_of(
     ensures { IfOk result (IsPlanOf (lift_change slice.now it.now) (lift_done it.now stamp)) }
 {
     let rrrs = Sequence::of_one(alloc, it.rrr)?;
-    let mut change = Change::nothing(alloc, slice.next);
+    let mut change = Change::empty(alloc, slice.next);
     change.ended.rrrs = rrrs;
     Ok((change, done_on(alloc, it.rrr, stamp)))
 }

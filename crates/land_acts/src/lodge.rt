@@ -141,7 +141,7 @@ pub(crate) fn plan_of(
     let mutation = new_mutation(alloc, caller, it, source, stamp)?;
     let mutations = Sequence::of_one(alloc, (number, mutation))?;
     let made = two_numbers(alloc, source, number)?;
-    let mut change = Change::nothing(alloc, source + 2);
+    let mut change = Change::empty(alloc, source + 2);
     change.put.sources = sources;
     change.put.mutations = mutations;
     Ok((

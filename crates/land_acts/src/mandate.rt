@@ -57,7 +57,7 @@ pub(crate) fn plan_of(
     ensures { IfOk result (IsPlanOf (mandate_change slice.now caller it.now) (mandate_done it.now stamp)) }
 {
     let mandates = Sequence::of_one(alloc, mandate_of_caller(caller, it))?;
-    let mut change = Change::nothing(alloc, slice.next);
+    let mut change = Change::empty(alloc, slice.next);
     change.put.mandates = mandates;
     Ok((change, done_on(alloc, it.agent, stamp)))
 }

@@ -88,7 +88,7 @@ pub(crate) fn plan_of(
     let parcels = numbered_parcels(alloc, it.parcels.as_slice(), unit, source, source + 2)?;
     let rrrs = numbered_rights(alloc, it.rights.as_slice(), unit, source, first_right)?;
     let made = numbers_from(alloc, source, count)?;
-    let mut change = Change::nothing(alloc, source + count);
+    let mut change = Change::empty(alloc, source + count);
     change.put.sources = sources;
     change.put.units = units;
     change.put.parcels = parcels;

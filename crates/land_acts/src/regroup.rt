@@ -52,7 +52,7 @@ pub(crate) fn plan_of(
 {
     let members = members_of_list(alloc, it.members.as_slice())?;
     let members = Sequence::of_one(alloc, (it.group, members))?;
-    let mut change = Change::nothing(alloc, slice.next);
+    let mut change = Change::empty(alloc, slice.next);
     change.put.members = members;
     Ok((change, done_on(alloc, it.group, stamp)))
 }

@@ -34,7 +34,7 @@ pub(crate) fn plan_of(
     ensures { IfOk result (IsPlanOf (withdraw_change slice.now it.now) (withdraw_done it.now stamp)) }
 {
     let mandates = Sequence::of_one(alloc, *it)?;
-    let mut change = Change::nothing(alloc, slice.next);
+    let mut change = Change::empty(alloc, slice.next);
     change.ended.mandates = mandates;
     Ok((change, done_on(alloc, it.agent, stamp)))
 }

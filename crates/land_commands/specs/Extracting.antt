@@ -15,7 +15,7 @@ use Rattle.land_keep.specs.Timeline.{Timeline, register_at}
 use Rattle.land_sheet.specs.Extracts.{extract_of, list_reply}
 use Rattle.land_sheet.specs.Extracts.Writing.{IsExtracted, store_result}
 use Rattle.land_sheet.specs.declared.extracts.fault.ExtractFault.{ExtractFault}
-use Rattle.land_tables.specs.TablesState.{IsHonest, TablesState, held}
+use Rattle.land_tables.specs.TablesState.{IsHonest, TablesState, held_timeline}
 use Rattle.sqlite.specs.State.{State}
 use Rattle.sqlite.specs.Store.{Ghosts}
 
@@ -38,9 +38,9 @@ pub record ExtractsTables {S : Type 0} (g : Ghosts S) (from : TablesState S) (wa
     (to : TablesState S)
     (old new : Option (List ℕ)) (r : Result ℕ ExtractFault) : Type 0 where
   pub was : IsHonest g to → IsHonest g from
-  pub same : IsHonestAndOpen (IsHonest g to) to.is_closed → held g to ≡ held g from
+  pub same : IsHonestAndOpen (IsHonest g to) to.is_closed → held_timeline g to ≡ held_timeline g from
   pub closes : Closes from.is_closed to.is_closed (store_result r)
-  pub extracts : IsHonest g to → ExtractsFrom (held g from) wanted old new r
+  pub extracts : IsHonest g to → ExtractsFrom (held_timeline g from) wanted old new r
 
 -- A register is opened in a file, and the extract is written from it.
 pub record ExtractsOpened {S : Type 0} (g : Ghosts S) (holds : State

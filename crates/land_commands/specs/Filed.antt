@@ -18,7 +18,7 @@ use Rattle.land_pool.specs.Interleaving.{ReportsClosing, ServesAtOnce}
 use Rattle.land_pool.specs.declared.pool.PoolFault.{PoolFault}
 use Rattle.land_tables.specs.Adopting.{IsAdopted, IsRefused}
 use Rattle.land_tables.specs.Calls.{StaysOpenAndSame}
-use Rattle.land_tables.specs.TablesState.{IsCreated, IsHonest, IsOldOrCommitted, TablesState, held}
+use Rattle.land_tables.specs.TablesState.{IsCreated, IsHonest, IsOldOrCommitted, TablesState, held_timeline}
 use Rattle.land_tables.specs.Registers.{version_2}
 use Rattle.land_tables.specs.Standing.{HoldsTimeline}
 use Rattle.land_tables.specs.declared.fault.AdoptFault.{AdoptFault}
@@ -123,8 +123,8 @@ pub record ServesTables {S C T : Type 0} (g : Ghosts S) (reads : C → ℤ → C
   pub was : IsHonest g to → IsHonest g from
   pub served : IsHonest g to
       → ServesConnections reads wanted
-      (record { closed = from.is_closed; timeline = held g from; clock = clock })
-      (IsStateOf (IsHonest g to) to.is_closed (held g to) clock_after) coming after r
+      (record { closed = from.is_closed; timeline = held_timeline g from; clock = clock })
+      (IsStateOf (IsHonest g to) to.is_closed (held_timeline g to) clock_after) coming after r
 
 -- A service: the clock, the number of connections to serve, and the pending connections and the clock before
 -- and after.
@@ -151,8 +151,9 @@ pub record ServesTablesAtOnce {S C T : Type 0} (g : Ghosts S) (reads : C → ℤ
   pub was : IsHonest g to → IsHonest g from
   pub served : IsHonest g to
       → ServesAtOnce reads wanted
-      (record { closed = from.is_closed; timeline = held g from; clock = clock })
-      (IsStateOf (IsHonest g to) to.is_closed (held g to) clock_after) coming after endings.old endings.new r
+      (record { closed = from.is_closed; timeline = held_timeline g from; clock = clock })
+      (IsStateOf (IsHonest g to) to.is_closed (held_timeline g to) clock_after) coming after endings.old
+      endings.new r
 
 -- A register is opened in a file, and its tables are served.
 pub record ServesOpened {S T F : Type 0} (g : Ghosts S) (holds : State → Type 0)

@@ -13,7 +13,7 @@ use Rattle.land_core.proofs.LooseMandates.{no_mandates_are_tight}
 use Rattle.land_core.proofs.SoundRegisters.{are_used_back, none_in_empty, refers_back, loose_from, unused_from, loose_members_from, unbroken_from, single_put, apart_itself, administrator_at}
 use Rattle.land_core.specs.Entries.{has}
 use Rattle.land_core.specs.Grants.{grant_cmp, grant_of}
-use Rattle.land_core.specs.Register.{nothing, new_register, has_single_party, is_single}
+use Rattle.land_core.specs.Register.{empty_register, new_register, has_single_party, is_single}
 use Rattle.land_core.specs.Soundness.{IsSound, is_used, is_rank_out_of_range, is_dangling_mutation, shares_reference_with_later, clashes_with_later}
 use Rattle.land_core.specs.Units.{has_whole_shares, has_parcel, has_owner, parcel_count, rrr_count, rank_of}
 use Rattle.land_core.specs.declared.kind.PartyKind.TheVariants.{NonNaturalPerson}
@@ -30,15 +30,15 @@ unfolding office
 new_is_sound Memory = refl
 new_is_sound Reference =
     let parties = unused_from new_register new_register.parties (λ n p is.
-    elim (eq_by_cmp nat_cmp n 1) as (λ b. eq_by_cmp nat_cmp n 1 ≡ b → cond b (Some office) (map.get nothing.parties n) ≡ Some p → is_used new_register n ≡ true) [
+    elim (eq_by_cmp nat_cmp n 1) as (λ b. eq_by_cmp nat_cmp n 1 ≡ b → cond b (Some office) (map.get empty_register.parties n) ≡ Some p → is_used new_register n ≡ true) [
       | true ↦ λ at e. subst (λ (k : ℕ). is_used new_register k ≡ true) (sym (nat_cmp-IsAntisymmetric n 1 (is_equal _ at))) refl
       | false ↦ λ apart e. absurd (none_is_not_some (sym (map.get-empty nat_cmp n) ∙ e))
-    ] refl (sym (map.get-insert nat_cmp_total nothing.parties 1 office n) ∙ is)) in
+    ] refl (sym (map.get-insert nat_cmp_total empty_register.parties 1 office n) ∙ is)) in
     let loose = loose_from new_register (λ g is.
-    elim (eq_by_cmp grant_cmp g (grant_of 1 StateAdministrator)) as (λ b. eq_by_cmp grant_cmp g (grant_of 1 StateAdministrator) ≡ b → cond b (Some tt) (map.get nothing.roles g) ≡ Some tt → has_single_party new_register g.party ≡ true) [
-      | true ↦ λ at e. subst (λ (n : ℕ). has_single_party new_register n ≡ true) (sym (ap (λ (x : Grant). x.party) (exact_grants g (grant_of 1 StateAdministrator) (is_equal _ at)))) (single_put nothing new_register 1 office refl refl 1 (λ apart. absurd (apart_itself 1 apart)))
+    elim (eq_by_cmp grant_cmp g (grant_of 1 StateAdministrator)) as (λ b. eq_by_cmp grant_cmp g (grant_of 1 StateAdministrator) ≡ b → cond b (Some tt) (map.get empty_register.roles g) ≡ Some tt → has_single_party new_register g.party ≡ true) [
+      | true ↦ λ at e. subst (λ (n : ℕ). has_single_party new_register n ≡ true) (sym (ap (λ (x : Grant). x.party) (exact_grants g (grant_of 1 StateAdministrator) (is_equal _ at)))) (single_put empty_register new_register 1 office refl refl 1 (λ apart. absurd (apart_itself 1 apart)))
       | false ↦ λ apart e. absurd (none_is_not_some (sym (map.get-empty grant_cmp g) ∙ e))
-    ] refl (sym (map.get-insert grants_total nothing.roles (grant_of 1 StateAdministrator) tt g) ∙ is)) in
+    ] refl (sym (map.get-insert grants_total empty_register.roles (grant_of 1 StateAdministrator) tt g) ∙ is)) in
     let members = loose_members_from new_register (λ group members is. absurd (none_is_not_some (sym (map.get-empty nat_cmp group) ∙ is))) in
     let unused = are_used_back new_register (record {
       parties = parties;
@@ -66,11 +66,11 @@ new_is_sound Reused = none_in_empty (shares_reference_with_later new_register)
 new_is_sound Rank = none_in_empty (λ n e. is_rank_out_of_range new_register (rank_of e.class))
 new_is_sound Group =
     unbroken_from new_register (λ n p is group. absurd (
-    elim (eq_by_cmp nat_cmp n 1) as (λ b. cond b (Some office) (map.get nothing.parties n) ≡ Some p → ⊥) [
+    elim (eq_by_cmp nat_cmp n 1) as (λ b. cond b (Some office) (map.get empty_register.parties n) ≡ Some p → ⊥) [
       | true ↦ λ e. false≢true (sym group ∙ ap (λ (o : Option PartyRecord). option_map_or (λ (q : PartyRecord). is_single q.kind) o true) (sym e))
       | false ↦ λ e. none_is_not_some (sym (map.get-empty nat_cmp n) ∙ e)
-    ] (sym (map.get-insert nat_cmp_total nothing.parties 1 office n) ∙ is)))
+    ] (sym (map.get-insert nat_cmp_total empty_register.parties 1 office n) ∙ is)))
 new_is_sound Administrator =
     ap not (administrator_at new_register (grant_of 1 StateAdministrator)
-    (map.get-insert grants_total nothing.roles (grant_of 1 StateAdministrator) tt (grant_of 1 StateAdministrator) ∙ ap (λ b. cond b (Some tt) (map.get nothing.roles (grant_of 1 StateAdministrator))) (ap is_eq (tied_itself grants_total (grant_of 1 StateAdministrator))))
+    (map.get-insert grants_total empty_register.roles (grant_of 1 StateAdministrator) tt (grant_of 1 StateAdministrator) ∙ ap (λ b. cond b (Some tt) (map.get empty_register.roles (grant_of 1 StateAdministrator))) (ap is_eq (tied_itself grants_total (grant_of 1 StateAdministrator))))
     refl)

@@ -25,8 +25,8 @@ use Rattle.land_core.specs.declared.unit.Unit.{Unit as UnitShown}
 use Rattle.land_fraction.specs.Ratio.{Ratio}
 
 -- the empty register, the state before the first commit
-abbrev pub nothing : Register
-nothing = record {
+abbrev pub empty_register : Register
+empty_register = record {
   parties = map.empty;
   roles = map.empty;
   members = map.empty;

@@ -73,7 +73,7 @@ pub struct Change {
 
 impl Change {
     /// Returns the empty change. Allocates nothing.
-    pub fn nothing(alloc: Global, next: u64) -> Change
+    pub fn empty(alloc: Global, next: u64) -> Change
         ensures { result ≡ no_change next }
     {
         Change {

@@ -33,7 +33,7 @@ impl Duplicate for Member {
 }
 
 /// Returns the members of a group as a list, ordered by number.
-pub fn listed(alloc: Global, members: &Members) -> Result<Sequence<Member>, AllocError>
+pub fn members_in(alloc: Global, members: &Members) -> Result<Sequence<Member>, AllocError>
     ensures { IfOk result (λ it. it ≡ members_in members.now) }
 {
     let mut listed = Sequence::new(alloc);

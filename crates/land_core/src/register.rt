@@ -1,7 +1,8 @@
 //! The register: all current records.
 ghost use Rattle.std.specs.Prelude.{◌≡◌, IfOk, OnOk, OnErr};
 ghost use Rattle.land_core.specs.Changes.{after};
-ghost use Rattle.land_core.specs.Register.{new_register, nothing, stands, object_at, party_at, unit_at};
+ghost use Rattle.land_core.specs.Register.{new_register, empty_register, stands};
+ghost use Rattle.land_core.specs.Register.{object_at, party_at, unit_at};
 ghost use Rattle.land_core.specs.Register.{parcel_at, rrr_at, source_at, mutation_at, holds};
 ghost use Rattle.land_core.specs.Register.{has_single_party, has_group, is_member, members_of, roles_of};
 ghost use Rattle.land_core.specs.Soundness.{IsSound};
@@ -10,7 +11,7 @@ use crate::change::Change;
 use crate::duplicate::Duplicate;
 use crate::kind::{Kind, PartyKind};
 use crate::mandates::Mandates;
-use crate::member::{Member, Members, listed};
+use crate::member::{Member, Members, members_in};
 use crate::mutation::{Mutation, MutationRecord};
 use crate::object::Object;
 use crate::parcel::{Parcel, ParcelRecord};
@@ -57,7 +58,7 @@ impl Register {
         ensures new { IfOk result (λ it. it ≡ new_register) }
         ensures sound { IfOk result (λ it. IsSound it) }
     {
-        let mut register = Register::nothing(alloc);
+        let mut register = Register::empty(alloc);
         let office = PartyRecord {
             kind: PartyKind::NonNaturalPerson,
             name: Text::new(String::from_str(alloc, "Land Office")?),
@@ -72,8 +73,8 @@ impl Register {
     }
 
     /// Returns the empty register, the state before the first commit. Allocates nothing.
-    pub fn nothing(alloc: Global) -> Register
-        ensures { result ≡ nothing }
+    pub fn empty(alloc: Global) -> Register
+        ensures { result ≡ empty_register }
     {
         Register {
             parties: Records::new(alloc),
@@ -285,7 +286,7 @@ impl Register {
         ensures { IfOk result (λ it. it ≡ members_of self.now group) }
     {
         match self.members.get(group) {
-            Some(members) => listed(alloc, members),
+            Some(members) => members_in(alloc, members),
             None => Ok(Sequence::new(alloc)),
         }
     }

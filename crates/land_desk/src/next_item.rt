@@ -15,7 +15,7 @@ ghost use Rattle.land_wire.specs.Framing.Items.{IsRequestIn};
 ghost use Rattle.land_wire.specs.Framing.Reads.{StaysWithin, input_limit};
 ghost use Rattle.land_wire.specs.Framing.Stream.{field_room};
 ghost use Rattle.land_wire.specs.Laws.{IsExplicitMoment};
-ghost use Rattle.land_wire.specs.Reading.{reading};
+ghost use Rattle.land_wire.specs.Reading.{request_reading};
 ghost use Rattle.land_wire.specs.Routes.Table.{RoutesCorrectly};
 ghost use Rattle.land_wire_json.specs.Bodies.WireFaults.{Returns};
 
@@ -146,7 +146,7 @@ fn parse_first(
     requires routed { RoutesCorrectly router.now }
     requires at_front { IsRequestIn buffer.now headers.now spans.now length }
     ensures reads { (h : RequestHead) → IsRequestAt buffer.now headers.now spans.now h
-        → Returns (λ asked. asked) result (reading h.method h.target (field_map (fields_of h))
+        → Returns (λ asked. asked) result (request_reading h.method h.target (field_map (fields_of h))
         (take length (drop spans.now.len buffer.now))) }
     ensures well_formed { IfOk result (λ asked. is_well_formed_request asked ≡ true) }
     ensures moment { IfOk result (λ asked. IsExplicitMoment (at_of asked.ask)) }

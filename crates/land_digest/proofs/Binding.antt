@@ -31,7 +31,7 @@ use Rattle.land_tables_history.specs.Intervals.{is_same_naming, is_same_number}
 use Rattle.land_tables_history.specs.Open.{never}
 use Rattle.land_tables_history.specs.Pairs.{grants_by_pairs, mandates_by_pairs, members_by_pairs}
 use Rattle.land_tables_history.specs.Pairs.{namings_by_pairs, numbers_by_pairs}
-use Rattle.land_tables_history.specs.Standing.{standing}
+use Rattle.land_tables_history.specs.Standing.{current_values}
 use Rattle.land_tables_history.specs.declared.history.History.{History}
 use Rattle.land_tables_history.specs.declared.moment.Moment.{Moment}
 use Rattle.land_tables_history.specs.declared.version.Version.{Version}
@@ -122,7 +122,7 @@ module _ (ones others : List Moment) (h k : History) (s : ℤ)
 -- the versions up to a stamp are the same, and those that are current at each moment up to it
 record IsSame {X : Type 0} (s : ℤ) (vs ws : List (Version X)) : Type 0 where
   known : IsPermutation (versions_upto s vs) (versions_upto s ws)
-  current : (t : ℤ) → t ≤ℤ s → IsPermutation (standing t vs) (standing t ws)
+  current : (t : ℤ) → t ≤ℤ s → IsPermutation (current_values t vs) (current_values t ws)
 
 module _ {X : Type 0} (same : X → X → Bool) (row : X → Row) (compares : ComparesKeys same row) (n : ℕ)
     (numbered : (x : X) → (row x).table ≡ n) (Passes : X → Type 0) (determined : Determines Passes row)

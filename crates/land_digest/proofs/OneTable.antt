@@ -12,7 +12,7 @@ use Rattle.land_digest.proofs.NoRepeats.{HasNoRepeat, no_repeat_filter, same_ele
 use Rattle.land_digest.specs.Known.{known_end, known_version, versions_upto}
 use Rattle.land_tables_history.specs.Intervals.{overlap}
 use Rattle.land_tables_history.specs.Open.{never}
-use Rattle.land_tables_history.specs.Standing.{standing, stands}
+use Rattle.land_tables_history.specs.Standing.{current_values, is_current}
 use Rattle.land_tables_history.specs.declared.version.Version.{Version}
 
 after_it : (same : Bool) (a b c d : ℤ) → same ≡ true → (same && int_lt a d && int_lt c b) ≡ false → a <ℤ d
@@ -210,7 +210,7 @@ module _ {X : Type 0} (same : X → X → Bool) (key : X → ℕ × ℕ)
 
     -- the versions that are current up to the moment are those that are known at it
     module _ (t : ℤ) (by : t ≤ℤ s) where
-      same_stands : (v : Version X) → v.since ≤ℤ s → stands t (known_version s v) ≡ stands t v
+      same_stands : (v : Version X) → v.since ≤ℤ s → is_current t (known_version s v) ≡ is_current t v
       same_stands v started = go (int_le v.until s) refl
         where
           later : (a : ℤ) → s <ℤ a → int_lt t a ≡ true
@@ -222,36 +222,36 @@ module _ {X : Type 0} (same : X → X → Bool) (key : X → ℕ × ℕ)
           go false is =
               ap (λ b. int_le v.since t && b) (later never early ∙ sym (later v.until (lt_from v.until s is)))
 
-      not_yet : (v : Version X) → s <ℤ v.since → stands t v ≡ false
+      not_yet : (v : Version X) → s <ℤ v.since → is_current t v ≡ false
       not_yet v h = let g : int_le v.since t ≡ false = le_false v.since t (omega (arith, ints, by, h)) in
           ap (λ b. b && int_lt t v.until) g
 
-      one : (v : Version X) (vs : List (Version X)) → standing t (v ∷ vs)
-          ≡ cond (stands t v) (v.what ∷ standing t vs) (standing t vs)
+      one : (v : Version X) (vs : List (Version X)) → current_values t (v ∷ vs)
+          ≡ cond (is_current t v) (v.what ∷ current_values t vs) (current_values t vs)
       one v vs =
-          elim (stands t v) as (λ b. map_list (λ v. v.what)
-          (cond b (v ∷ filter (stands t) vs) (filter (stands t) vs))
-          ≡ cond b (v.what ∷ standing t vs) (standing t vs)) [
+          elim (is_current t v) as (λ b. map_list (λ v. v.what)
+          (cond b (v ∷ filter (is_current t) vs) (filter (is_current t) vs))
+          ≡ cond b (v.what ∷ current_values t vs) (current_values t vs)) [
             | true ↦ refl
             | false ↦ refl
           ]
 
-      standing_known : (vs : List (Version X)) → standing t (versions_upto s vs) ≡ standing t vs
+      standing_known : (vs : List (Version X)) → current_values t (versions_upto s vs) ≡ current_values t vs
       standing_known [] = refl
       standing_known (v ∷ vs) = go (int_le v.since s) refl (standing_known vs)
         where
-          go : (b : Bool) → int_le v.since s ≡ b → standing t (versions_upto s vs) ≡ standing t vs
-              → standing t
+          go : (b : Bool) → int_le v.since s ≡ b → current_values t (versions_upto s vs) ≡ current_values t vs
+              → current_values t
               (map_list (known_version s)
               (cond b (v ∷ filter (λ v. int_le v.since s) vs) (filter (λ v. int_le v.since s) vs)))
-              ≡ standing t (v ∷ vs)
+              ≡ current_values t (v ∷ vs)
           go true is rest =
               one (known_version s v) (versions_upto s vs)
               ∙ ap₂ (λ b l. cond b (v.what ∷ l) l) (same_stands v (le_from v.since s is)) rest
               ∙ sym (one v vs)
           go false is rest = rest
               ∙ sym (one v vs
-              ∙ ap (λ b. cond b (v.what ∷ standing t vs) (standing t vs)) (not_yet v (lt_from v.since s is)))
+              ∙ ap (λ b. cond b (v.what ∷ current_values t vs) (current_values t vs)) (not_yet v (lt_from v.since s is)))
 
     module _ (vs ws : List (Version X)) (disjoint_v : AreDisjoint same vs) (disjoint_w : AreDisjoint same ws)
         (to : Includes key s vs ws) (from : Includes key s ws vs) where
@@ -261,18 +261,18 @@ module _ {X : Type 0} (same : X → X → Bool) (key : X → ℕ × ℕ)
           (no_repeat_upto ws disjoint_w)
           (upto_within vs ws disjoint_v disjoint_w to from) (upto_within ws vs disjoint_w disjoint_v from to)
 
-      pub same_standing : (t : ℤ) → t ≤ℤ s → IsPermutation (standing t vs) (standing t ws)
+      pub same_standing : (t : ℤ) → t ≤ℤ s → IsPermutation (current_values t vs) (current_values t ws)
       same_standing t by =
-          subst (λ l. IsPermutation l (standing t ws)) (standing_known t by vs)
-          (subst (λ l. IsPermutation (standing t (versions_upto s vs)) l) (standing_known t by ws)
-          (IsPermutation-map (λ (v : Version X). v.what) (filter (stands t) (versions_upto s vs))
-          (filter (stands t) (versions_upto s ws))
-          (same_elements (filter (stands t) (versions_upto s vs)) (filter (stands t) (versions_upto s ws))
-          (no_repeat_filter (stands t) (versions_upto s vs) (no_repeat_upto vs disjoint_v))
-          (no_repeat_filter (stands t) (versions_upto s ws) (no_repeat_upto ws disjoint_w))
-          (λ z i. let p = from_filter (stands t) z (versions_upto s vs) i in
-          in_filter (stands t) z (versions_upto s ws)
+          subst (λ l. IsPermutation l (current_values t ws)) (standing_known t by vs)
+          (subst (λ l. IsPermutation (current_values t (versions_upto s vs)) l) (standing_known t by ws)
+          (IsPermutation-map (λ (v : Version X). v.what) (filter (is_current t) (versions_upto s vs))
+          (filter (is_current t) (versions_upto s ws))
+          (same_elements (filter (is_current t) (versions_upto s vs)) (filter (is_current t) (versions_upto s ws))
+          (no_repeat_filter (is_current t) (versions_upto s vs) (no_repeat_upto vs disjoint_v))
+          (no_repeat_filter (is_current t) (versions_upto s ws) (no_repeat_upto ws disjoint_w))
+          (λ z i. let p = from_filter (is_current t) z (versions_upto s vs) i in
+          in_filter (is_current t) z (versions_upto s ws)
           (upto_within vs ws disjoint_v disjoint_w to from z p.0) p.1)
-          (λ z i. let p = from_filter (stands t) z (versions_upto s ws) i in
-          in_filter (stands t) z (versions_upto s vs)
+          (λ z i. let p = from_filter (is_current t) z (versions_upto s ws) i in
+          in_filter (is_current t) z (versions_upto s vs)
           (upto_within ws vs disjoint_w disjoint_v from to z p.0) p.1))))

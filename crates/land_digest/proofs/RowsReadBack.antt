@@ -32,7 +32,7 @@ use Rattle.land_shape.specs.Faults.{Denotes}
 use Rattle.land_shape.specs.Laws.{PrintedLaw}
 use Rattle.land_shape.specs.Outline.{IsOutline}
 use Rattle.land_shape.specs.Place.{Place}
-use Rattle.land_shape.specs.Printed.{printed}
+use Rattle.land_shape.specs.Printed.{polygon_text}
 use Rattle.land_tables_history.specs.declared.group_member.GroupMember.{GroupMember}
 use Rattle.land_tables_history.specs.declared.naming.Naming.{Naming}
 use Rattle.land_wire_json.specs.Texts.Laws.{TextsDetermineContents}
@@ -223,7 +223,7 @@ read_parcel row outline = (
   },
 )
 
-outlines_determined : PrintedLaw → (a b : List Place) → IsOutline a → IsOutline b → printed a ≡ printed b
+outlines_determined : PrintedLaw → (a b : List Place) → IsOutline a → IsOutline b → polygon_text a ≡ polygon_text b
     → a ≡ b
 outlines_determined law a b outline_a outline_b e =
     law.alone b a outline_b (subst (λ text. Denotes text a) e (law.stands a outline_a))

@@ -15,7 +15,7 @@ use Rattle.land_core.specs.declared.unit.UnitRecord.{UnitRecord}
 use Rattle.land_digest.specs.Fields.{Absent, Field, Number, Text, number}
 use Rattle.land_digest.specs.Versions.{Row}
 use Rattle.land_fraction.specs.Ratio.{Ratio}
-use Rattle.land_shape.specs.Printed.{printed}
+use Rattle.land_shape.specs.Printed.{polygon_text}
 use Rattle.land_tables_history.specs.declared.group_member.GroupMember.{GroupMember}
 use Rattle.land_tables_history.specs.declared.naming.Naming.{Naming}
 use Rattle.land_wire_json.specs.Texts.Mutations.{content_text}
@@ -37,7 +37,7 @@ unit_values unit = Text unit.name ∷ number (if unit.checked then 1 else 0) ∷
 -- unit, label, outline, source
 abbrev pub parcel_values : ParcelRecord → List Field
 parcel_values parcel =
-    number parcel.unit ∷ Text parcel.label ∷ Text (printed parcel.outline) ∷ number parcel.source ∷ []
+    number parcel.unit ∷ Text parcel.label ∷ Text (polygon_text parcel.outline) ∷ number parcel.source ∷ []
 
 -- num, den, amount, currency, place, words
 abbrev pub class_values : Class → List Field

@@ -4,7 +4,7 @@ use Rattle.std.specs.Prelude.{ℤ, ◌<ℤ◌, ◌≤ℤ◌, int_le, fold, unwra
 use Rattle.std.specs.Option.{option_map}
 use Rattle.std.proofs.lemmas.Int.{ints}
 use Rattle.land_core.specs.Changes.{after}
-use Rattle.land_core.specs.Register.{nothing}
+use Rattle.land_core.specs.Register.{empty_register}
 use Rattle.land_keep.specs.Laws.{PastStays, ChangeApplies}
 use Rattle.land_keep.specs.Timeline.{Timeline, register_at, version_at, last_register}
 use Rattle.land_keep.specs.declared.timeline.Version.{Version}
@@ -20,7 +20,7 @@ not_before t stamp less = grind (arith, ints)
 
 before_stays : (tl : Timeline) (w : Version) (t : ℤ) → t <ℤ w.stamp → register_at (tl ++ w ∷ []) t ≡ register_at tl t
 before_stays tl w t less =
-    ap (λ (o : Option Version). unwrap_or (option_map (λ (v : Version). v.register) o) nothing)
+    ap (λ (o : Option Version). unwrap_or (option_map (λ (v : Version). v.register) o) empty_register)
     (found_last t None tl w ∙ ap (λ b. cond b (Some w) (version_at tl t)) (not_before t w.stamp less))
 
 pub past_stays : PastStays
@@ -31,7 +31,7 @@ not_after t stamp less = grind (arith, ints)
 
 from_stamp : (tl : Timeline) (w : Version) (t : ℤ) → w.stamp ≤ℤ t → register_at (tl ++ w ∷ []) t ≡ w.register
 from_stamp tl w t less =
-    ap (λ (o : Option Version). unwrap_or (option_map (λ (v : Version). v.register) o) nothing)
+    ap (λ (o : Option Version). unwrap_or (option_map (λ (v : Version). v.register) o) empty_register)
     (found_last t None tl w ∙ ap (λ b. cond b (Some w) (version_at tl t)) (not_after t w.stamp less))
 
 pub change_stands : ChangeApplies

@@ -7,7 +7,7 @@ use Rattle.std.proofs.lemmas.Int.{ints}
 use Rattle.land_acts.proofs.Accepted.{accepted_sound}
 use Rattle.land_core.specs.Changes.{after}
 use Rattle.land_core.specs.Numbers.{IsMoment, last_moment}
-use Rattle.land_core.specs.Register.{nothing}
+use Rattle.land_core.specs.Register.{empty_register}
 use Rattle.land_core.specs.Soundness.{IsSound}
 use Rattle.land_core.specs.declared.register.Register.{Register}
 use Rattle.land_keep.specs.Laws.{WritingKeepsSound}
@@ -68,7 +68,7 @@ last_is_moment (v ∷ vs) sound = (all_last (λ it. IsMoment it.stamp) v vs soun
 
 -- the register of a version that was found, or that of none
 abbrev registered : Option Version → Register
-registered found = unwrap_or (option_map (λ (v : Version). v.register) found) nothing
+registered found = unwrap_or (option_map (λ (v : Version). v.register) found) empty_register
 
 found_sound : (t : ℤ) (vs : Timeline) (found : Option Version) → IsSoundOrNothing (registered found) → AllByRecursion (λ v. IsSound v.register) vs
     → IsSoundOrNothing (registered (fold (λ found v. if int_le v.stamp t then Some v else found) found vs))

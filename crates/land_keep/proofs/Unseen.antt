@@ -11,7 +11,7 @@ use Rattle.std.specs.Ordering.{nat_cmp}
 use Rattle.std.proofs.lemmas.Bool.{false≢true}
 use Rattle.land_core.proofs.Reflection.{each_there}
 use Rattle.land_core.specs.Entries.{has}
-use Rattle.land_core.specs.Register.{nothing, object_at, parcel_at, party_at, unit_at}
+use Rattle.land_core.specs.Register.{empty_register, object_at, parcel_at, party_at, unit_at}
 use Rattle.land_core.specs.Soundness.{IsSound}
 use Rattle.land_core.specs.declared.ask.Ask.{Ask}
 use Rattle.land_core.specs.declared.ask.Ask.TheVariants as ask

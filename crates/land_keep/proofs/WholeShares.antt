@@ -9,7 +9,7 @@ use Rattle.std.specs.Ordering.{nat_cmp}
 use Rattle.std.proofs.lemmas.Bool.{not-false}
 use Rattle.land_core.proofs.Reflection.{none_at}
 use Rattle.land_core.specs.Members.{are_group_shares}
-use Rattle.land_core.specs.Register.{is_single, nothing, shares_of}
+use Rattle.land_core.specs.Register.{is_single, empty_register, shares_of}
 use Rattle.land_core.specs.Soundness.{IsSound}
 use Rattle.land_core.specs.Units.{has_whole_shares}
 use Rattle.land_core.specs.declared.register.Register.{Register}
@@ -30,7 +30,7 @@ sound_whole r sound = record {
       ∙ none_at nat_cmp_total nat_cmp-IsAntisymmetric (λ n p. not (is_single p.kind) && not (are_group_shares (shares_of r n))) r.parties n p (sound Group) is);
 }
 
-nothing_whole : HasWholeShares nothing
+nothing_whole : HasWholeShares empty_register
 nothing_whole = record {
   units = λ n u is checked. absurd (none_is_some (sym (get-empty nat_cmp n) ∙ is));
   groups = λ n p is group. absurd (none_is_some (sym (get-empty nat_cmp n) ∙ is));
@@ -41,7 +41,7 @@ nothing_whole = record {
 
 -- the register of a version that was found, or that of none
 abbrev registered : Option Version → Register
-registered found = unwrap_or (option_map (λ (v : Version). v.register) found) nothing
+registered found = unwrap_or (option_map (λ (v : Version). v.register) found) empty_register
 
 found_whole : (t : ℤ) (vs : Timeline) (found : Option Version) → HasWholeShares (registered found) → AllByRecursion (λ v. IsSound v.register) vs
     → HasWholeShares (registered (fold (λ found v. if int_le v.stamp t then Some v else found) found vs))

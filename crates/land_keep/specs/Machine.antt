@@ -53,13 +53,13 @@ abbrev pub Next : Type 0
 Next = Reply × Timeline
 
 -- the reply with an object; denied by rule 27 if it does not exist
-abbrev pub shown : Option Object → Reply
-shown None = reply.Denied 27
-shown (Some it) = reply.Object it
+abbrev pub object_reply : Option Object → Reply
+object_reply None = reply.Denied 27
+object_reply (Some it) = reply.Object it
 
 -- the reply to an allowed view; it depends only on the register at the requested moment
 abbrev pub view_reply : (at : Register) → Kind → ℕ → Reply
-view_reply at k number = shown (object_at at k number)
+view_reply at k number = object_reply (object_at at k number)
 
 -- the reply with a sheet; denied by rule 27 if the unit does not exist
 abbrev pub sheet_reply : Option View → Reply

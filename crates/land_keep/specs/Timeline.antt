@@ -4,7 +4,7 @@ use Rattle.std.specs.Prelude.{if◌then◌else◌}
 use Rattle.std.specs.Option.{option_map}
 use Rattle.std.specs.List.{AllByRecursion}
 use Rattle.land_core.specs.Numbers.{IsMoment}
-use Rattle.land_core.specs.Register.{nothing, new_register}
+use Rattle.land_core.specs.Register.{empty_register, new_register}
 use Rattle.land_core.specs.Soundness.{IsSound}
 use Rattle.land_core.specs.declared.register.Register.{Register}
 use Rattle.land_keep.specs.declared.timeline.Version.{Version}
@@ -22,7 +22,7 @@ version_at tl t = fold (λ found v. if int_le v.stamp t then Some v else found) 
 
 -- the register at t; empty before the first stamp
 abbrev pub register_at : Timeline → ℤ → Register
-register_at tl t = unwrap_or (option_map (λ v. v.register) (version_at tl t)) nothing
+register_at tl t = unwrap_or (option_map (λ v. v.register) (version_at tl t)) empty_register
 
 -- the last of a version and the versions after it
 abbrev pub last_from : Version → Timeline → Version
@@ -39,7 +39,7 @@ last_stamp tl = unwrap_or (option_map (λ v. v.stamp) (last_version tl)) (pos 0)
 
 -- the register now
 abbrev pub last_register : Timeline → Register
-last_register tl = unwrap_or (option_map (λ v. v.register) (last_version tl)) nothing
+last_register tl = unwrap_or (option_map (λ v. v.register) (last_version tl)) empty_register
 
 -- from a version on, stamps are strictly increasing and the next numbers never decrease
 abbrev pub IncreasesFrom : Version → Timeline → Type 0

@@ -1,7 +1,7 @@
 //! The plain keeper: a list of whole registers in memory.
 ghost use Rattle.std.specs.Prelude.{◌≡◌, ◌∷◌, ◌++◌, [], false, ⊤, unwrap_or, IfOk, OnOk, OnErr};
 ghost use Rattle.std.specs.Option.{option_copied, option_map};
-ghost use Rattle.land_core.specs.Register.{nothing};
+ghost use Rattle.land_core.specs.Register.{empty_register};
 ghost use Rattle.land_keep.specs.Timeline.{IsSoundTimeline, new_timeline, version_at, last_version};
 ghost use Rattle.land_keep.specs.Timeline.{register_at, last_register};
 
@@ -68,7 +68,7 @@ impl PlainKeeper {
 
     /// Returns the last register. A sound timeline has one; `empty` is for the case that cannot occur.
     fn last_register<'a>(&'a self, empty: &'a Register) -> &'a Register
-        requires { empty.now ≡ nothing }
+        requires { empty.now ≡ empty_register }
         ensures register { result.now ≡ last_register self.now }
         ensures sound { IsSoundTimeline self.now }
     {
@@ -77,7 +77,7 @@ impl PlainKeeper {
 
     /// Returns the register at a moment; `empty` before the first stamp.
     fn register_at<'a>(&'a self, t: i64, empty: &'a Register) -> &'a Register
-        requires { empty.now ≡ nothing }
+        requires { empty.now ≡ empty_register }
         ensures { result.now ≡ register_at self.now t }
     {
         register_of(self.version_at(t), empty)
@@ -139,9 +139,9 @@ impl Keeper for PlainKeeper {
         now: i64,
     ) -> Result<Verdict, StoreFault> {
         let at = explicit_moment(ask).unwrap_or(now);
-        let nothing = Register::nothing(alloc);
-        let last = self.last_register(&nothing);
-        let then = self.register_at(at, &nothing);
+        let empty = Register::empty(alloc);
+        let last = self.last_register(&empty);
+        let then = self.register_at(at, &empty);
         Ok(verdict(last, then, caller, ask, at < now))
     }
 
@@ -152,8 +152,8 @@ impl Keeper for PlainKeeper {
         kind: Kind,
         at: i64,
     ) -> Result<NumberList, StoreFault> {
-        let nothing = Register::nothing(alloc);
-        let then = self.register_at(at, &nothing);
+        let empty = Register::empty(alloc);
+        let then = self.register_at(at, &empty);
         Ok(seen(alloc, then, caller, kind)?)
     }
 
@@ -164,8 +164,8 @@ impl Keeper for PlainKeeper {
         number: u64,
         at: i64,
     ) -> Result<Option<Object>, StoreFault> {
-        let nothing = Register::nothing(alloc);
-        let then = self.register_at(at, &nothing);
+        let empty = Register::empty(alloc);
+        let then = self.register_at(at, &empty);
         Ok(then.object(alloc, kind, number)?)
     }
 
@@ -176,8 +176,8 @@ impl Keeper for PlainKeeper {
         numbers: &[u64],
         at: i64,
     ) -> Result<Sequence<NamedObject>, StoreFault> {
-        let nothing = Register::nothing(alloc);
-        let then = self.register_at(at, &nothing);
+        let empty = Register::empty(alloc);
+        let then = self.register_at(at, &empty);
         Ok(objects_of(alloc, then, kind, numbers)?)
     }
 
@@ -188,14 +188,14 @@ impl Keeper for PlainKeeper {
         unit: u64,
         at: i64,
     ) -> Result<Option<View>, StoreFault> {
-        let nothing = Register::nothing(alloc);
-        let then = self.register_at(at, &nothing);
+        let empty = Register::empty(alloc);
+        let then = self.register_at(at, &empty);
         Ok(view_of(alloc, then, caller, unit, at)?)
     }
 
     fn slice(&mut self, alloc: Global, caller: Caller, act: &Act) -> Result<Slice, StoreFault> {
-        let nothing = Register::nothing(alloc);
-        let last = self.last_register(&nothing);
+        let empty = Register::empty(alloc);
+        let last = self.last_register(&empty);
         Ok(slice_of(alloc, last, caller, act)?)
     }
 
@@ -205,14 +205,14 @@ impl Keeper for PlainKeeper {
         caller: Caller,
         act: &Act,
     ) -> Result<Slice, StoreFault> {
-        let nothing = Register::nothing(alloc);
-        let last = self.last_register(&nothing);
+        let empty = Register::empty(alloc);
+        let last = self.last_register(&empty);
         Ok(needed_slice_of(alloc, last, caller, act)?)
     }
 
     fn write(&mut self, alloc: Global, change: &Change, stamp: i64) -> Result<(), StoreFault> {
-        let nothing = Register::nothing(alloc);
-        let last = self.last_register(&nothing);
+        let empty = Register::empty(alloc);
+        let last = self.last_register(&empty);
         let register = last.with_change(alloc, change)?;
         writing_keeps_soundness();
         self.append(Version { stamp, register })?;

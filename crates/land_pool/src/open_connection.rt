@@ -193,7 +193,7 @@ fn serve_counted<R: Read, W, K: Keeper, C: Clock>(
         &mut connection.input,
         connection.needed,
     );
-    let unused = reader.left();
+    let unused = reader.reads_left();
     connection.reads_left -= budget - unused;
     served
 }

@@ -96,7 +96,7 @@ impl Lingering {
     }
 
     /// Returns the time until `close_overdue` closes a connection, or `None` if there are none.
-    pub(crate) fn left(&self, now: Instant) -> Option<Duration> {
+    pub(crate) fn time_left(&self, now: Instant) -> Option<Duration> {
         if self.is_empty() {
             return None;
         }

@@ -142,7 +142,7 @@ impl<M: time::Clock + Drop> Port<M> {
         let now = self.now.get();
         let since_sweep = now.duration_since(self.swept_at);
         let most = Duration::from_secs(SWEEP_INTERVAL).saturating_sub(since_sweep);
-        match self.lingering.left(now) {
+        match self.lingering.time_left(now) {
             Some(left) if left < most => left,
             Some(_) | None => most,
         }

@@ -17,7 +17,7 @@ use Rattle.land_core.proofs.Reflection.{entries-entries_where, some_passes}
 use Rattle.land_core.specs.Contents.{refers_to_unit_where}
 use Rattle.land_core.specs.Entries.{has, some}
 use Rattle.land_core.specs.Laws.{SoundnessByNumber}
-use Rattle.land_core.specs.Register.{nothing}
+use Rattle.land_core.specs.Register.{empty_register}
 use Rattle.land_core.specs.Units.{is_right_of}
 use Rattle.land_core.specs.declared.caller.Caller.{Caller}
 use Rattle.land_core.specs.declared.content.Content.{Content}
@@ -80,7 +80,7 @@ module _ {X : Type 0} where
 abbrev pub UnitsStand : Register → Type 0
 UnitsStand r = (n : ℕ) (e : RrrRecord) → map.get r.rrrs n ≡ Some e → has r.units e.unit ≡ true
 
-none_there : UnitsStand nothing
+none_there : UnitsStand empty_register
 none_there n e is = absurd (none_is_not_some (sym (map.get-empty nat_cmp n) ∙ is))
 
 pub units_stand : SoundnessByNumber → (r : Register) → IsSoundOrNothing r → UnitsStand r

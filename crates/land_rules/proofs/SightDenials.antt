@@ -15,7 +15,7 @@ use Rattle.land_core.specs.Entries.{has}
 use Rattle.land_core.specs.Grants.{grant_cmp}
 use Rattle.land_core.specs.Mandates.{mandate_of}
 use Rattle.land_core.specs.Members.{Members}
-use Rattle.land_core.specs.Register.{is_member, is_single, nothing}
+use Rattle.land_core.specs.Register.{is_member, is_single, empty_register}
 use Rattle.land_core.specs.Soundness.{are_dangling_members}
 use Rattle.land_core.specs.declared.caller.Caller.{Caller}
 use Rattle.land_core.specs.declared.kind.Kind.{Kind}
@@ -96,10 +96,10 @@ apart true false k = refl
 apart false there k = refl
 
 -- an empty register has no references
-refers_nothing : Refers nothing
+refers_nothing : Refers empty_register
 refers_nothing = record {
   room = refl;
-  numbers = are_used_back nothing (record {
+  numbers = are_used_back empty_register (record {
     parties = none_in_empty _;
     units = none_in_empty _;
     parcels = none_in_empty _;
@@ -107,12 +107,12 @@ refers_nothing = record {
     sources = none_in_empty _;
     mutations = none_in_empty _;
   });
-  grants = loose_from nothing (λ g is. absurd (none_is_not_some (sym (map.get-empty grant_cmp g) ∙ is)));
+  grants = loose_from empty_register (λ g is. absurd (none_is_not_some (sym (map.get-empty grant_cmp g) ∙ is)));
   members = none_in_empty _;
   parcels = none_in_empty _;
   rrrs = none_in_empty _;
   mutations = none_in_empty _;
-  mandates = no_mandates_are_tight nothing refl;
+  mandates = no_mandates_are_tight empty_register refl;
 }
 
 -- the references of a register are valid if it is sound or empty

@@ -2,7 +2,7 @@
 use Rattle.std.specs.Prelude.{◌≡◌, ◌⊎◌, ℕ, ◌<◌, ◌↔◌, Bool, true, false, ◌&&◌, ◌||◌, Option, ℤ, nat_eq}
 use Rattle.std.specs.Prelude.{if◌then◌else◌}
 use Rattle.std.specs.List.{list_any}
-use Rattle.land_core.specs.Register.{stands, holds, is_member, nothing}
+use Rattle.land_core.specs.Register.{stands, holds, is_member, empty_register}
 use Rattle.land_core.specs.Role.{is_role}
 use Rattle.land_core.specs.Soundness.{IsSound}
 use Rattle.land_core.specs.declared.ask.Ask.{Ask}
@@ -140,7 +140,7 @@ verdict_by_sight at caller k number =
 
 -- a register at a time: sound, or empty if the time is before the first change
 abbrev pub IsSoundOrNothing : Register → Type 0
-IsSoundOrNothing at = IsSound at ⊎ (at ≡ nothing)
+IsSoundOrNothing at = IsSound at ⊎ (at ≡ empty_register)
 
 -- in such a register, the denial of a view reveals only that the object is not visible
 abbrev pub DenialsRevealOnlySight : Type 0

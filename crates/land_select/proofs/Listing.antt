@@ -15,7 +15,7 @@ use Rattle.land_acts.proofs.TransferSums.{apart_to}
 use Rattle.land_core.proofs.FiniteMaps.{none_is_not_some}
 use Rattle.land_core.proofs.Reflection.{get-entries_where, some_at}
 use Rattle.land_core.specs.Entries.{entries_where, with_entries}
-use Rattle.land_core.specs.Register.{members_of, nothing, roles_of}
+use Rattle.land_core.specs.Register.{members_of, empty_register, roles_of}
 use Rattle.land_core.specs.declared.kind.Kind.{Kind}
 use Rattle.land_core.specs.declared.kind.Kind.TheVariants as kind
 use Rattle.land_core.specs.declared.mutation.MutationRecord.{MutationRecord}
@@ -128,9 +128,9 @@ unit_same : (one other : Register) (n : ℕ) (o : Option UnitRecord) → unit_na
 unit_same one other n None = refl
 unit_same one other n (Some u) = refl
 
-pub units_alone : (found : FinMap nat_cmp UnitRecord) (r : Register) (first last : ℕ) → found ≡ entries_where (λ n v. is_within first last n) r.units → ListsAlike kind.Unit first last (record nothing { units = found }) r
+pub units_alone : (found : FinMap nat_cmp UnitRecord) (r : Register) (first last : ℕ) → found ≡ entries_where (λ n v. is_within first last n) r.units → ListsAlike kind.Unit first last (record empty_register { units = found }) r
 units_alone found r low high is n within =
-    ap (unit_named (record nothing { units = found }) n) (found_within found r.units low high n is within) ∙ unit_same (record nothing { units = found }) r n (map.get r.units n)
+    ap (unit_named (record empty_register { units = found }) n) (found_within found r.units low high n is within) ∙ unit_same (record empty_register { units = found }) r n (map.get r.units n)
 
 -- a parcel
 abbrev parcel_named : Register → ℕ → Option ParcelRecord → List NamedObject
@@ -140,9 +140,9 @@ parcel_same : (one other : Register) (n : ℕ) (o : Option ParcelRecord) → par
 parcel_same one other n None = refl
 parcel_same one other n (Some u) = refl
 
-pub parcels_alone : (found : FinMap nat_cmp ParcelRecord) (r : Register) (first last : ℕ) → found ≡ entries_where (λ n v. is_within first last n) r.parcels → ListsAlike kind.Parcel first last (record nothing { parcels = found }) r
+pub parcels_alone : (found : FinMap nat_cmp ParcelRecord) (r : Register) (first last : ℕ) → found ≡ entries_where (λ n v. is_within first last n) r.parcels → ListsAlike kind.Parcel first last (record empty_register { parcels = found }) r
 parcels_alone found r low high is n within =
-    ap (parcel_named (record nothing { parcels = found }) n) (found_within found r.parcels low high n is within) ∙ parcel_same (record nothing { parcels = found }) r n (map.get r.parcels n)
+    ap (parcel_named (record empty_register { parcels = found }) n) (found_within found r.parcels low high n is within) ∙ parcel_same (record empty_register { parcels = found }) r n (map.get r.parcels n)
 
 -- a source
 abbrev source_named : Register → ℕ → Option SourceRecord → List NamedObject
@@ -152,9 +152,9 @@ source_same : (one other : Register) (n : ℕ) (o : Option SourceRecord) → sou
 source_same one other n None = refl
 source_same one other n (Some u) = refl
 
-pub sources_alone : (found : FinMap nat_cmp SourceRecord) (r : Register) (first last : ℕ) → found ≡ entries_where (λ n v. is_within first last n) r.sources → ListsAlike kind.Source first last (record nothing { sources = found }) r
+pub sources_alone : (found : FinMap nat_cmp SourceRecord) (r : Register) (first last : ℕ) → found ≡ entries_where (λ n v. is_within first last n) r.sources → ListsAlike kind.Source first last (record empty_register { sources = found }) r
 sources_alone found r low high is n within =
-    ap (source_named (record nothing { sources = found }) n) (found_within found r.sources low high n is within) ∙ source_same (record nothing { sources = found }) r n (map.get r.sources n)
+    ap (source_named (record empty_register { sources = found }) n) (found_within found r.sources low high n is within) ∙ source_same (record empty_register { sources = found }) r n (map.get r.sources n)
 
 -- a mutation
 abbrev mutation_named : Register → ℕ → Option MutationRecord → List NamedObject
@@ -164,9 +164,9 @@ mutation_same : (one other : Register) (n : ℕ) (o : Option MutationRecord) →
 mutation_same one other n None = refl
 mutation_same one other n (Some u) = refl
 
-pub mutations_alone : (found : FinMap nat_cmp MutationRecord) (r : Register) (first last : ℕ) → found ≡ entries_where (λ n v. is_within first last n) r.mutations → ListsAlike kind.Mutation first last (record nothing { mutations = found }) r
+pub mutations_alone : (found : FinMap nat_cmp MutationRecord) (r : Register) (first last : ℕ) → found ≡ entries_where (λ n v. is_within first last n) r.mutations → ListsAlike kind.Mutation first last (record empty_register { mutations = found }) r
 mutations_alone found r low high is n within =
-    ap (mutation_named (record nothing { mutations = found }) n) (found_within found r.mutations low high n is within) ∙ mutation_same (record nothing { mutations = found }) r n (map.get r.mutations n)
+    ap (mutation_named (record empty_register { mutations = found }) n) (found_within found r.mutations low high n is within) ∙ mutation_same (record empty_register { mutations = found }) r n (map.get r.mutations n)
 
 -- a party
 abbrev party_named : Register → ℕ → Option PartyRecord → List NamedObject
@@ -176,9 +176,9 @@ party_same : (one other : Register) (n : ℕ) (o : Option PartyRecord) → party
 party_same one other n None = refl
 party_same one other n (Some p) = refl
 
-pub parties_alone : (found : FinMap nat_cmp PartyRecord) (r : Register) (first last : ℕ) → found ≡ entries_where (λ n v. is_within first last n) r.parties → ListsAlike kind.Party first last (record nothing { parties = found }) r
+pub parties_alone : (found : FinMap nat_cmp PartyRecord) (r : Register) (first last : ℕ) → found ≡ entries_where (λ n v. is_within first last n) r.parties → ListsAlike kind.Party first last (record empty_register { parties = found }) r
 parties_alone found r low high is n within =
-    ap (party_named (record nothing { parties = found }) n) (found_within found r.parties low high n is within) ∙ party_same (record nothing { parties = found }) r n (map.get r.parties n)
+    ap (party_named (record empty_register { parties = found }) n) (found_within found r.parties low high n is within) ∙ party_same (record empty_register { parties = found }) r n (map.get r.parties n)
 
 -- ---- entries, with their parties
 
@@ -231,7 +231,7 @@ entry_named r n o = option_map_or (λ it. named_object r it ∷ []) (option_map 
 module _ (found : FinMap nat_cmp RrrRecord) (list : List Numbered) (r : Register) (first_number last_number : ℕ) (is : found ≡ entries_where (λ n v. is_within first_number last_number n) r.rrrs)
     (all : (party : Numbered) → Contains list party ↔ ((has_entry_among r (of_range first_number last_number) party.0 ≡ true) × (map.get r.parties party.0 ≡ Some party.1))) where
   abbrev alone : Register
-  alone = record nothing { rrrs = found; parties = with_entries map.empty list }
+  alone = record empty_register { rrrs = found; parties = with_entries map.empty list }
 
   -- the party of an entry in the range has its name of the register
   called_alike : (n : ℕ) (e : RrrRecord) → is_within first_number last_number n ≡ true → map.get r.rrrs n ≡ Some e → name_at alone e.party ≡ name_at r e.party

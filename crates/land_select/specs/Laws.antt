@@ -9,7 +9,7 @@ use Rattle.land_core.specs.declared.role.Role.{Role}
 use Rattle.land_keep.specs.Timeline.{IsSoundTimeline, Timeline, register_at}
 use Rattle.land_rules.specs.CircleLaws.{without_mandates}
 use Rattle.land_rules.specs.Rules.{seen_of}
-use Rattle.land_select_queries.specs.Joins.Meaning.{command_in, given}
+use Rattle.land_select_queries.specs.Joins.Meaning.{command_in, query_parameters}
 use Rattle.land_select_queries.specs.Joins.Texts.{text_of}
 use Rattle.land_select_queries.specs.Sights.{selections_of}
 use Rattle.land_tables.specs.Standing.{HoldsTimeline}
@@ -37,7 +37,7 @@ pub record Asked : Type 0 where
 abbrev pub AreResultRows : Asked → (text : List ℕ) → (rows : List Row) → Type 0
 AreResultRows it text rows =
     Reads (command_in (understood (schema_v2_with it.indexes) text))
-    (record { schema = schema_v2_with it.indexes; trees = it.db }) (given it.caller it.moment) rows
+    (record { schema = schema_v2_with it.indexes; trees = it.db }) (query_parameters it.caller it.moment) rows
 
 -- Statements together return exactly the wanted numbers: each statement has a result, each row of a result is
 -- one wanted number, and each wanted number is a row of all results of one of the statements.

@@ -4,7 +4,7 @@ ghost use Rattle.std.specs.FinMap as map;
 ghost use Rattle.std.specs.List.{AllByRecursion};
 ghost use Rattle.std.specs.Prelude.{◌≡◌, ℕ, true, map as map_list, IfOk};
 ghost use Rattle.land_core.specs.Entries.{entries_where, with_entries};
-ghost use Rattle.land_core.specs.Register.{nothing};
+ghost use Rattle.land_core.specs.Register.{empty_register};
 ghost use Rattle.land_core.specs.declared.kind.Kind.TheVariants as kinds;
 ghost use Rattle.land_core.specs.declared.register.Register.{Register as Whole};
 ghost use Rattle.land_keep.specs.Named.{objects_at};
@@ -57,7 +57,7 @@ impl Listed for PartyRecord {
     {
         Register {
             parties: found,
-            ..Register::nothing(alloc)
+            ..Register::empty(alloc)
         }
     }
 }
@@ -69,7 +69,7 @@ impl Listed for UnitRecord {
     {
         Register {
             units: found,
-            ..Register::nothing(alloc)
+            ..Register::empty(alloc)
         }
     }
 }
@@ -82,7 +82,7 @@ impl Listed for ParcelRecord {
     {
         Register {
             parcels: found,
-            ..Register::nothing(alloc)
+            ..Register::empty(alloc)
         }
     }
 }
@@ -95,7 +95,7 @@ impl Listed for SourceRecord {
     {
         Register {
             sources: found,
-            ..Register::nothing(alloc)
+            ..Register::empty(alloc)
         }
     }
 }
@@ -108,7 +108,7 @@ impl Listed for MutationRecord {
     {
         Register {
             mutations: found,
-            ..Register::nothing(alloc)
+            ..Register::empty(alloc)
         }
     }
 }
@@ -152,14 +152,14 @@ fn register_of_entries(
     entries: Records<RrrRecord>,
     parties: &[Version<(u64, PartyRecord)>],
 ) -> Result<Register, AllocError>
-    ensures { IfOk result (λ it. it ≡ record nothing {
+    ensures { IfOk result (λ it. it ≡ record empty_register {
       rrrs = entries;
       parties =
           with_entries map.empty (map_list (λ (v : Spanned (ℕ × PartyRecord)). v.what) parties.now);
     }) }
 {
     let parties = records_of(alloc, parties)?;
-    let mut register = Register::nothing(alloc);
+    let mut register = Register::empty(alloc);
     register.rrrs = entries;
     register.parties = parties;
     Ok(register)

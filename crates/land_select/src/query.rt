@@ -5,7 +5,7 @@ ghost use Rattle.land_keep.specs.declared.store_fault.StoreFault.TheVariants as 
 ghost use Rattle.land_select.specs.Results.{IsResult};
 ghost use Rattle.land_select_queries.specs.TableReads.{ReadsTables};
 ghost use Rattle.land_tables.specs.Calls.{IsSafeRead};
-ghost use Rattle.land_tables.specs.TablesState.{HoldsRegister, IsHonest, held};
+ghost use Rattle.land_tables.specs.TablesState.{HoldsRegister, IsHonest, held_timeline};
 ghost use Rattle.land_tables_schema.specs.Connections.{HasRegisterTables, IsUsable, LeavesAutocommit};
 ghost use Rattle.sqlite.specs.Held.{state};
 ghost use Rattle.sqlite.specs.State.{HasCleanDisk, Survives};
@@ -60,7 +60,7 @@ pub(crate) fn execute<S: Alter, T, Q: Query<T>>(
     ensures value { IsHonest S.Store tables.new
         → IfOk result (λ it. IsResult (Q.results query.now) (state S.Store tables.old.conn) it) }
     ensures same { IsHonestAndOpen (IsHonest S.Store tables.new) tables.new.is_closed
-        → held S.Store tables.new ≡ held S.Store tables.old }
+        → held_timeline S.Store tables.new ≡ held_timeline S.Store tables.old }
     ensures was { IsHonest S.Store tables.new → IsHonest S.Store tables.old }
     ensures last { tables.new.last ≡ tables.old.last }
     ensures next { tables.new.next ≡ tables.old.next }

@@ -55,7 +55,7 @@ impl<S: Alter> Model for SqlKeeper<S> {
     ghost use Rattle.land_keep.specs.Timeline.{last_register};
     ghost use Rattle.land_select.specs.Cache.{IsCacheOf};
     ghost use Rattle.land_select.specs.KnownRoles.{AreKnownIn};
-    ghost use Rattle.land_tables.specs.TablesState.{IsHonest, TablesState, held, tables_code};
+    ghost use Rattle.land_tables.specs.TablesState.{IsHonest, TablesState, held_timeline, tables_code};
 
     ghost Value = { TablesState S };
 
@@ -64,8 +64,8 @@ impl<S: Alter> Model for SqlKeeper<S> {
     ghost view = { λ k. k.tables };
 
     ghost invariant = { λ k. IsHonestAndOpen (IsHonest S.Store k.tables) k.tables.is_closed
-        → IsCacheOf (held S.Store k.tables) k.cache
-        × AreKnownIn (last_register (held S.Store k.tables)) k.known };
+        → IsCacheOf (held_timeline S.Store k.tables) k.cache
+        × AreKnownIn (last_register (held_timeline S.Store k.tables)) k.known };
 }
 
 impl<S: Alter + Drop> Drop for SqlKeeper<S> {
@@ -109,9 +109,9 @@ impl<S: Alter> Keeper for SqlKeeper<S> {
     ghost use Rattle.land_keep.specs.Named.{objects_at};
     ghost use Rattle.land_keep.specs.Sheets.{view_at};
     ghost use Rattle.land_keep.specs.Timeline.{last_stamp};
-    ghost use Rattle.land_tables.specs.TablesState.{IsHonest, held};
+    ghost use Rattle.land_tables.specs.TablesState.{IsHonest, held_timeline};
 
-    ghost timeline = { λ keeper. held S.Store keeper };
+    ghost timeline = { λ keeper. held_timeline S.Store keeper };
 
     ghost closed = { λ keeper. keeper.is_closed };
 

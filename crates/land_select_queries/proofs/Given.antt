@@ -5,7 +5,7 @@ use Rattle.land_select_queries.proofs.JoinedByNobody.{asked_so}
 use Rattle.land_select_queries.proofs.Places.{as_stored}
 use Rattle.land_select_queries.proofs.Selected.{filter_of, join_of, places_of, selected, shown_of}
 use Rattle.land_select_queries.proofs.Sets.{plainly}
-use Rattle.land_select_queries.specs.Joins.Meaning.{given}
+use Rattle.land_select_queries.specs.Joins.Meaning.{query_parameters}
 use Rattle.land_select_queries.specs.Joins.Execution.{AreRowsOf, known_or_zero}
 use Rattle.land_select_queries.specs.Joins.Texts.{text_of}
 use Rattle.land_select_queries.specs.declared.sights.selection.Selection.{Selection}
@@ -17,7 +17,7 @@ use Rattle.sqlite_value.specs.Order.{Row}
 abbrev pub query_of : Selection → Query
 query_of s = plainly (from (places_of s)) (filter_of s) (shown_of s ∷ [])
 
-pub are_rows_of : (s : Selection) (t : ℤ) (caller : ℕ) (db : Trees) (rows : List Row) → IsAnswer (query_of s) (overlay db []) (given (known_or_zero caller) t) rows → AreRowsOf s t caller db rows
+pub are_rows_of : (s : Selection) (t : ℤ) (caller : ℕ) (db : Trees) (rows : List Row) → IsAnswer (query_of s) (overlay db []) (query_parameters (known_or_zero caller) t) rows → AreRowsOf s t caller db rows
 are_rows_of s t caller db rows a moments h held =
     let asked = known_or_zero caller in
     let ps = places_of s in

@@ -5,7 +5,7 @@ use Rattle.std.proofs.lemmas.Bool.{and_parts}
 use Rattle.land_select_queries.proofs.Places.{Place, What, as_stored, row_of, shape, tree, version_of, versions}
 use Rattle.land_select_queries.proofs.Sets.{Fills, answer_of, answered, answers, is_answer, is_inner, plainly}
 use Rattle.land_select_queries.proofs.Shapes.{AreShapes, SayAll, all_decided, are_known, is_shape, is_simple, is_solid, same_value, shape_itself, shapes_more}
-use Rattle.land_select_queries.specs.Joins.Meaning.{GivesNumbers, command_in, given}
+use Rattle.land_select_queries.specs.Joins.Meaning.{GivesNumbers, command_in, query_parameters}
 use Rattle.land_tables_history.specs.declared.history.History.{History}
 use Rattle.land_tables_history.specs.declared.moment.Moment.{Moment}
 use Rattle.land_tables_history.specs.declared.version.Version.{Version}
@@ -108,13 +108,13 @@ pub record Asks (schema : Schema) (text : List ℕ) (q : Query) : Type 0 where
   pub plain : IsPlain (understood schema text)
 
 abbrev pub start : ℕ → ℤ → Env
-start caller t = given caller t ∷ []
+start caller t = query_parameters caller t ∷ []
 
 -- a statement is a join of these tables with these terms, and returns one number
 pub record IsJoin (text : List ℕ) (places : List Place) (filter : List Term) (shown : Term) : Type 0 where
   pub asks : (indexes : List Index) → Asks (schema_v2_with indexes) text (plainly (from places) filter (shown ∷ []))
   pub meant : (indexes : List Index) → command_in (understood (schema_v2_with indexes) text) ≡ Select (record { lets = []; body = plainly (from places) filter (shown ∷ []) }) (asks indexes).names
-  pub accepted : (indexes : List Index) (caller : ℕ) (t : ℤ) → accepts_program (schema_v2_with indexes) [] (plainly (from places) filter (shown ∷ [])) (given caller t) ≡ true
+  pub accepted : (indexes : List Index) (caller : ℕ) (t : ℤ) → accepts_program (schema_v2_with indexes) [] (plainly (from places) filter (shown ∷ [])) (query_parameters caller t) ≡ true
   pub simple : is_simple shown ≡ true
   pub known : (caller : ℕ) (t : ℤ) → ForAll places (λ s. (are_known filter s && is_whole (eval shown s)) ≡ true) (start caller t)
 
@@ -132,7 +132,7 @@ Says places filter shown h caller t number = Finds h places (λ s. SayAll filter
 
 module _ (places : List Place) (filter : List Term) (shown : Term) where
   module _ (is : IsKnown places filter shown) (db over : Trees) (stored : (p : Place) → over (tree p) ≡ db (tree p)) (moments : List Moment) (h : History) (held : HoldsHistory db moments h) (caller : ℕ) (t : ℤ) (rows : List Row)
-      (a : IsAnswer (plainly (from places) filter (shown ∷ [])) over (given caller t) rows) where
+      (a : IsAnswer (plainly (from places) filter (shown ∷ [])) over (query_parameters caller t) rows) where
     abbrev Sure : Env → Type 0
     Sure s = (are_known filter s && is_whole (eval shown s)) ≡ true
 
@@ -140,7 +140,7 @@ module _ (places : List Place) (filter : List Term) (shown : Term) where
     Said number s = SayAll filter s × (number_in (eval shown s) ≡ number)
 
     at_start : AreShapes (start caller t) (start caller t)
-    at_start = (shape_itself (given caller t), tt)
+    at_start = (shape_itself (query_parameters caller t), tt)
 
     -- the result column of a joined row
     shows : (s e : Env) → Sure s → AreShapes s e → eval shown e ≡ Int (pos (number_in (eval shown s)))
@@ -160,7 +160,7 @@ module _ (places : List Place) (filter : List Term) (shown : Term) where
 
     pub sound : (number : ℕ) → Has rows (Int (pos number) ∷ []) → Says places filter shown h caller t number
     sound number has =
-        let it = answered (from places) filter (shown ∷ []) (joined places) over (given caller t) rows a (Int (pos number) ∷ []) has in
+        let it = answered (from places) filter (shown ∷ []) (joined places) over (query_parameters caller t) rows a (Int (pos number) ∷ []) has in
         moved h (λ s. AreShapes s it.0) (Said number) places (start caller t)
         (everywhere Sure (λ s. AreShapes s it.0 → Said number s) places (start caller t) (λ s sure shapes. said number s it.0 sure shapes it.2 it.3) (is.known caller t))
         (found db over stored moments h held places (start caller t) (start caller t) it.0 at_start it.1)
@@ -168,7 +168,7 @@ module _ (places : List Place) (filter : List Term) (shown : Term) where
     -- each row is one number
     pub numbered : (row : Row) → Has rows row → (n : ℕ) × (row ≡ Int (pos n) ∷ [])
     numbered row has =
-        let it = answered (from places) filter (shown ∷ []) (joined places) over (given caller t) rows a row has in
+        let it = answered (from places) filter (shown ∷ []) (joined places) over (query_parameters caller t) rows a row has in
         let IsNumber : Type 0 = (n : ℕ) × (row ≡ Int (pos n) ∷ []) in
         settled h IsNumber places (start caller t) (moved h (λ s. AreShapes s it.0) (λ s. IsNumber) places (start caller t)
         (everywhere Sure (λ s. AreShapes s it.0 → IsNumber) places (start caller t) (λ s sure shapes. (number_in (eval shown s), it.3 ∙ ap (λ v. v ∷ []) (shows s it.0 sure shapes))) (is.known caller t))
@@ -180,17 +180,17 @@ module _ (places : List Place) (filter : List Term) (shown : Term) where
         moved h (Said number) (λ s. Sure s × Said number s) places (start caller t) (everywhere Sure (λ s. Said number s → Sure s × Said number s) places (start caller t) (λ s sure it. (sure, it)) (is.known caller t)) gives in
         let it = filled db over stored moments h held (λ s. Sure s × Said number s) places (start caller t) (start caller t) at_start both in
         let passed = passes number it.1 it.0 it.4.0 it.3 it.4.1 in
-        subst (Has rows) (sym passed.1) (answers (from places) filter (shown ∷ []) (joined places) over (given caller t) rows a it.0 it.2 passed.0)
+        subst (Has rows) (sym passed.1) (answers (from places) filter (shown ∷ []) (joined places) over (query_parameters caller t) rows a it.0 it.2 passed.0)
 
   pub meaning : (text : List ℕ) (is : IsJoin text places filter shown) (indexes : List Index) (db : Trees) (moments : List Moment) (h : History) (caller : ℕ) (t : ℤ) (Wanted : ℕ → Type 0) → HoldsHistory db moments h
       → ((number : ℕ) → Says places filter shown h caller t number ↔ Wanted number) → GivesNumbers text indexes db caller t Wanted
   meaning text is indexes db moments h caller t Wanted held is_so =
       let terms = known_in text places filter shown is in
       let here : Database = record { schema = schema_v2_with indexes; trees = db } in
-      let rows = answer_of (from places) filter (shown ∷ []) (overlay db []) (given caller t) in
+      let rows = answer_of (from places) filter (shown ∷ []) (overlay db []) (query_parameters caller t) in
       record {
         each = λ rows reads.
-            let a = (subst (λ k. Reads k here (given caller t) rows) (is.meant indexes) reads).answer Null in
+            let a = (subst (λ k. Reads k here (query_parameters caller t) rows) (is.meant indexes) reads).answer Null in
             record {
               each = numbered terms db (overlay db []) (as_stored db) moments h held caller t rows a;
               meant = λ n. (
@@ -199,6 +199,6 @@ module _ (places : List Place) (filter : List Term) (shown : Term) where
               );
             };
         rows = rows;
-        answer = subst (λ k. Reads k here (given caller t) rows) (sym (is.meant indexes))
-            (record { typed = is.accepted indexes caller t; answer = is_answer (from places) filter (shown ∷ []) (overlay db []) (given caller t) (joined places) });
+        answer = subst (λ k. Reads k here (query_parameters caller t) rows) (sym (is.meant indexes))
+            (record { typed = is.accepted indexes caller t; answer = is_answer (from places) filter (shown ∷ []) (overlay db []) (query_parameters caller t) (joined places) });
       }

@@ -15,7 +15,7 @@ use Rattle.land_select_queries.proofs.Tested.{by_reference, decides_by}
 use Rattle.land_select_queries.specs.Joins.Execution.{known_or_zero}
 use Rattle.land_select_queries.specs.Lookups.RecordRows.{AreLodgedRows}
 use Rattle.land_select_queries.specs.declared.lookups.texts.TheConstants.{MUTATION_LODGED_AS}
-use Rattle.land_tables_history.specs.Standing.{stands}
+use Rattle.land_tables_history.specs.Standing.{is_current}
 use Rattle.land_tables_history.specs.declared.version.Version.{Version}
 use Rattle.land_tables_rows.proofs.CellReadings.{kept_is}
 use Rattle.land_tables_rows.proofs.Stepping.{same_value, stepped}
@@ -81,7 +81,7 @@ module _ (r : Row) (v : Version (ℕ × MutationRecord)) (e : mutations.said (mu
       (it.0, (it.1.0, (it.1.1.0, (reference_is, it.1.1.1.1))))
 
   -- a row of a mutation passes if the mutation is current and was lodged so
-  pub tests : (lodger : ℕ) (reference : List ℕ) (t : ℤ) → passes filter (asked lodger t reference) r ≡ (stands t v && is_lodged_as lodger reference v.what.1)
+  pub tests : (lodger : ℕ) (reference : List ℕ) (t : ℤ) → passes filter (asked lodger t reference) r ≡ (is_current t v && is_lodged_as lodger reference v.what.1)
   tests lodger reference t =
       by_reference (passes filter (asked lodger t reference) r) v.what.1.lodger lodger v.what.1.reference reference t v.since v.until (shows place.mutations r v e).1.0
       (decides_by filter (asked lodger t reference) shape r fits refl)

@@ -22,7 +22,7 @@ use Rattle.land_select_queries.proofs.Standing.{entry_found, entry_there, listed
 use Rattle.land_select_queries.specs.Sights.Selections.{IsCurrent}
 use Rattle.land_tables_history.specs.Groups.{group_members}
 use Rattle.land_tables_history.specs.History.{IsRegisterAt, named_units, namings_of}
-use Rattle.land_tables_history.specs.Standing.{standing}
+use Rattle.land_tables_history.specs.Standing.{current_values}
 use Rattle.land_tables_history.specs.declared.group_member.GroupMember.{GroupMember}
 use Rattle.land_tables_history.specs.declared.history.History.{History}
 use Rattle.land_tables_history.specs.declared.naming.Naming.{Naming}
@@ -66,7 +66,7 @@ module _ (r : Register) (t : ℤ) (h : History) (is : IsRegisterAt t h r) where
           let all : Contains (group_members r.members) one =
           to_flat_map (λ g. map_list (λ m. record { group = g.0; member = m }) (members_in g.1)) (map.entries r.members) (group, members) one (entry_found r.members group members at)
           (to_map (λ m. record { group = group; member = m }) (members_in members) (member_of party share) among) in
-          (one, Contains-permutation (group_members r.members) (standing t h.members) one (IsPermutation-sym (standing t h.members) (group_members r.members) is.members) all, refl, refl)
+          (one, Contains-permutation (group_members r.members) (current_values t h.members) one (IsPermutation-sym (current_values t h.members) (group_members r.members) is.members) all, refl, refl)
 
       found : (o : Option Members) → map.get r.members group ≡ o → option_map_or (λ members. has members party) o false ≡ true → Joins t h group party
       found None at has_it = absurd (false≢true has_it)
@@ -81,7 +81,7 @@ module _ (r : Register) (t : ℤ) (h : History) (is : IsRegisterAt t h r) where
 
   is_joined : (joined : GroupMember) → IsCurrent t h.members joined → is_member r joined.group joined.member.party ≡ true
   is_joined joined stands =
-      let all = Contains-permutation (standing t h.members) (group_members r.members) joined is.members stands in
+      let all = Contains-permutation (current_values t h.members) (group_members r.members) joined is.members stands in
       let of_group = from_flat_map (λ g. map_list (λ m. record { group = g.0; member = m }) (members_in g.1)) (map.entries r.members) joined all in
       let g = of_group.0 in
       let shown = from_map (λ m. record { group = g.0; member = m }) (members_in g.1) joined of_group.2 in
@@ -99,12 +99,12 @@ module _ (r : Register) (t : ℤ) (h : History) (is : IsRegisterAt t h r) where
       let all : Contains (namings_of r.mutations) (naming_of e.0 unit) =
       to_flat_map (λ m. map_list (λ unit. record { mutation = m.0; unit = unit }) (named_units m.1.content)) (map.entries r.mutations) e (naming_of e.0 unit)
       (listed t h.mutations r.mutations is.mutations e stands) (to_map (naming_of e.0) (named_units e.1.content) unit named) in
-      Contains-permutation (namings_of r.mutations) (standing t h.namings) (naming_of e.0 unit) (IsPermutation-sym (standing t h.namings) (namings_of r.mutations) is.namings) all
+      Contains-permutation (namings_of r.mutations) (current_values t h.namings) (naming_of e.0 unit) (IsPermutation-sym (current_values t h.namings) (namings_of r.mutations) is.namings) all
 
   -- a current reference has a current mutation
   pub named_by : (n : Naming) → IsCurrent t h.namings n → (e : ℕ × MutationRecord) × IsCurrent t h.mutations e × (n.mutation ≡ e.0) × Contains (named_units e.1.content) n.unit
   named_by n stands =
-      let all = Contains-permutation (standing t h.namings) (namings_of r.mutations) n is.namings stands in
+      let all = Contains-permutation (current_values t h.namings) (namings_of r.mutations) n is.namings stands in
       let of_mutation = from_flat_map (λ m. map_list (λ unit. record { mutation = m.0; unit = unit }) (named_units m.1.content)) (map.entries r.mutations) n all in
       let e = of_mutation.0 in
       let it = from_map (naming_of e.0) (named_units e.1.content) n of_mutation.2 in

@@ -7,7 +7,7 @@ use Rattle.land_select_queries.proofs.Known.{caller, same, still, word}
 use Rattle.land_select_queries.proofs.Places.{IsWithin, Place, What, as_stored, mutations, names, parties, row_of, units, versions}
 use Rattle.land_select_queries.proofs.Selected.{IsVersion, of, stood, undecided, version}
 use Rattle.land_select_queries.proofs.Sets.{plainly}
-use Rattle.land_select_queries.specs.Joins.Meaning.{given}
+use Rattle.land_select_queries.specs.Joins.Meaning.{query_parameters}
 use Rattle.land_select_queries.specs.Joins.Execution.{known_or_zero}
 use Rattle.land_select_queries.specs.Lookups.Numbers.{AreColumnRows, yields}
 use Rattle.land_select_queries.specs.Lookups.Texts.{column_text_of}
@@ -166,7 +166,7 @@ abbrev pub query_of : ColumnLookup → Query
 query_of l = plainly (from (places_of l)) (filter_of l) (shown_of l ∷ [])
 
 -- the result of a lookup's statement has the rows of the lookup
-pub are_rows_of : (l : ColumnLookup) (number : ℕ) (t : ℤ) (db : Trees) (rows : List Row) → IsAnswer (query_of l) (overlay db []) (given (known_or_zero number) t) rows → AreColumnRows l number t db rows
+pub are_rows_of : (l : ColumnLookup) (number : ℕ) (t : ℤ) (db : Trees) (rows : List Row) → IsAnswer (query_of l) (overlay db []) (query_parameters (known_or_zero number) t) rows → AreColumnRows l number t db rows
 are_rows_of l number t db rows a moments h held =
     let asked = known_or_zero number in
     let ps = places_of l in

@@ -19,43 +19,43 @@ use Rattle.land_select_queries.proofs.Records.{passes_filter}
 use Rattle.land_select_queries.proofs.Standing.{entry_found, entry_there}
 use Rattle.land_tables_history.proofs.Permutations.{filter_permuted}
 use Rattle.land_tables_history.specs.Groups.{AreGroupsAt, HaveMembers, group_members}
-use Rattle.land_tables_history.specs.Standing.{AreMandatesAt, AreRolesAt, IsPartAt, stands, standing}
+use Rattle.land_tables_history.specs.Standing.{AreMandatesAt, AreRolesAt, IsPartAt, is_current, current_values}
 use Rattle.land_tables_history.specs.declared.group_member.GroupMember.{GroupMember}
 use Rattle.land_tables_history.specs.declared.version.Version.{Version}
 
 module _ {X : Type 0} (t : ℤ) (meant : X → Bool) where
   abbrev test : Version X → Bool
-  test v = stands t v && meant v.what
+  test v = is_current t v && meant v.what
 
   abbrev whats : List (Version X) → List X
   whats vs = map (λ (v : Version X). v.what) vs
 
   -- all decoded versions are current
-  kept_twice : (versions : List (Version X)) → standing t (filter test versions) ≡ filter meant (standing t versions)
+  kept_twice : (versions : List (Version X)) → current_values t (filter test versions) ≡ filter meant (current_values t versions)
   kept_twice [] = refl
-  kept_twice (v ∷ vs) = go (stands t v) (meant v.what) refl refl (kept_twice vs)
+  kept_twice (v ∷ vs) = go (is_current t v) (meant v.what) refl refl (kept_twice vs)
     where
-      go : (a b : Bool) → stands t v ≡ a → meant v.what ≡ b → standing t (filter test vs) ≡ filter meant (standing t vs)
-          → whats (filter (stands t) (cond (a && b) (v ∷ filter test vs) (filter test vs))) ≡ filter meant (whats (cond a (v ∷ filter (stands t) vs) (filter (stands t) vs)))
+      go : (a b : Bool) → is_current t v ≡ a → meant v.what ≡ b → current_values t (filter test vs) ≡ filter meant (current_values t vs)
+          → whats (filter (is_current t) (cond (a && b) (v ∷ filter test vs) (filter test vs))) ≡ filter meant (whats (cond a (v ∷ filter (is_current t) vs) (filter (is_current t) vs)))
       go true true is says rest =
-          ap (λ b. whats (cond b (v ∷ filter (stands t) (filter test vs)) (filter (stands t) (filter test vs)))) is ∙ ap (λ m. v.what ∷ m) rest
-          ∙ sym (ap (λ b. cond b (v.what ∷ filter meant (standing t vs)) (filter meant (standing t vs))) says)
-      go true false is says rest = rest ∙ sym (ap (λ b. cond b (v.what ∷ filter meant (standing t vs)) (filter meant (standing t vs))) says)
+          ap (λ b. whats (cond b (v ∷ filter (is_current t) (filter test vs)) (filter (is_current t) (filter test vs)))) is ∙ ap (λ m. v.what ∷ m) rest
+          ∙ sym (ap (λ b. cond b (v.what ∷ filter meant (current_values t vs)) (filter meant (current_values t vs))) says)
+      go true false is says rest = rest ∙ sym (ap (λ b. cond b (v.what ∷ filter meant (current_values t vs)) (filter meant (current_values t vs))) says)
       go false b is says rest = rest
 
   -- if the current versions represent a part, the decoded ones represent its matching part
-  pub stand_of : (versions : List (Version X)) (items : List X) → IsPermutation (standing t versions) items
-      → (found : List (Version X)) → IsPermutation found (filter (λ v. stands t v && meant v.what) versions) → IsPermutation (standing t found) (filter meant items)
+  pub stand_of : (versions : List (Version X)) (items : List X) → IsPermutation (current_values t versions) items
+      → (found : List (Version X)) → IsPermutation found (filter (λ v. is_current t v && meant v.what) versions) → IsPermutation (current_values t found) (filter meant items)
   stand_of versions items part found are =
-      IsPermutation-trans (standing t found) (standing t (filter test versions)) (filter meant items)
-      (IsPermutation-map (λ (v : Version X). v.what) (filter (stands t) found) (filter (stands t) (filter test versions)) (filter_permuted (stands t) found (filter test versions) are))
-      (subst (λ m. IsPermutation m (filter meant items)) (sym (kept_twice versions)) (filter_permuted meant (standing t versions) items part))
+      IsPermutation-trans (current_values t found) (current_values t (filter test versions)) (filter meant items)
+      (IsPermutation-map (λ (v : Version X). v.what) (filter (is_current t) found) (filter (is_current t) (filter test versions)) (filter_permuted (is_current t) found (filter test versions) are))
+      (subst (λ m. IsPermutation m (filter meant items)) (sym (kept_twice versions)) (filter_permuted meant (current_values t versions) items part))
 
 -- records
 pub part_found : {V : Type 0} (t : ℤ) (p : ℕ → V → Bool) (versions : List (Version (ℕ × V))) (m : FinMap nat_cmp V) → IsPartAt t versions m
-    → (found : List (Version (ℕ × V))) → IsPermutation found (filter (λ v. stands t v && p v.what.0 v.what.1) versions) → IsPartAt t found (entries_where p m)
+    → (found : List (Version (ℕ × V))) → IsPermutation found (filter (λ v. is_current t v && p v.what.0 v.what.1) versions) → IsPartAt t found (entries_where p m)
 part_found t p versions m part found are =
-    subst (IsPermutation (standing t found)) (sym (entries-entries_where nat_cmp_total nat_cmp-IsAntisymmetric p m)) (stand_of t (λ e. p e.0 e.1) versions (finite.entries m) part found are)
+    subst (IsPermutation (current_values t found)) (sym (entries-entries_where nat_cmp_total nat_cmp-IsAntisymmetric p m)) (stand_of t (λ e. p e.0 e.1) versions (finite.entries m) part found are)
 
 -- roles
 
@@ -73,9 +73,9 @@ unfolding grants_in
 grants_kept q grants = ap (map (λ e. e.0)) (entries-entries_where grants_total exact_grants (λ g u. q g) grants) ∙ first_kept q (finite.entries grants)
 
 pub roles_found : (t : ℤ) (q : Grant → Bool) (versions : List (Version Grant)) (grants : Grants) → AreRolesAt t versions grants
-    → (found : List (Version Grant)) → IsPermutation found (filter (λ v. stands t v && q v.what) versions) → AreRolesAt t found (entries_where (λ g u. q g) grants)
+    → (found : List (Version Grant)) → IsPermutation found (filter (λ v. is_current t v && q v.what) versions) → AreRolesAt t found (entries_where (λ g u. q g) grants)
 roles_found t q versions grants part found are =
-    subst (IsPermutation (standing t found)) (sym (grants_kept q grants)) (stand_of t q versions (grants_in grants) part found are)
+    subst (IsPermutation (current_values t found)) (sym (grants_kept q grants)) (stand_of t q versions (grants_in grants) part found are)
 
 -- mandates, likewise
 
@@ -84,9 +84,9 @@ unfolding mandates_in
 mandates_kept q mandates = ap (map (λ e. e.0)) (entries-entries_where mandates_total exact_mandates (λ m u. q m) mandates) ∙ first_kept q (finite.entries mandates)
 
 pub mandates_found : (t : ℤ) (q : Mandate → Bool) (versions : List (Version Mandate)) (mandates : Mandates) → AreMandatesAt t versions mandates
-    → (found : List (Version Mandate)) → IsPermutation found (filter (λ v. stands t v && q v.what) versions) → AreMandatesAt t found (entries_where (λ m u. q m) mandates)
+    → (found : List (Version Mandate)) → IsPermutation found (filter (λ v. is_current t v && q v.what) versions) → AreMandatesAt t found (entries_where (λ m u. q m) mandates)
 mandates_found t q versions mandates part found are =
-    subst (IsPermutation (standing t found)) (sym (mandates_kept q mandates)) (stand_of t q versions (mandates_in mandates) part found are)
+    subst (IsPermutation (current_values t found)) (sym (mandates_kept q mandates)) (stand_of t q versions (mandates_in mandates) part found are)
 
 -- groups
 
@@ -132,11 +132,11 @@ module _ (q : ℕ → Bool) where
       go false h = h
 
   pub groups_found : (t : ℤ) (versions : List (Version GroupMember)) (groups : FinMap nat_cmp Members) → AreGroupsAt t versions groups
-      → (found : List (Version GroupMember)) → IsPermutation found (filter (λ v. stands t v && q v.what.group) versions) → AreGroupsAt t found (entries_where (λ n members. q n) groups)
+      → (found : List (Version GroupMember)) → IsPermutation found (filter (λ v. is_current t v && q v.what.group) versions) → AreGroupsAt t found (entries_where (λ n members. q n) groups)
   groups_found t versions groups part found are =
       let all : filter joins (group_members groups) ≡ group_members (entries_where (λ n members. q n) groups) =
       groups_kept (finite.entries groups) ∙ ap (flat_map listed) (sym (entries-entries_where nat_cmp_total nat_cmp-IsAntisymmetric (λ n members. q n) groups)) in
-      subst (IsPermutation (standing t found)) all (stand_of t joins versions (group_members groups) part found are)
+      subst (IsPermutation (current_values t found)) all (stand_of t joins versions (group_members groups) part found are)
 
   -- the groups of a filtered map have their members
   pub still_have : (groups : FinMap nat_cmp Members) → HaveMembers groups → HaveMembers (entries_where (λ n members. q n) groups)

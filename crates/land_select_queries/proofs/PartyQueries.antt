@@ -19,7 +19,7 @@ use Rattle.land_select_queries.proofs.Shapes.{AreShapes, SayAll, all_decided, is
 use Rattle.land_select_queries.proofs.Standing.{some_decides, stood as standing_under, there}
 use Rattle.land_select_queries.proofs.RangeQueries.{asked, in_range, ranged}
 use Rattle.land_select_queries.proofs.Tested.{asked_is, itself}
-use Rattle.land_select_queries.specs.Joins.Meaning.{given}
+use Rattle.land_select_queries.specs.Joins.Meaning.{query_parameters}
 use Rattle.land_select_queries.specs.Joins.Execution.{HoldsNoHistory, known_or_zero}
 use Rattle.land_select_queries.specs.Lookups.Parties.{ArePartiesAmong, ArePartyRows, HasEntry, YieldParties, has_entry_among, of_range, of_unit}
 use Rattle.land_select_queries.specs.Sights.Selections.{Entry, IsCurrent}
@@ -121,17 +121,17 @@ pub asks_unit : (indexes : List Index) → Asks (schema_v2_with indexes) PARTIES
 unfolding understood everything
 asks_unit indexes = record { names = codes "number" ∷ codes "name" ∷ codes "kind" ∷ codes "since" ∷ codes "until" ∷ []; command = refl; unlisted = refl; plain = (refl, refl) }
 
-unit_pairs : (unit : ℕ) (t : ℤ) → Pairs t (of_unit unit) unit_filter (given (known_or_zero unit) t)
+unit_pairs : (unit : ℕ) (t : ℤ) → Pairs t (of_unit unit) unit_filter (query_parameters (known_or_zero unit) t)
 unit_pairs unit t e p one other is its =
-    let params = given (known_or_zero unit) t in
+    let params = query_parameters (known_or_zero unit) t in
     let asked = asked_is e.what.1.unit unit is.1.2 in
     Decides-like (list_all (holds (params ∷ one ∷ other ∷ [])) unit_filter) (λ h. (h.0, (asked.1 h.1.0, h.1.1))) (λ h. (h.0, (asked.0 h.1.0, h.1.1)))
     (all_decided unit_filter (params ∷ shape place.rrrs e ∷ shape place.parties p ∷ []) (params ∷ one ∷ other ∷ [])
     (shape_itself params, (is_shape (shape place.rrrs e) one is.0, (is_shape (shape place.parties p) other its.0, tt))) refl)
 
-pub are_unit_rows : (unit : ℕ) (t : ℤ) (db : Trees) (rows : List Row) → IsAnswer unit_query (overlay db []) (given (known_or_zero unit) t) rows → ArePartyRows (of_unit unit) t db rows
+pub are_unit_rows : (unit : ℕ) (t : ℤ) (db : Trees) (rows : List Row) → IsAnswer unit_query (overlay db []) (query_parameters (known_or_zero unit) t) rows → ArePartyRows (of_unit unit) t db rows
 are_unit_rows unit t db rows a moments h held =
-    let params = given (known_or_zero unit) t in
+    let params = query_parameters (known_or_zero unit) t in
     record { each = said_so t (of_unit unit) unit_filter params (unit_pairs unit t) db moments h held rows a; all = is_said t (of_unit unit) unit_filter params (unit_pairs unit t) db moments h held rows a }
 
 -- ---- the entries in a range

@@ -11,7 +11,7 @@ use Rattle.land_core.proofs.Reflection.{get-entries_where}
 use Rattle.land_core.specs.Entries.{entries_where}
 use Rattle.land_core.specs.Grants.{Grants, grant_of, has_grant}
 use Rattle.land_core.specs.Members.{Members, members_in}
-use Rattle.land_core.specs.Register.{nothing, object_at}
+use Rattle.land_core.specs.Register.{empty_register, object_at}
 use Rattle.land_core.specs.Role.{all_roles}
 use Rattle.land_core.specs.declared.kind.Kind.TheVariants as kinds
 use Rattle.land_core.specs.declared.object.Object.TheVariants as object
@@ -24,7 +24,7 @@ filter_alike p q same (x ∷ xs) = ap₂ (λ b rest. cond b (x ∷ rest) rest) (
 
 module _ (r : Register) (n : ℕ) where
   pub by_its_own : (found : PartyRecord) (roles : Grants) (members : FinMap nat_cmp Members) → roles ≡ entries_where (λ grant u. nat_eq grant.party n) r.roles → members ≡ entries_where (λ k ms. nat_eq k n) r.members
-      → object_at (record nothing { parties = map.insert map.empty n found; roles = roles; members = members }) kinds.Party n ≡ object_at (record r { parties = map.insert map.empty n found }) kinds.Party n
+      → object_at (record empty_register { parties = map.insert map.empty n found; roles = roles; members = members }) kinds.Party n ≡ object_at (record r { parties = map.insert map.empty n found }) kinds.Party n
   by_its_own found roles members are_roles are_members =
       let group : map.get members n ≡ map.get r.members n = ap (λ m. map.get m n) are_members ∙ get-entries_where nat_cmp_total nat_cmp-IsAntisymmetric (λ k ms. nat_eq k n) r.members n (λ v. nat_eq_equiv.refl n) in
       let held : filter (λ role. has_grant roles (grant_of n role)) all_roles ≡ filter (λ role. has_grant r.roles (grant_of n role)) all_roles =

@@ -83,20 +83,20 @@ What names = Naming
 What mandates = Mandate
 
 -- the decoder of its rows
-abbrev pub reading : (p : Place) → Reading (What p)
-reading parties = party.parties
-reading roles = role.roles
-reading members = member.members
-reading units = unit.units
-reading parcels = parcel.parcels
-reading rrrs = rrr.rrrs
-reading sources = source.sources
-reading mutations = mutation.mutations
-reading names = naming.namings
-reading mandates = mandate.mandates
+abbrev pub row_decoder : (p : Place) → Reading (What p)
+row_decoder parties = party.parties
+row_decoder roles = role.roles
+row_decoder members = member.members
+row_decoder units = unit.units
+row_decoder parcels = parcel.parcels
+row_decoder rrrs = rrr.rrrs
+row_decoder sources = source.sources
+row_decoder mutations = mutation.mutations
+row_decoder names = naming.namings
+row_decoder mandates = mandate.mandates
 
 abbrev pub tree : Place → ℕ
-tree p = (reading p).table.tree
+tree p = (row_decoder p).table.tree
 
 abbrev pub versions : (p : Place) → History → List (Version (What p))
 versions parties h = h.parties
@@ -110,7 +110,7 @@ versions mutations h = h.mutations
 versions names h = h.namings
 versions mandates h = h.mandates
 
-pub keeps : (db : Trees) (moments : List Moment) (h : History) → HoldsHistory db moments h → (p : Place) → Keeps (reading p) db (versions p h)
+pub keeps : (db : Trees) (moments : List Moment) (h : History) → HoldsHistory db moments h → (p : Place) → Keeps (row_decoder p) db (versions p h)
 keeps db moments h held parties = held.the_parties
 keeps db moments h held roles = held.the_roles
 keeps db moments h held members = held.the_members
@@ -174,7 +174,7 @@ abbrev pub IsOf : (p : Place) → Version (What p) → Row → Type 0
 IsOf p v r = Fits (shape p v) 0 r × IsWithin p v
 
 abbrev pub Shows : Place → Type 0
-Shows p = (r : Row) (v : Version (What p)) → (reading p).said (columns_from 1 (reading p).width r) ≡ Ok v → IsOf p v r
+Shows p = (r : Row) (v : Version (What p)) → (row_decoder p).said (columns_from 1 (row_decoder p).width r) ≡ Ok v → IsOf p v r
 
 a_party : Shows parties
 unfolding party_in
@@ -418,17 +418,17 @@ module _ (db : Trees) (moments : List Moment) (h : History) (held : HoldsHistory
   -- each row decodes to a version
   pub version_of : (p : Place) (r : Row) → Has (db (tree p)) r → (v : Version (What p)) × Has (versions p h) v × IsOf p v r
   version_of p r has =
-      let it = said_by (reading p) db (versions p h) (keeps db moments h held p) r has in
+      let it = said_by (row_decoder p) db (versions p h) (keeps db moments h held p) r has in
       (it.0, it.1, shows p r it.0 it.2)
 
-  pub read_of : (p : Place) (r : Row) → Has (db (tree p)) r → (v : Version (What p)) × Has (versions p h) v × ((reading p).said (columns_from 1 (reading p).width r) ≡ Ok v)
-  read_of p r has = said_by (reading p) db (versions p h) (keeps db moments h held p) r has
+  pub read_of : (p : Place) (r : Row) → Has (db (tree p)) r → (v : Version (What p)) × Has (versions p h) v × ((row_decoder p).said (columns_from 1 (row_decoder p).width r) ≡ Ok v)
+  read_of p r has = said_by (row_decoder p) db (versions p h) (keeps db moments h held p) r has
 
   -- and each version has a row
-  pub read_back : (p : Place) (v : Version (What p)) → Has (versions p h) v → (r : Row) × Has (db (tree p)) r × ((reading p).said (columns_from 1 (reading p).width r) ≡ Ok v)
-  read_back p v has = says_it (reading p) db (versions p h) (keeps db moments h held p) v has
+  pub read_back : (p : Place) (v : Version (What p)) → Has (versions p h) v → (r : Row) × Has (db (tree p)) r × ((row_decoder p).said (columns_from 1 (row_decoder p).width r) ≡ Ok v)
+  read_back p v has = says_it (row_decoder p) db (versions p h) (keeps db moments h held p) v has
 
   pub row_of : (p : Place) (v : Version (What p)) → Has (versions p h) v → (r : Row) × Has (db (tree p)) r × IsOf p v r
   row_of p v has =
-      let it = says_it (reading p) db (versions p h) (keeps db moments h held p) v has in
+      let it = says_it (row_decoder p) db (versions p h) (keeps db moments h held p) v has in
       (it.0, it.1, shows p it.0 v it.2)

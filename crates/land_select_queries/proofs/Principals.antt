@@ -11,13 +11,13 @@ use Rattle.land_select_queries.proofs.Containing.{first, first_or_later, in_noth
 use Rattle.land_select_queries.proofs.Records.{found_of}
 use Rattle.land_select_queries.proofs.United.{contains_both}
 use Rattle.land_tables_history.specs.History.{IsRegisterAt}
-use Rattle.land_tables_history.specs.Standing.{stands}
+use Rattle.land_tables_history.specs.Standing.{is_current}
 use Rattle.land_tables_history.specs.declared.history.History.{History}
 use Rattle.land_tables_history.specs.declared.version.Version.{Version}
 use Rattle.sqlite_keyed.proofs.ListLemmas.{map-map}
 
 -- of the current mandates, those of an agent are returned, and their principals are the agent's
-pub are_principals : (r : Register) (t : ℤ) (h : History) → IsRegisterAt t h r → (agent : ℕ) (found : List (Version Mandate)) → IsPermutation found (filter (λ v. stands t v && nat_eq v.what.agent agent) h.mandates)
+pub are_principals : (r : Register) (t : ℤ) (h : History) → IsRegisterAt t h r → (agent : ℕ) (found : List (Version Mandate)) → IsPermutation found (filter (λ v. is_current t v && nat_eq v.what.agent agent) h.mandates)
     → (numbers : List ℕ) → numbers ≡ map_list (λ (v : Version Mandate). v.what.principal) found → IsPermutation numbers (principals_of r agent)
 are_principals r t h is agent found are numbers all =
     let whats : List Mandate = map_list (λ (v : Version Mandate). v.what) found in

@@ -4,13 +4,13 @@ use Rattle.land_select_queries.proofs.Joined.{Asks}
 use Rattle.land_select_queries.proofs.Known.{caller, same, still, word}
 use Rattle.land_select_queries.proofs.Places.{mandates, members, mutations, parcels, parties, roles, rrrs, shows, sources, units}
 use Rattle.land_select_queries.proofs.Tested.{by_number, by_role, decides}
-use Rattle.land_select_queries.specs.Joins.Meaning.{given}
+use Rattle.land_select_queries.specs.Joins.Meaning.{query_parameters}
 use Rattle.land_select_queries.specs.Joins.Execution.{known_or_zero}
 use Rattle.land_select_queries.specs.Lookups.RecordRows.{LookupItem, is_meant, listing_of}
 use Rattle.land_select_queries.specs.Lookups.Texts.{text_of}
 use Rattle.land_select_queries.specs.declared.lookups.record_lookup.RecordLookup.{RecordLookup}
 use Rattle.land_select_queries.specs.declared.lookups.record_lookup.RecordLookup.TheVariants as record_lookup
-use Rattle.land_tables_history.specs.Standing.{stands}
+use Rattle.land_tables_history.specs.Standing.{is_current}
 use Rattle.land_tables_history.specs.declared.version.Version.{Version}
 use Rattle.land_tables_schema.proofs.Updates.{passes, plainly}
 use Rattle.land_tables_schema.proofs.Versions.{columns_of}
@@ -105,28 +105,28 @@ shown record_lookup.Administrators params r = refl
 
 -- a row of a version passes if the version is current and matches
 pub tests : (l : RecordLookup) (r : Row) (v : Version (LookupItem l)) → (listing_of l).said ((listing_of l).shown r) ≡ Ok v → (number : ℕ) (t : ℤ)
-    → passes (filter_of l) (given (known_or_zero number) t) r ≡ (stands t v && is_meant l number v.what)
+    → passes (filter_of l) (query_parameters (known_or_zero number) t) r ≡ (is_current t v && is_meant l number v.what)
 tests record_lookup.Party r v e number t =
-    by_number (passes (filter_of record_lookup.Party) (given (known_or_zero number) t) r) v.what.0 number t v.since v.until (shows parties r v e).1 (decides parties r v e (known_or_zero number) t (filter_of record_lookup.Party) refl)
+    by_number (passes (filter_of record_lookup.Party) (query_parameters (known_or_zero number) t) r) v.what.0 number t v.since v.until (shows parties r v e).1 (decides parties r v e (known_or_zero number) t (filter_of record_lookup.Party) refl)
 tests record_lookup.Unit r v e number t =
-    by_number (passes (filter_of record_lookup.Unit) (given (known_or_zero number) t) r) v.what.0 number t v.since v.until (shows units r v e).1 (decides units r v e (known_or_zero number) t (filter_of record_lookup.Unit) refl)
+    by_number (passes (filter_of record_lookup.Unit) (query_parameters (known_or_zero number) t) r) v.what.0 number t v.since v.until (shows units r v e).1 (decides units r v e (known_or_zero number) t (filter_of record_lookup.Unit) refl)
 tests record_lookup.Parcel r v e number t =
-    by_number (passes (filter_of record_lookup.Parcel) (given (known_or_zero number) t) r) v.what.0 number t v.since v.until (shows parcels r v e).1.0 (decides parcels r v e (known_or_zero number) t (filter_of record_lookup.Parcel) refl)
+    by_number (passes (filter_of record_lookup.Parcel) (query_parameters (known_or_zero number) t) r) v.what.0 number t v.since v.until (shows parcels r v e).1.0 (decides parcels r v e (known_or_zero number) t (filter_of record_lookup.Parcel) refl)
 tests record_lookup.Entry r v e number t =
-    by_number (passes (filter_of record_lookup.Entry) (given (known_or_zero number) t) r) v.what.0 number t v.since v.until (shows rrrs r v e).1.1 (decides rrrs r v e (known_or_zero number) t (filter_of record_lookup.Entry) refl)
+    by_number (passes (filter_of record_lookup.Entry) (query_parameters (known_or_zero number) t) r) v.what.0 number t v.since v.until (shows rrrs r v e).1.1 (decides rrrs r v e (known_or_zero number) t (filter_of record_lookup.Entry) refl)
 tests record_lookup.Source r v e number t =
-    by_number (passes (filter_of record_lookup.Source) (given (known_or_zero number) t) r) v.what.0 number t v.since v.until (shows sources r v e).1 (decides sources r v e (known_or_zero number) t (filter_of record_lookup.Source) refl)
+    by_number (passes (filter_of record_lookup.Source) (query_parameters (known_or_zero number) t) r) v.what.0 number t v.since v.until (shows sources r v e).1 (decides sources r v e (known_or_zero number) t (filter_of record_lookup.Source) refl)
 tests record_lookup.Mutation r v e number t =
-    by_number (passes (filter_of record_lookup.Mutation) (given (known_or_zero number) t) r) v.what.0 number t v.since v.until (shows mutations r v e).1.1 (decides mutations r v e (known_or_zero number) t (filter_of record_lookup.Mutation) refl)
+    by_number (passes (filter_of record_lookup.Mutation) (query_parameters (known_or_zero number) t) r) v.what.0 number t v.since v.until (shows mutations r v e).1.1 (decides mutations r v e (known_or_zero number) t (filter_of record_lookup.Mutation) refl)
 tests record_lookup.ParcelsOfUnit r v e number t =
-    by_number (passes (filter_of record_lookup.ParcelsOfUnit) (given (known_or_zero number) t) r) v.what.1.unit number t v.since v.until (shows parcels r v e).1.1 (decides parcels r v e (known_or_zero number) t (filter_of record_lookup.ParcelsOfUnit) refl)
+    by_number (passes (filter_of record_lookup.ParcelsOfUnit) (query_parameters (known_or_zero number) t) r) v.what.1.unit number t v.since v.until (shows parcels r v e).1.1 (decides parcels r v e (known_or_zero number) t (filter_of record_lookup.ParcelsOfUnit) refl)
 tests record_lookup.EntriesOfUnit r v e number t =
-    by_number (passes (filter_of record_lookup.EntriesOfUnit) (given (known_or_zero number) t) r) v.what.1.unit number t v.since v.until (shows rrrs r v e).1.2 (decides rrrs r v e (known_or_zero number) t (filter_of record_lookup.EntriesOfUnit) refl)
+    by_number (passes (filter_of record_lookup.EntriesOfUnit) (query_parameters (known_or_zero number) t) r) v.what.1.unit number t v.since v.until (shows rrrs r v e).1.2 (decides rrrs r v e (known_or_zero number) t (filter_of record_lookup.EntriesOfUnit) refl)
 tests record_lookup.RolesOfParty r v e number t =
-    by_number (passes (filter_of record_lookup.RolesOfParty) (given (known_or_zero number) t) r) v.what.party number t v.since v.until (shows roles r v e).1 (decides roles r v e (known_or_zero number) t (filter_of record_lookup.RolesOfParty) refl)
+    by_number (passes (filter_of record_lookup.RolesOfParty) (query_parameters (known_or_zero number) t) r) v.what.party number t v.since v.until (shows roles r v e).1 (decides roles r v e (known_or_zero number) t (filter_of record_lookup.RolesOfParty) refl)
 tests record_lookup.MembersOfGroup r v e number t =
-    by_number (passes (filter_of record_lookup.MembersOfGroup) (given (known_or_zero number) t) r) v.what.group number t v.since v.until (shows members r v e).1.1 (decides members r v e (known_or_zero number) t (filter_of record_lookup.MembersOfGroup) refl)
+    by_number (passes (filter_of record_lookup.MembersOfGroup) (query_parameters (known_or_zero number) t) r) v.what.group number t v.since v.until (shows members r v e).1.1 (decides members r v e (known_or_zero number) t (filter_of record_lookup.MembersOfGroup) refl)
 tests record_lookup.MandatesOfAgent r v e number t =
-    by_number (passes (filter_of record_lookup.MandatesOfAgent) (given (known_or_zero number) t) r) v.what.agent number t v.since v.until (shows mandates r v e).1.1 (decides mandates r v e (known_or_zero number) t (filter_of record_lookup.MandatesOfAgent) refl)
+    by_number (passes (filter_of record_lookup.MandatesOfAgent) (query_parameters (known_or_zero number) t) r) v.what.agent number t v.since v.until (shows mandates r v e).1.1 (decides mandates r v e (known_or_zero number) t (filter_of record_lookup.MandatesOfAgent) refl)
 tests record_lookup.Administrators r v e number t =
-    by_role (passes (filter_of record_lookup.Administrators) (given (known_or_zero number) t) r) v.what.role t v.since v.until (decides roles r v e (known_or_zero number) t (filter_of record_lookup.Administrators) refl)
+    by_role (passes (filter_of record_lookup.Administrators) (query_parameters (known_or_zero number) t) r) v.what.role t v.since v.until (decides roles r v e (known_or_zero number) t (filter_of record_lookup.Administrators) refl)

@@ -13,7 +13,7 @@ use Rattle.land_select_queries.proofs.Places.{shape, shows}
 use Rattle.land_select_queries.proofs.Records.{are_rows}
 use Rattle.land_select_queries.proofs.Tested.{Lives, decides_by, itself, meant_lives}
 use Rattle.land_select_queries.specs.Lookups.Ranges.{AreRowsWithin, Recorded, is_within, listing_of, text_within}
-use Rattle.land_tables_history.specs.Standing.{stands}
+use Rattle.land_tables_history.specs.Standing.{is_current}
 use Rattle.land_tables_history.specs.declared.version.Version.{Version}
 use Rattle.land_tables_schema.proofs.Updates.{passes, plainly}
 use Rattle.land_tables_schema.proofs.Versions.{columns_of}
@@ -145,7 +145,7 @@ by_range b key first last t since until within passes =
 
 -- a row of a version passes if the version is current and its number is in the range
 tests : (k : Kind) (r : Row) (v : Version (ℕ × Recorded k)) → (listing_of k).said ((listing_of k).shown r) ≡ Ok v → (first last : ℕ) (t : ℤ)
-    → passes (filter_of k) (asked first last t) r ≡ (stands t v && is_within first last v.what.0)
+    → passes (filter_of k) (asked first last t) r ≡ (is_current t v && is_within first last v.what.0)
 tests kind.Party r v e first last t =
     by_range (passes (filter_of kind.Party) (asked first last t) r) v.what.0 first last t v.since v.until (shows place.parties r v e).1
     (decides_by (filter_of kind.Party) (asked first last t) (shape place.parties v) r (shows place.parties r v e).0 refl)

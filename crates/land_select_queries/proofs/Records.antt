@@ -11,14 +11,14 @@ use Rattle.land_select_queries.proofs.Containing.{first_or_later, in_nothing, la
 use Rattle.land_select_queries.proofs.Passing.{passing_said, some_said}
 use Rattle.land_select_queries.proofs.Queries.{filter_of, project_of, query_of, shown, stored, tests}
 use Rattle.land_select_queries.proofs.Standing.{entry_found, entry_there}
-use Rattle.land_select_queries.specs.Joins.Meaning.{given}
+use Rattle.land_select_queries.specs.Joins.Meaning.{query_parameters}
 use Rattle.land_select_queries.specs.Joins.Execution.{HoldsNoHistory, HoldsOfHistory, known_or_zero}
 use Rattle.land_select_queries.specs.Lookups.RecordRows.{AreRows, AreRowsOf, AreReadFrom, AreReadByLookup, LookupCannotBeRead, CannotBeRead, LookupItem, IsOneOf, is_meant, listing_of, matching_versions}
 use Rattle.land_select_queries.specs.Lookups.Numbered.{IsFoundBy}
 use Rattle.land_select_queries.specs.Lookups.Parts.{ReadsPart}
 use Rattle.land_select_queries.specs.declared.lookups.record_lookup.RecordLookup.{RecordLookup}
 use Rattle.land_tables_history.proofs.Permutations.{filter_permuted}
-use Rattle.land_tables_history.specs.Standing.{IsPartAt, stands, standing}
+use Rattle.land_tables_history.specs.Standing.{IsPartAt, is_current, current_values}
 use Rattle.land_tables_history.specs.declared.history.History.{History}
 use Rattle.land_tables_history.specs.declared.version.Version.{Version}
 use Rattle.land_tables_rows.proofs.Readings.{each_all}
@@ -40,7 +40,7 @@ use Rattle.sqlite_value.specs.Order.{Row}
 -- a query of one table returns the decoded columns of a row, and tests if its version is current and matches
 module _ {X : Type 0} (listing : Listing (Version X)) (terms columns : List Term) (params : Row) (meant : X → Bool) (t : ℤ) (db : Trees)
     (same_rows : overlay db [] listing.table.tree ≡ db listing.table.tree) (same_cells : (r : Row) → eval_all columns (params ∷ r ∷ []) ≡ listing.shown r)
-    (tested : (r : Row) (v : Version X) → listing.said (listing.shown r) ≡ Ok v → passes terms params r ≡ (stands t v && meant v.what)) (rows : List Row) where
+    (tested : (r : Row) (v : Version X) → listing.said (listing.shown r) ≡ Ok v → passes terms params r ≡ (is_current t v && meant v.what)) (rows : List Row) where
   abbrev passing : Row → Bool
   passing r = passes terms params r
 
@@ -63,12 +63,12 @@ module _ {X : Type 0} (listing : Listing (Version X)) (terms columns : List Term
       subst (λ m. IsPermutation m (map listing.said rows)) (map-map listing.said listing.shown (filter passing whole)) (IsPermutation-map listing.said (map listing.shown (filter passing whole)) rows (answered a)) in
       IsPermutation-trans (map listing.said rows) (map said_of (filter passing whole)) (map (λ v. Ok v) (matching_versions meant t versions))
       (IsPermutation-sym (map said_of (filter passing whole)) (map listing.said rows) answer)
-      (passing_said said_of passing (λ v. stands t v && meant v.what) tested whole versions says)
+      (passing_said said_of passing (λ v. is_current t v && meant v.what) tested whole versions says)
 
 -- the result of a lookup's statement has the rows of the lookup
-pub are_rows_of : (l : RecordLookup) (number : ℕ) (t : ℤ) (db : Trees) (rows : List Row) → IsAnswer (query_of l) (overlay db []) (given (known_or_zero number) t) rows → AreRowsOf l number t db rows
+pub are_rows_of : (l : RecordLookup) (number : ℕ) (t : ℤ) (db : Trees) (rows : List Row) → IsAnswer (query_of l) (overlay db []) (query_parameters (known_or_zero number) t) rows → AreRowsOf l number t db rows
 are_rows_of l number t db rows answer =
-    are_rows (listing_of l) (filter_of l) (project_of l) (given (known_or_zero number) t) (is_meant l number) t db (stored l db) (shown l (given (known_or_zero number) t)) (λ r v e. tests l r v e number t) rows answer
+    are_rows (listing_of l) (filter_of l) (project_of l) (query_parameters (known_or_zero number) t) (is_meant l number) t db (stored l db) (shown l (query_parameters (known_or_zero number) t)) (λ r v e. tests l r v e number t) rows answer
 
 -- the decoded values of such rows
 module _ {X : Type 0} (said : Row → Result X WireFault) (Are : List Row → Type 0) (rows : List Row) (are : Are rows) where
@@ -113,24 +113,24 @@ none_said l number t db versions says r fault same cannot =
 
 module _ {X : Type 0} (t : ℤ) (meant : X → Bool) where
   -- the matching part of the current records
-  kept : (versions : List (Version X)) → map (λ (v : Version X). v.what) (filter (λ v. stands t v && meant v.what) versions) ≡ filter meant (standing t versions)
+  kept : (versions : List (Version X)) → map (λ (v : Version X). v.what) (filter (λ v. is_current t v && meant v.what) versions) ≡ filter meant (current_values t versions)
   kept [] = refl
-  kept (v ∷ vs) = go (stands t v) (meant v.what) refl (kept vs)
+  kept (v ∷ vs) = go (is_current t v) (meant v.what) refl (kept vs)
     where
-      go : (a b : Bool) → meant v.what ≡ b → map (λ (v : Version X). v.what) (filter (λ v. stands t v && meant v.what) vs) ≡ filter meant (standing t vs)
-          → map (λ (v : Version X). v.what) (cond (a && b) (v ∷ filter (λ v. stands t v && meant v.what) vs) (filter (λ v. stands t v && meant v.what) vs))
-          ≡ filter meant (map (λ (v : Version X). v.what) (cond a (v ∷ filter (stands t) vs) (filter (stands t) vs)))
-      go true true is rest = ap (λ m. v.what ∷ m) rest ∙ sym (ap (λ b. cond b (v.what ∷ filter meant (standing t vs)) (filter meant (standing t vs))) is)
-      go true false is rest = rest ∙ sym (ap (λ b. cond b (v.what ∷ filter meant (standing t vs)) (filter meant (standing t vs))) is)
+      go : (a b : Bool) → meant v.what ≡ b → map (λ (v : Version X). v.what) (filter (λ v. is_current t v && meant v.what) vs) ≡ filter meant (current_values t vs)
+          → map (λ (v : Version X). v.what) (cond (a && b) (v ∷ filter (λ v. is_current t v && meant v.what) vs) (filter (λ v. is_current t v && meant v.what) vs))
+          ≡ filter meant (map (λ (v : Version X). v.what) (cond a (v ∷ filter (is_current t) vs) (filter (is_current t) vs)))
+      go true true is rest = ap (λ m. v.what ∷ m) rest ∙ sym (ap (λ b. cond b (v.what ∷ filter meant (current_values t vs)) (filter meant (current_values t vs))) is)
+      go true false is rest = rest ∙ sym (ap (λ b. cond b (v.what ∷ filter meant (current_values t vs)) (filter meant (current_values t vs))) is)
       go false b is rest = rest
 
   -- if the current versions represent a part, the decoded ones represent its matching part
-  pub found_of : (versions : List (Version X)) (items : List X) → IsPermutation (standing t versions) items
-      → (found : List (Version X)) → IsPermutation found (filter (λ v. stands t v && meant v.what) versions) → IsPermutation (map (λ (v : Version X). v.what) found) (filter meant items)
+  pub found_of : (versions : List (Version X)) (items : List X) → IsPermutation (current_values t versions) items
+      → (found : List (Version X)) → IsPermutation found (filter (λ v. is_current t v && meant v.what) versions) → IsPermutation (map (λ (v : Version X). v.what) found) (filter meant items)
   found_of versions items part found are =
-      IsPermutation-trans (map (λ (v : Version X). v.what) found) (filter meant (standing t versions)) (filter meant items)
-      (subst (IsPermutation (map (λ (v : Version X). v.what) found)) (kept versions) (IsPermutation-map (λ (v : Version X). v.what) found (filter (λ v. stands t v && meant v.what) versions) are))
-      (filter_permuted meant (standing t versions) items part)
+      IsPermutation-trans (map (λ (v : Version X). v.what) found) (filter meant (current_values t versions)) (filter meant items)
+      (subst (IsPermutation (map (λ (v : Version X). v.what) found)) (kept versions) (IsPermutation-map (λ (v : Version X). v.what) found (filter (λ v. is_current t v && meant v.what) versions) are))
+      (filter_permuted meant (current_values t versions) items part)
 
 -- the items of a list that pass
 module _ {X : Type 0} (p : X → Bool) where
@@ -158,7 +158,7 @@ module _ {X : Type 0} (p : X → Bool) where
 
 -- the record of a number
 module _ {V : Type 0} (t : ℤ) (versions : List (Version (ℕ × V))) (m : FinMap nat_cmp V) (part : IsPartAt t versions m) (number : ℕ) (found : List (Version (ℕ × V)))
-    (are : IsPermutation found (filter (λ v. stands t v && nat_eq v.what.0 number) versions)) where
+    (are : IsPermutation found (filter (λ v. is_current t v && nat_eq v.what.0 number) versions)) where
   under_number : IsPermutation (map (λ (v : Version (ℕ × V)). v.what) found) (filter (λ e. nat_eq e.0 number) (finite.entries m))
   under_number = found_of t (λ e. nat_eq e.0 number) versions (finite.entries m) part found are
 

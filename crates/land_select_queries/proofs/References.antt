@@ -8,7 +8,7 @@ use Rattle.land_core.proofs.FiniteMaps.{none_is_not_some}
 use Rattle.land_core.specs.Entries.{has}
 use Rattle.land_core.specs.Laws.{IsSoundByNumber, SoundnessByNumber}
 use Rattle.land_core.specs.Members.{Members}
-use Rattle.land_core.specs.Register.{has_group, has_single_party, is_member, nothing}
+use Rattle.land_core.specs.Register.{has_group, has_single_party, is_member, empty_register}
 use Rattle.land_core.specs.declared.party.PartyRecord.{PartyRecord}
 use Rattle.land_core.specs.declared.register.Register.{Register}
 use Rattle.land_fraction.specs.Ratio.{Ratio}
@@ -58,16 +58,16 @@ sound_refers r sound =
 no_record : {V X : Type 0} (n : ℕ) (v : V) → map.get {R = nat_cmp} map.empty n ≡ Some v → X
 no_record n v is = absurd (none_is_not_some (sym (map.get-empty nat_cmp n) ∙ is))
 
-nothing_refers : Refers nothing
+nothing_refers : Refers empty_register
 nothing_refers =
-    let grouped = λ (group : ℕ) (members : Members) (is : map.get nothing.members group ≡ Some members). no_record {X = has_group nothing group ≡ true} group members is in
-    let single = λ (group : ℕ) (members : Members) (is : map.get nothing.members group ≡ Some members).
-    no_record {X = (n : ℕ) (share : Ratio) → map.get members n ≡ Some share → has_single_party nothing n ≡ true} group members is in
+    let grouped = λ (group : ℕ) (members : Members) (is : map.get empty_register.members group ≡ Some members). no_record {X = has_group empty_register group ≡ true} group members is in
+    let single = λ (group : ℕ) (members : Members) (is : map.get empty_register.members group ≡ Some members).
+    no_record {X = (n : ℕ) (share : Ratio) → map.get members n ≡ Some share → has_single_party empty_register n ≡ true} group members is in
     record {
       unit = λ n e is. no_record n e is;
       party = λ n e is. no_record n e is;
-      group = group_of nothing grouped single;
-      member = member_of nothing grouped single;
+      group = group_of empty_register grouped single;
+      member = member_of empty_register grouped single;
       lodger = λ n m is. no_record n m is;
     }
 

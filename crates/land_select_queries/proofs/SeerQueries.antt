@@ -6,7 +6,7 @@ use Rattle.land_select_queries.proofs.Known.{a_mortgage as with_mortgage, a_righ
 use Rattle.land_select_queries.proofs.Places.{Place, as_stored, mutations, names, row_of, rrrs}
 use Rattle.land_select_queries.proofs.Selected.{a_mortgage, a_right, by_creditor, by_holder, of, stood, to_creditor, to_holder, undecided, version}
 use Rattle.land_select_queries.proofs.Sets.{cut, uncut}
-use Rattle.land_select_queries.specs.Joins.Meaning.{AreNumberRows, given}
+use Rattle.land_select_queries.specs.Joins.Meaning.{AreNumberRows, query_parameters}
 use Rattle.land_select_queries.specs.Joins.Execution.{HoldsOfHistory, known_or_zero}
 use Rattle.land_select_queries.specs.Lookups.Viewers.{IsViewer}
 use Rattle.land_select_queries.specs.Lookups.Texts.{viewer_text_of}
@@ -202,14 +202,14 @@ module _ (db : Trees) (moments : List Moment) (h : History) (held : HoldsHistory
 -- ---- results
 
 -- the result of a relation's statement has all its viewers, if there are few rows
-pub are_within_limit : (relation : Relation) (party : ℕ) (t : ℤ) (db : Trees) (rows : List Row) → IsAnswer (query_of relation) (overlay db []) (given (known_or_zero party) t) rows → length rows ≤ 16 → HoldsOfHistory db (λ h. AreNumberRows rows (IsViewer relation t h party))
+pub are_within_limit : (relation : Relation) (party : ℕ) (t : ℤ) (db : Trees) (rows : List Row) → IsAnswer (query_of relation) (overlay db []) (query_parameters (known_or_zero party) t) rows → length rows ≤ 16 → HoldsOfHistory db (λ h. AreNumberRows rows (IsViewer relation t h party))
 are_within_limit relation party t db rows cut_off few moments h held =
     let asked = known_or_zero party in
     let ps = places_of relation in
     let fs = filter_of relation in
     let shown = shown_of relation in
     let terms = known_of relation in
-    let a = uncut 17 (from ps) fs (shown ∷ []) (overlay db []) (given asked t) rows (omega (arith, few)) cut_off in
+    let a = uncut 17 (from ps) fs (shown ∷ []) (overlay db []) (query_parameters asked t) rows (omega (arith, few)) cut_off in
     record {
       each = numbered ps fs shown terms db (overlay db []) (as_stored db) moments h held asked t rows a;
       meant = λ n.

@@ -24,7 +24,7 @@ use Rattle.land_select_queries.specs.Joins.Texts.{text_of}
 use Rattle.land_select_queries.specs.Sights.Selections.{LodgedPending, Credits, Entry, HoldsItself, HoldsThrough, IsPendingEntry, IsVisibleEntry, IsVisibleToCreditor, IsVisibleToHolder, IsCurrent, IsCurrentUnder, selects}
 use Rattle.land_select_queries.specs.declared.sights.selection.Selection.{Selection}
 use Rattle.land_select_queries.specs.declared.sights.selection.Selection.TheVariants as selection
-use Rattle.land_tables_history.specs.Standing.{stands, standing}
+use Rattle.land_tables_history.specs.Standing.{is_current, current_values}
 use Rattle.land_tables_history.specs.declared.group_member.GroupMember.{GroupMember}
 use Rattle.land_tables_history.specs.declared.history.History.{History}
 use Rattle.land_tables_history.specs.declared.naming.Naming.{Naming}
@@ -57,7 +57,7 @@ was_kept p (y ∷ ys) x h = go (p y) refl h (was_kept p ys x)
 -- a version whose lifespan includes the time is current
 pub stood : {X : Type 0} (t : ℤ) (vs : List (Version X)) (v : Version X) → Has vs v → int_le v.since t ≡ true → int_lt t v.until ≡ true → IsCurrent t vs v.what
 stood t vs v has begun going =
-    contains_had (standing t vs) v.what (mapped_has (λ v. v.what) (filter (stands t) vs) v (kept (stands t) vs v has (and_from (int_le v.since t) (int_lt t v.until) begun going)))
+    contains_had (current_values t vs) v.what (mapped_has (λ v. v.what) (filter (is_current t) vs) v (kept (is_current t) vs v has (and_from (int_le v.since t) (int_lt t v.until) begun going)))
 
 -- and a current value has such a version
 pub record IsVersion {X : Type 0} (t : ℤ) (vs : List (Version X)) (x : X) : Type 0 where
@@ -69,9 +69,9 @@ pub record IsVersion {X : Type 0} (t : ℤ) (vs : List (Version X)) (x : X) : Ty
 
 pub version : {X : Type 0} (t : ℤ) (vs : List (Version X)) (x : X) → IsCurrent t vs x → IsVersion t vs x
 version t vs x standing_there =
-    let it = has_mapped (λ v. v.what) (filter (stands t) vs) x (has_contained (standing t vs) x standing_there) in
+    let it = has_mapped (λ v. v.what) (filter (is_current t) vs) x (has_contained (current_values t vs) x standing_there) in
     let v = it.0 in
-    let there = was_kept (stands t) vs v it.1 in
+    let there = was_kept (is_current t) vs v it.1 in
     let lives = and_parts (int_le v.since t) (int_lt t v.until) there.1 in
     record {
       since = v.since;

@@ -17,7 +17,7 @@ use Rattle.land_core.proofs.Reflection.{each_there}
 use Rattle.land_core.specs.Entries.{has, some}
 use Rattle.land_select_queries.proofs.Containing.{any_decides}
 use Rattle.land_select_queries.specs.Sights.Selections.{IsCurrent, IsCurrentUnder}
-use Rattle.land_tables_history.specs.Standing.{IsPartAt, standing}
+use Rattle.land_tables_history.specs.Standing.{IsPartAt, current_values}
 use Rattle.land_tables_history.specs.declared.version.Version.{Version}
 
 -- the entries of a map are its contents
@@ -38,10 +38,10 @@ one_value e = cc
 -- current records with numbers
 module _ {V : Type 0} (t : ℤ) (versions : List (Version (ℕ × V))) (m : FinMap nat_cmp V) (is : IsPartAt t versions m) where
   pub listed : (e : ℕ × V) → IsCurrent t versions e → Contains (map.entries m) e
-  listed e h = Contains-permutation (standing t versions) (map.entries m) e is h
+  listed e h = Contains-permutation (current_values t versions) (map.entries m) e is h
 
   pub unlisted : (e : ℕ × V) → Contains (map.entries m) e → IsCurrent t versions e
-  unlisted e h = Contains-permutation (map.entries m) (standing t versions) e (IsPermutation-sym (standing t versions) (map.entries m) is) h
+  unlisted e h = Contains-permutation (map.entries m) (current_values t versions) e (IsPermutation-sym (current_values t versions) (map.entries m) is) h
 
   pub there : (e : ℕ × V) → IsCurrent t versions e → map.get m e.0 ≡ Some e.1
   there e h = entry_there m e (listed e h)

@@ -6,7 +6,7 @@ use Rattle.land_select_queries.proofs.Counted.{counted, numbers_told, one_is_rea
 use Rattle.land_select_queries.proofs.Given.{are_rows_of, query_of}
 use Rattle.land_select_queries.proofs.Selected.{join_of}
 use Rattle.land_select_queries.specs.Joins.Execution.{AreNumbersOf, AreRowsOf, HoldsNoHistory, known_or_zero}
-use Rattle.land_select_queries.specs.Joins.Meaning.{given}
+use Rattle.land_select_queries.specs.Joins.Meaning.{query_parameters}
 use Rattle.land_select_queries.specs.Joins.Texts.{text_of}
 use Rattle.land_select_queries.specs.Sights.Selections.{selects}
 use Rattle.land_select_queries.specs.declared.sights.selection.Selection.{Selection}
@@ -75,14 +75,14 @@ itself a b it = (record { was_open = it.0.is_open; is_open = it.0.is_open; now_i
 
 module _ {S : Type 0} (g : Ghosts S) (s : Selection) (caller : ℕ) (t : ℤ) where
   abbrev params : Row
-  params = given (known_or_zero caller) t
+  params = query_parameters (known_or_zero caller) t
 
   abbrev Gives : Held S → List Row → Type 0
-  Gives = HasGiven g (text_of s) (given (known_or_zero caller) t)
+  Gives = HasGiven g (text_of s) (query_parameters (known_or_zero caller) t)
 
   -- the statement runs, the rows so far are these numbers, and the store is unchanged
   pub record IsUnderWay (old now : Held S) (found : List ℕ) : Type 0 where
-    pub numbers : HasCleanDisk (state g now) → (rows : List Row) × HasGiven g (text_of s) (given (known_or_zero caller) t) now rows × (each_of counted rows ≡ Ok found)
+    pub numbers : HasCleanDisk (state g now) → (rows : List Row) × HasGiven g (text_of s) (query_parameters (known_or_zero caller) t) now rows × (each_of counted rows ≡ Ok found)
     pub same : HasCleanDisk (state g now) → IsUnchanged (state g old) (state g now)
     pub survives : Survives (state g old) (state g now) (λ _. ⊥)
     pub autocommit : old.in_transaction ≡ false → now.in_transaction ≡ false
@@ -90,11 +90,11 @@ module _ {S : Type 0} (g : Ghosts S) (s : Selection) (caller : ℕ) (t : ℤ) wh
   is_plain : (old : Held S) → IsSchemaV2 old.schema → IsPlain (understood old.schema (text_of s))
   is_plain old has_tables = plain_now (text_of s) (query_of s) (join_of s).asks params (state g old) (state g old) has_tables
 
-  module _ (old now : Held S) (has_tables : HasRegisterTables g old) (safe : Survives (state g old) (state g now) (CommitsShowing (text_of s) (given (known_or_zero caller) t) (state g old))) where
+  module _ (old now : Held S) (has_tables : HasRegisterTables g old) (safe : Survives (state g old) (state g now) (CommitsShowing (text_of s) (query_parameters (known_or_zero caller) t) (state g old))) where
     was_plain : HasCleanDisk (state g now) → IsPlain (understood old.schema (text_of s))
     was_plain clean = is_plain old (has_tables (clean_before safe clean))
 
-    pub begun : (HasCleanDisk (state g now) → HasBegun g (text_of s) (given (known_or_zero caller) t) old now) → (old.in_transaction ≡ false → now.in_transaction ≡ false) → IsUnderWay old now []
+    pub begun : (HasCleanDisk (state g now) → HasBegun g (text_of s) (query_parameters (known_or_zero caller) t) old now) → (old.in_transaction ≡ false → now.in_transaction ≡ false) → IsUnderWay old now []
     begun starts mode =
         let both : HasCleanDisk (state g now) → Gives now [] × IsUnchanged (state g old) (state g now) =
         λ clean. begun_plain g (text_of s) params old now (was_plain clean) (starts clean) in
@@ -113,7 +113,7 @@ module _ {S : Type 0} (g : Ghosts S) (s : Selection) (caller : ℕ) (t : ℤ) wh
         }
 
     -- the statement is refused
-    pub refused : {X F : Type 0} {Q : X → Type 0} (e : Error) (r : Result X F) → IsErr r → (HasCleanDisk (state g now) → FailsToQuery (text_of s) (given (known_or_zero caller) t) (state g old) (state g now) e) → IsStoreRead r Q (state g old) (state g now)
+    pub refused : {X F : Type 0} {Q : X → Type 0} (e : Error) (r : Result X F) → IsErr r → (HasCleanDisk (state g now) → FailsToQuery (text_of s) (query_parameters (known_or_zero caller) t) (state g old) (state g now) e) → IsStoreRead r Q (state g old) (state g now)
     refused e r failed fails =
         let none : IsStoreRead {X = List Row} {E = Error} (Err e) (λ _. Unit {0}) (state g old) (state g now) =
         looks (text_of s) (query_of s) (join_of s).asks params (state g old) (state g now) (λ rows. rows) (Err e) (λ _. Unit {0}) (λ _ _. tt) has_tables (λ _. tt) fails safe in

@@ -9,9 +9,9 @@ use Rattle.land_core.specs.Role.{is_role}
 use Rattle.land_core.specs.Words.{role_word}
 use Rattle.land_core.specs.declared.role.Role.{Role}
 use Rattle.land_core.specs.declared.role.Role.TheVariants.{Citizen, Conveyancer, Notary, Bank, CertifiedSurveyor, StateAdministrator}
-use Rattle.land_select_queries.proofs.Places.{Place, What, reading, shape, shows}
+use Rattle.land_select_queries.proofs.Places.{Place, What, row_decoder, shape, shows}
 use Rattle.land_select_queries.proofs.Shapes.{Fits, SayAll, all_decided, are_known, is_shape, shape_itself}
-use Rattle.land_select_queries.specs.Joins.Meaning.{given}
+use Rattle.land_select_queries.specs.Joins.Meaning.{query_parameters}
 use Rattle.land_select_queries.specs.Joins.Execution.{known_or_zero}
 use Rattle.land_tables_history.specs.declared.version.Version.{Version}
 use Rattle.land_tables_schema.proofs.Updates.{passes}
@@ -24,9 +24,9 @@ pub decides_by : (filter : List Term) (params shape r : Row) → Fits shape 0 r 
 decides_by filter params shape r fits known = all_decided filter (params ∷ shape ∷ []) (params ∷ r ∷ []) (shape_itself params, (is_shape shape r fits, tt)) known
 
 -- a row of a version passes the tests that the shape of the version passes
-module _ (p : Place) (r : Row) (v : Version (What p)) (e : (reading p).said (columns_from 1 (reading p).width r) ≡ Ok v) (asked : ℕ) (t : ℤ) where
-  pub decides : (filter : List Term) → are_known filter (given asked t ∷ shape p v ∷ []) ≡ true → Decides (passes filter (given asked t) r) (SayAll filter (given asked t ∷ shape p v ∷ []))
-  decides filter known = decides_by filter (given asked t) (shape p v) r (shows p r v e).0 known
+module _ (p : Place) (r : Row) (v : Version (What p)) (e : (row_decoder p).said (columns_from 1 (row_decoder p).width r) ≡ Ok v) (asked : ℕ) (t : ℤ) where
+  pub decides : (filter : List Term) → are_known filter (query_parameters asked t ∷ shape p v ∷ []) ≡ true → Decides (passes filter (query_parameters asked t) r) (SayAll filter (query_parameters asked t ∷ shape p v ∷ []))
+  decides filter known = decides_by filter (query_parameters asked t) (shape p v) r (shows p r v e).0 known
 
 -- a lifespan includes the time
 abbrev pub Lives : (t since until : ℤ) → Type 0

@@ -7,9 +7,9 @@ use Rattle.std.proofs.lemmas.List.Sums.{sum_by-cons}
 use Rattle.std.specs.Bool.{Decides}
 use Rattle.std.specs.List.{list_all, sum_by, count_by}
 use Rattle.land_select_queries.proofs.Joined.{ForAll, from, is_whole}
-use Rattle.land_select_queries.proofs.Places.{Place, What, keeps, read_of, reading, shape, shows, tree, versions}
+use Rattle.land_select_queries.proofs.Places.{Place, What, keeps, read_of, row_decoder, shape, shows, tree, versions}
 use Rattle.land_select_queries.proofs.Shapes.{AreShapes, all_decided, are_known, is_shape, shape_itself, shapes_more}
-use Rattle.land_tables_history.specs.Standing.{stands, standing}
+use Rattle.land_tables_history.specs.Standing.{is_current, current_values}
 use Rattle.land_tables_history.specs.declared.history.History.{History}
 use Rattle.land_tables_history.specs.declared.moment.Moment.{Moment}
 use Rattle.land_tables_history.specs.declared.version.Version.{Version}
@@ -43,42 +43,42 @@ zeros [] = refl
 zeros (x ∷ xs) = sum_by-cons (λ x. 0) x xs ∙ ap (λ n. 0 + n) (zeros xs)
 
 -- of the current versions
-sum_standing : {X : Type 0} (t : ℤ) (f : X → ℕ) (vs : List (Version X)) → sum_by (λ v. cond (stands t v) (f v.what) 0) vs ≡ sum_by f (standing t vs)
+sum_standing : {X : Type 0} (t : ℤ) (f : X → ℕ) (vs : List (Version X)) → sum_by (λ v. cond (is_current t v) (f v.what) 0) vs ≡ sum_by f (current_values t vs)
 sum_standing t f [] = refl
-sum_standing {X} t f (v ∷ vs) = sum_by-cons (λ v. cond (stands t v) (f v.what) 0) v vs ∙ ap (λ n. cond (stands t v) (f v.what) 0 + n) (sum_standing t f vs) ∙ go (stands t v)
+sum_standing {X} t f (v ∷ vs) = sum_by-cons (λ v. cond (is_current t v) (f v.what) 0) v vs ∙ ap (λ n. cond (is_current t v) (f v.what) 0 + n) (sum_standing t f vs) ∙ go (is_current t v)
   where
-    go : (b : Bool) → cond b (f v.what) 0 + sum_by f (standing t vs) ≡ sum_by f (map (λ v. v.what) (cond b (v ∷ filter (stands t) vs) (filter (stands t) vs)))
-    go true = sym (sum_by-cons f v.what (standing t vs))
-    go false = let none : 0 + sum_by f (standing t vs) ≡ sum_by f (standing t vs) = omega arith in none
+    go : (b : Bool) → cond b (f v.what) 0 + sum_by f (current_values t vs) ≡ sum_by f (map (λ v. v.what) (cond b (v ∷ filter (is_current t) vs) (filter (is_current t) vs)))
+    go true = sym (sum_by-cons f v.what (current_values t vs))
+    go false = let none : 0 + sum_by f (current_values t vs) ≡ sum_by f (current_values t vs) = omega arith in none
 
 module _ (t : ℤ) where
-  level : {X : Type 0} (vs : List (Version X)) (f : Version X → ℕ) (g : X → ℕ) → ((v : Version X) → f v ≡ cond (stands t v) (g v.what) 0) → sum_by f vs ≡ sum_by g (standing t vs)
-  level vs f g same = sum_alike f (λ v. cond (stands t v) (g v.what) 0) vs (λ v has. same v) ∙ sum_standing t g vs
+  level : {X : Type 0} (vs : List (Version X)) (f : Version X → ℕ) (g : X → ℕ) → ((v : Version X) → f v ≡ cond (is_current t v) (g v.what) 0) → sum_by f vs ≡ sum_by g (current_values t vs)
+  level vs f g same = sum_alike f (λ v. cond (is_current t v) (g v.what) 0) vs (λ v has. same v) ∙ sum_standing t g vs
 
   both : (a b : Bool) → ◌≡◌ {A = ℕ} (cond (a && b) 1 0) (cond a (cond b 1 0) 0)
   both true b = refl
   both false b = refl
 
-  one : {X : Type 0} (a : Bool) (vs : List (Version X)) (passes : Version X → Bool) (test : X → Bool) → ((v : Version X) → passes v ≡ (a && (stands t v && test v.what)))
-      → sum_by (λ v. cond (passes v) 1 0) vs ≡ cond a (count_by test (standing t vs)) 0
-  one true vs passes test same = level vs (λ v. cond (passes v) 1 0) (λ x. cond (test x) 1 0) (λ v. ap (λ c. cond c 1 0) (same v) ∙ both (stands t v) (test v.what))
+  one : {X : Type 0} (a : Bool) (vs : List (Version X)) (passes : Version X → Bool) (test : X → Bool) → ((v : Version X) → passes v ≡ (a && (is_current t v && test v.what)))
+      → sum_by (λ v. cond (passes v) 1 0) vs ≡ cond a (count_by test (current_values t vs)) 0
+  one true vs passes test same = level vs (λ v. cond (passes v) 1 0) (λ x. cond (test x) 1 0) (λ v. ap (λ c. cond c 1 0) (same v) ∙ both (is_current t v) (test v.what))
   one false vs passes test same = sum_alike (λ v. cond (passes v) 1 0) (λ v. 0) vs (λ v has. ap (λ c. cond c 1 0) (same v)) ∙ zeros vs
 
   pub two : {X Y : Type 0} (a : Bool) (vs : List (Version X)) (ws : List (Version Y)) (passes : Version X → Version Y → Bool) (test : X → Y → Bool)
-      → ((v : Version X) (w : Version Y) → passes v w ≡ (a && (stands t v && (stands t w && test v.what w.what))))
-      → sum_by (λ v. sum_by (λ w. cond (passes v w) 1 0) ws) vs ≡ cond a (sum_by (λ x. count_by (test x) (standing t ws)) (standing t vs)) 0
+      → ((v : Version X) (w : Version Y) → passes v w ≡ (a && (is_current t v && (is_current t w && test v.what w.what))))
+      → sum_by (λ v. sum_by (λ w. cond (passes v w) 1 0) ws) vs ≡ cond a (sum_by (λ x. count_by (test x) (current_values t ws)) (current_values t vs)) 0
   two true vs ws passes test same =
-      level vs (λ v. sum_by (λ w. cond (passes v w) 1 0) ws) (λ x. count_by (test x) (standing t ws)) (λ v. one (stands t v) ws (passes v) (test v.what) (same v))
+      level vs (λ v. sum_by (λ w. cond (passes v w) 1 0) ws) (λ x. count_by (test x) (current_values t ws)) (λ v. one (is_current t v) ws (passes v) (test v.what) (same v))
   two false vs ws passes test same =
       sum_alike (λ v. sum_by (λ w. cond (passes v w) 1 0) ws) (λ v. 0) vs (λ v has. one false ws (passes v) (test v.what) (same v)) ∙ zeros vs
 
   pub three : {X Y Z : Type 0} (us : List (Version X)) (vs : List (Version Y)) (ws : List (Version Z)) (passes : Version X → Version Y → Version Z → Bool) (test : X → Y → Z → Bool)
-      → ((u : Version X) (v : Version Y) (w : Version Z) → passes u v w ≡ (stands t u && (stands t v && (stands t w && test u.what v.what w.what))))
+      → ((u : Version X) (v : Version Y) (w : Version Z) → passes u v w ≡ (is_current t u && (is_current t v && (is_current t w && test u.what v.what w.what))))
       → sum_by (λ u. sum_by (λ v. sum_by (λ w. cond (passes u v w) 1 0) ws) vs) us
-      ≡ sum_by (λ x. sum_by (λ y. count_by (test x y) (standing t ws)) (standing t vs)) (standing t us)
+      ≡ sum_by (λ x. sum_by (λ y. count_by (test x y) (current_values t ws)) (current_values t vs)) (current_values t us)
   three us vs ws passes test same =
-      level us (λ u. sum_by (λ v. sum_by (λ w. cond (passes u v w) 1 0) ws) vs) (λ x. sum_by (λ y. count_by (test x y) (standing t ws)) (standing t vs))
-      (λ u. two (stands t u) vs ws (passes u) (test u.what) (same u))
+      level us (λ u. sum_by (λ v. sum_by (λ w. cond (passes u v w) 1 0) ws) vs) (λ x. sum_by (λ y. count_by (test x y) (current_values t ws)) (current_values t vs))
+      (λ u. two (is_current t u) vs ws (passes u) (test u.what) (same u))
 
 -- ---- matches
 
@@ -111,7 +111,7 @@ module _ (db over : Trees) (stored : (p : Place) → over (tree p) ≡ db (tree 
   by_version p ps s (Err e) = 0
 
   abbrev saying : (p : Place) → Row → Result (Version (What p)) WireFault
-  saying p r = (reading p).said (columns_from 1 (reading p).width r)
+  saying p r = (row_decoder p).said (columns_from 1 (row_decoder p).width r)
 
   -- there are as many matches of rows as of versions
   pub counted : (ps : List Place) (s env : Env) → AreShapes s env → AreShapes s s → ForAll ps Sure s → length (matches over filter (from ps) env) ≡ ways_through h ps passes s
@@ -138,11 +138,11 @@ module _ (db over : Trees) (stored : (p : Place) → over (tree p) ≡ db (tree 
 abbrev pub Lives : {X : Type 0} → (t : ℤ) → Version X → Type 0 → Type 0
 Lives t v Rest = (int_le v.since t ≡ true) × ((int_lt t v.until ≡ true) × Rest)
 
-pub lives : {X : Type 0} {Rest : Type 0} (t : ℤ) (v : Version X) (rest : Bool) → Decides rest Rest → Decides (stands t v && rest) (Lives t v Rest)
+pub lives : {X : Type 0} {Rest : Type 0} (t : ℤ) (v : Version X) (rest : Bool) → Decides rest Rest → Decides (is_current t v && rest) (Lives t v Rest)
 lives t v rest d = (
   (λ e.
-      let both = and_parts (stands t v) rest e in
+      let both = and_parts (is_current t v) rest e in
       let life = and_parts (int_le v.since t) (int_lt t v.until) both.0 in
       (life.0, (life.1, d.0 both.1))),
-  (λ p. and_from (stands t v) rest (and_from (int_le v.since t) (int_lt t v.until) p.0 p.1.0) (d.1 p.1.1)),
+  (λ p. and_from (is_current t v) rest (and_from (int_le v.since t) (int_lt t v.until) p.0 p.1.0) (d.1 p.1.1)),
 )

@@ -2,7 +2,7 @@
 -- walks of the other are the same
 use Rattle.std.proofs.Common.{◌≡◌, ◌↔◌, ℕ, ◌+◌, false, cond, List, [], ◌∷◌, ◌++◌, map, ◌⊎◌, inl, inr, refl, sym, ap, ◌∙◌, subst, arith, append_assoc}
 use Rattle.std.proofs.lemmas.Int.{ints}
-use Rattle.land_shape.specs.Matching.{pieces, reversed, is_same_edge, count_along, HaveSameBalance}
+use Rattle.land_shape.specs.Matching.{pieces, reversed_edge, is_same_edge, count_along, HaveSameBalance}
 use Rattle.land_shape.specs.Place.{Place, Edge}
 use Rattle.land_shape.specs.Walks.{walk, walks, is_before, IsOneOf, HaveSameEdges}
 use Rattle.land_shape.specs.Matching.{lies_inside}
@@ -11,7 +11,7 @@ use Rattle.land_shape.proofs.Chains.{same_pieces}
 use Rattle.land_shape.proofs.MatchingLaw.{same_edge_is, tally-count}
 use Rattle.land_shape.proofs.Order.{Before, never_itself, before_all, before_of, of_before, one_before, edge_is}
 use Rattle.land_shape.proofs.Tallies.{tally, tally-append, either_way}
-use Rattle.land_shape.proofs.Turning.{turned, pieces-append, pieces_turned, tally-turned}
+use Rattle.land_shape.proofs.Turning.{reversed_path, pieces-append, pieces-reversed_path, tally-reversed_path}
 use Rattle.land_shape.proofs.WalkLemmas.{Rise, walk_pieces}
 
 -- the walk of an edge, if it leads to a later place
@@ -32,16 +32,16 @@ module _ (places corners : List Place) (rise : Rise corners)
   found : (a b : Place) → Before a b → pieces places (edge a b ∷ []) ≡ walk a b corners
   found a b up = same_pieces a b up places corners to from ∙ walk_pieces a b corners up rise
 
-  back_pieces : (e : Edge) → pieces places (reversed e ∷ []) ≡ turned (pieces places (e ∷ []))
-  back_pieces e = pieces_turned places (e ∷ [])
+  back_pieces : (e : Edge) → pieces places (reversed_edge e ∷ []) ≡ reversed_path (pieces places (e ∷ []))
+  back_pieces e = pieces-reversed_path places (e ∷ [])
 
-  times_back : (e z : Edge) → times z (pieces places (reversed e ∷ [])) ≡ times (reversed z) (pieces places (e ∷ []))
-  times_back e z = ap (times z) (back_pieces e) ∙ tally-turned z (pieces places (e ∷ []))
+  times_back : (e z : Edge) → times z (pieces places (reversed_edge e ∷ [])) ≡ times (reversed_edge z) (pieces places (e ∷ []))
+  times_back e z = ap (times z) (back_pieces e) ∙ tally-reversed_path z (pieces places (e ∷ []))
 
   abbrev IsEven : Edge → Edge → Type 0
   IsEven e z =
-      times z (pieces places (e ∷ [])) + (times (reversed z) (own_walk corners e) + times z (own_walk corners (reversed e)))
-      ≡ times (reversed z) (pieces places (e ∷ [])) + (times z (own_walk corners e) + times (reversed z) (own_walk corners (reversed e)))
+      times z (pieces places (e ∷ [])) + (times (reversed_edge z) (own_walk corners e) + times z (own_walk corners (reversed_edge e)))
+      ≡ times (reversed_edge z) (pieces places (e ∷ [])) + (times z (own_walk corners e) + times (reversed_edge z) (own_walk corners (reversed_edge e)))
 
   even : (e z : Edge) → IsEven e z
   even e z = elim (one_before e.from e.to) as (λ o. IsEven e z) [
@@ -49,25 +49,25 @@ module _ (places corners : List Place) (rise : Rise corners)
         rw (of_before e.from e.to up, not_before e.to e.from (not_back e.from e.to up), found e.from e.to up) (omega arith)
     | inr o ↦ elim o as (λ o. IsEven e z) [
       | inl level ↦
-          (let r : reversed e ≡ e = edge_is (reversed e) e (sym level) level in
-          let b : times z (pieces places (e ∷ [])) ≡ times (reversed z) (pieces places (e ∷ [])) = ap (λ (f : Edge). times z (pieces places (f ∷ []))) (sym r) ∙ times_back e z in
+          (let r : reversed_edge e ≡ e = edge_is (reversed_edge e) e (sym level) level in
+          let b : times z (pieces places (e ∷ [])) ≡ times (reversed_edge z) (pieces places (e ∷ [])) = ap (λ (f : Edge). times z (pieces places (f ∷ []))) (sym r) ∙ times_back e z in
           rw (
             not_before e.from e.to (λ h. never_itself e.from (subst (λ (q : Place). Before e.from q) (sym level) h)),
             not_before e.to e.from (λ h. never_itself e.from (subst (λ (q : Place). Before q e.from) (sym level) h)),
           ) (omega (arith, b)))
       | inr down ↦
-          (let there : times z (pieces places (e ∷ [])) ≡ times (reversed z) (walk e.to e.from corners)
-          = times_back (reversed e) z ∙ ap (times (reversed z)) (found e.to e.from down) in
-          let back : times (reversed z) (pieces places (e ∷ [])) ≡ times z (walk e.to e.from corners)
-          = times_back (reversed e) (reversed z) ∙ ap (times z) (found e.to e.from down) in
+          (let there : times z (pieces places (e ∷ [])) ≡ times (reversed_edge z) (walk e.to e.from corners)
+          = times_back (reversed_edge e) z ∙ ap (times (reversed_edge z)) (found e.to e.from down) in
+          let back : times (reversed_edge z) (pieces places (e ∷ [])) ≡ times z (walk e.to e.from corners)
+          = times_back (reversed_edge e) (reversed_edge z) ∙ ap (times z) (found e.to e.from down) in
           rw (of_before e.to e.from down, not_before e.from e.to (not_back e.to e.from down)) (omega (arith, there, back)))
     ]
   ]
 
   abbrev AreEven : List Edge → Edge → Type 0
   AreEven es z =
-      times z (pieces places es) + (times (reversed z) (walks corners es) + times z (walks corners (map reversed es)))
-      ≡ times (reversed z) (pieces places es) + (times z (walks corners es) + times (reversed z) (walks corners (map reversed es)))
+      times z (pieces places es) + (times (reversed_edge z) (walks corners es) + times z (walks corners (map reversed_edge es)))
+      ≡ times (reversed_edge z) (pieces places es) + (times z (walks corners es) + times (reversed_edge z) (walks corners (map reversed_edge es)))
 
   no_pieces : (ps : List Place) → pieces ps [] ≡ []
   no_pieces [] = refl
@@ -82,11 +82,11 @@ module _ (places corners : List Place) (rise : Rise corners)
       rw (
         split,
         tally-append is_same_edge z (pieces places (e ∷ [])) (pieces places es),
-        tally-append is_same_edge (reversed z) (pieces places (e ∷ [])) (pieces places es),
+        tally-append is_same_edge (reversed_edge z) (pieces places (e ∷ [])) (pieces places es),
         tally-append is_same_edge z (own_walk corners e) (walks corners es),
-        tally-append is_same_edge (reversed z) (own_walk corners e) (walks corners es),
-        tally-append is_same_edge z (own_walk corners (reversed e)) (walks corners (map reversed es)),
-        tally-append is_same_edge (reversed z) (own_walk corners (reversed e)) (walks corners (map reversed es)),
+        tally-append is_same_edge (reversed_edge z) (own_walk corners e) (walks corners es),
+        tally-append is_same_edge z (own_walk corners (reversed_edge e)) (walks corners (map reversed_edge es)),
+        tally-append is_same_edge (reversed_edge z) (own_walk corners (reversed_edge e)) (walks corners (map reversed_edge es)),
       ) (omega (arith, first, rest))
 
 pub walks-append : (ps : List Place) (es fs : List Edge) → walks ps (es ++ fs) ≡ walks ps es ++ walks ps fs
@@ -116,10 +116,10 @@ walks_up ps (e ∷ es) z n =
 
 -- the edges of one list and the reversed edges of the other
 abbrev pub one_way : List Place → List Edge → List Edge → List Edge
-one_way ps es fs = walks ps (es ++ map reversed fs)
+one_way ps es fs = walks ps (es ++ map reversed_edge fs)
 
-times_one_way : (ps : List Place) (es fs : List Edge) (z : Edge) → times z (one_way ps es fs) ≡ times z (walks ps es) + times z (walks ps (map reversed fs))
-times_one_way ps es fs z = ap (times z) (walks-append ps es (map reversed fs)) ∙ tally-append is_same_edge z (walks ps es) (walks ps (map reversed fs))
+times_one_way : (ps : List Place) (es fs : List Edge) (z : Edge) → times z (one_way ps es fs) ≡ times z (walks ps es) + times z (walks ps (map reversed_edge fs))
+times_one_way ps es fs z = ap (times z) (walks-append ps es (map reversed_edge fs)) ∙ tally-append is_same_edge z (walks ps es) (walks ps (map reversed_edge fs))
 
 either_up : (z : Edge) → (¬ Before z.from z.to) ⊎ (¬ Before z.to z.from)
 either_up z = elim (one_before z.from z.to) as (λ o. (¬ Before z.from z.to) ⊎ (¬ Before z.to z.from)) [
@@ -140,7 +140,7 @@ abbrev IsLedAlike : List Edge → List Edge → Edge → Type 0
 IsLedAlike ours theirs z = count_along z ours ≡ count_along z theirs
 
 abbrev Weighed : List Edge → List Edge → Edge → Type 0
-Weighed ours theirs z = times z ours + times (reversed z) theirs ≡ times z theirs + times (reversed z) ours
+Weighed ours theirs z = times z ours + times (reversed_edge z) theirs ≡ times z theirs + times (reversed_edge z) ours
 
 pub same_ways : (places corners : List Place) → Rise corners
     → ((q : Place) → IsOneOf q places → IsOneOf q corners) → ((q : Place) → IsOneOf q corners → IsOneOf q places)
@@ -151,31 +151,31 @@ same_ways places corners rise to from ours theirs = (
     all_even places corners rise to from ours z,
     all_even places corners rise to from theirs z,
     as_times (one_way corners ours theirs) (one_way corners theirs ours) same z,
-    as_times (one_way corners ours theirs) (one_way corners theirs ours) same (reversed z),
+    as_times (one_way corners ours theirs) (one_way corners theirs ours) same (reversed_edge z),
     times_one_way corners ours theirs z,
     times_one_way corners theirs ours z,
-    times_one_way corners ours theirs (reversed z),
-    times_one_way corners theirs ours (reversed z),
+    times_one_way corners ours theirs (reversed_edge z),
+    times_one_way corners theirs ours (reversed_edge z),
   )),
   λ agree. as_counts (one_way corners ours theirs) (one_way corners theirs ours) (λ z. elim (either_up z) as (λ o. times z (one_way corners ours theirs) ≡ times z (one_way corners theirs ours)) [
-    | inl n ↦ walks_up corners (ours ++ map reversed theirs) z n ∙ sym (walks_up corners (theirs ++ map reversed ours) z n)
+    | inl n ↦ walks_up corners (ours ++ map reversed_edge theirs) z n ∙ sym (walks_up corners (theirs ++ map reversed_edge ours) z n)
     | inr n ↦ omega (
       arith,
       all_even places corners rise to from ours z,
       all_even places corners rise to from theirs z,
       weighed z (agree z),
-      walks_up corners (ours ++ map reversed theirs) (reversed z) n,
-      walks_up corners (theirs ++ map reversed ours) (reversed z) n,
+      walks_up corners (ours ++ map reversed_edge theirs) (reversed_edge z) n,
+      walks_up corners (theirs ++ map reversed_edge ours) (reversed_edge z) n,
       times_one_way corners ours theirs z,
       times_one_way corners theirs ours z,
-      times_one_way corners ours theirs (reversed z),
-      times_one_way corners theirs ours (reversed z),
+      times_one_way corners ours theirs (reversed_edge z),
+      times_one_way corners theirs ours (reversed_edge z),
     )
   ]),
 )
   where
     counted : (z : Edge) → Weighed (pieces places ours) (pieces places theirs) z → IsLedAlike (pieces places ours) (pieces places theirs) z
-    counted z h = omega (arith, ints, h, tally-count z (pieces places ours), tally-count z (pieces places theirs), tally-count (reversed z) (pieces places ours), tally-count (reversed z) (pieces places theirs))
+    counted z h = omega (arith, ints, h, tally-count z (pieces places ours), tally-count z (pieces places theirs), tally-count (reversed_edge z) (pieces places ours), tally-count (reversed_edge z) (pieces places theirs))
 
     weighed : (z : Edge) → IsLedAlike (pieces places ours) (pieces places theirs) z → Weighed (pieces places ours) (pieces places theirs) z
-    weighed z h = omega (arith, ints, h, tally-count z (pieces places ours), tally-count z (pieces places theirs), tally-count (reversed z) (pieces places ours), tally-count (reversed z) (pieces places theirs))
+    weighed z h = omega (arith, ints, h, tally-count z (pieces places ours), tally-count z (pieces places theirs), tally-count (reversed_edge z) (pieces places ours), tally-count (reversed_edge z) (pieces places theirs))

@@ -15,7 +15,7 @@ use Rattle.land_shape.specs.Grammar.{body, IsPoint, IsPolygon}
 use Rattle.land_shape.specs.Laws.{PrintedLaw, OneAnswerLaw}
 use Rattle.land_shape.specs.Outline.{IsNear, IsOutline, counterclockwise_ring, ring_of}
 use Rattle.land_shape.specs.Place.{Place, area_of, ring_edges}
-use Rattle.land_shape.specs.Printed.{printed}
+use Rattle.land_shape.specs.Printed.{polygon_text}
 use Rattle.land_shape.specs.Steps.{HasTwoWords, IsClosed}
 use Rattle.land_shape.proofs.JudgeLemmas.{IsClosedList, stands, listed_once, same_fault}
 use Rattle.land_shape.proofs.PrintedNumbers.{coordinate_printed}
@@ -48,7 +48,7 @@ lists_printed [] h = tt
 lists_printed (p ∷ ps) h = ((coordinate_printed p.x h.0.0, coordinate_printed p.y h.0.1), lists_printed ps h.1)
 
 printed_polygon : (p : Place) (ps : List Place) → AllByRecursion IsSmall ((p ∷ ps) ++ p ∷ [])
-    → IsPolygon (printed (p ∷ ps)) (body false (map words_of ((p ∷ ps) ++ p ∷ []) ∷ []))
+    → IsPolygon (polygon_text (p ∷ ps)) (body false (map words_of ((p ∷ ps) ++ p ∷ []) ∷ []))
 printed_polygon p ps h = record {
   head = Word (codes "POLYGON") ∷ [];
   is_head = refl;
@@ -65,7 +65,7 @@ closed p ps =
     let n : length ((p ∷ ps) ++ p ∷ []) - 1 ≡ length (p ∷ ps) = omega (arith, length-append (p ∷ ps) (p ∷ [])) in
     last_of (p ∷ ps) p _ _ n
 
-printed_list : (p : Place) (ps : List Place) → IsOutline (p ∷ ps) → IsClosedList (printed (p ∷ ps)) ((p ∷ ps) ++ p ∷ [])
+printed_list : (p : Place) (ps : List Place) → IsOutline (p ∷ ps) → IsClosedList (polygon_text (p ∷ ps)) ((p ∷ ps) ++ p ∷ [])
 printed_list p ps o =
     let near = near_closed (p ∷ ps) p o.near o.near.0 in
     let few = all_small ((p ∷ ps) ++ p ∷ []) near in
@@ -99,9 +99,9 @@ own_ring p ps o =
     let n : length ((p ∷ ps) ++ p ∷ []) - 1 ≡ length (p ∷ ps) = omega (arith, length-append (p ∷ ps) (p ∷ [])) in
     sym (ap counterclockwise_ring (without_last (p ∷ ps) p _ n) ∙ stays (p ∷ ps) o.left)
 
-printed_stands : (ring : List Place) → IsOutline ring → Denotes (printed ring) ring
+printed_stands : (ring : List Place) → IsOutline ring → Denotes (polygon_text ring) ring
 printed_stands [] o = let some = o.some in absurd (omega arith)
-printed_stands (p ∷ ps) o = stands (printed (p ∷ ps)) ((p ∷ ps) ++ p ∷ []) (p ∷ ps) (printed_list p ps o) (own_ring p ps o) o
+printed_stands (p ∷ ps) o = stands (polygon_text (p ∷ ps)) ((p ∷ ps) ++ p ∷ []) (p ∷ ps) (printed_list p ps o) (own_ring p ps o) o
 
 -- ---- the result is unique
 
@@ -120,7 +120,7 @@ one_fault text fault other f g =
 pub printed_law : PrintedLaw
 printed_law = record {
   stands = printed_stands;
-  alone = λ ring other o s. one_ring (printed ring) other ring s (printed_stands ring o);
+  alone = λ ring other o s. one_ring (polygon_text ring) other ring s (printed_stands ring o);
 }
 
 pub one_answer_law : OneAnswerLaw

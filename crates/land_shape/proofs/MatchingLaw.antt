@@ -9,7 +9,7 @@ use Rattle.std.proofs.lemmas.Bool.{and_from}
 use lib.IntN.{ℤ, pos, ◌+ℤ◌, ◌-ℤ◌}
 use Rattle.land_shape.specs.Coordinate.{cross_of}
 use Rattle.land_shape.specs.Place.{Place, Edge, is_same_place, ring_edges, edge_area, area_of}
-use Rattle.land_shape.specs.Matching.{lies_inside, lies_on, is_on_line, is_in_box, is_same_edge, reversed, cut_at, pieces, edges_of, places_of, count_of, count_along, Match, MatchingLaw, IsCounterclockwise}
+use Rattle.land_shape.specs.Matching.{lies_inside, lies_on, is_on_line, is_in_box, is_same_edge, reversed_edge, cut_at, pieces, edges_of, places_of, count_of, count_along, Match, MatchingLaw, IsCounterclockwise}
 use Rattle.land_shape.specs.Outline.{doubled_area}
 use Rattle.land_shape.proofs.Tallies.{total, tally, total-append, tally-append, total-same_tallies, either_way}
 use Rattle.land_shape.proofs.Expressions.{var, num, ◌⊕◌, ◌⊖◌, ◌⊗◌, by_parts, parts_eq}
@@ -58,19 +58,19 @@ pub tally-count : (e : Edge) (es : List Edge) → tally is_same_edge e es ≡ co
 tally-count e [] = refl
 tally-count e (f ∷ es) = ap (λ (n : ℕ). cond (is_same_edge f e) 1 0 + n) (tally-count e es) ∙ sym (sum_by-cons (λ g. cond (is_same_edge g e) 1 0) f es)
 
-tally-reversed : (e : Edge) (es : List Edge) → tally is_same_edge e (map reversed es) ≡ tally is_same_edge (reversed e) es
-tally-reversed e [] = refl
-tally-reversed e (f ∷ es) =
-    rw (and_comm (is_same_place f.to e.from) (is_same_place f.from e.to), tally-reversed e es) refl
+tally-reversed_edge : (e : Edge) (es : List Edge) → tally is_same_edge e (map reversed_edge es) ≡ tally is_same_edge (reversed_edge e) es
+tally-reversed_edge e [] = refl
+tally-reversed_edge e (f ∷ es) =
+    rw (and_comm (is_same_place f.to e.from) (is_same_place f.from e.to), tally-reversed_edge e es) refl
 
-turn_back : (e : Edge) → edge_area (reversed e) ≡ pos 0 -ℤ edge_area e
+turn_back : (e : Edge) → edge_area (reversed_edge e) ≡ pos 0 -ℤ edge_area e
 turn_back e =
     let a = var e.from.x in let b = var e.from.y in let c = var e.to.x in let d = var e.to.y in
     by_parts (c ⊗ b ⊖ d ⊗ a) (num 0 ⊖ (a ⊗ d ⊖ b ⊗ c)) (omega arith)
 
-total-reversed : (es : List Edge) → total edge_area (map reversed es) ≡ pos 0 -ℤ total edge_area es
-total-reversed [] = refl
-total-reversed (e ∷ es) = omega (arith, ints, total-reversed es, turn_back e)
+total-reversed_edge : (es : List Edge) → total edge_area (map reversed_edge es) ≡ pos 0 -ℤ total edge_area es
+total-reversed_edge [] = refl
+total-reversed_edge (e ∷ es) = omega (arith, ints, total-reversed_edge es, turn_back e)
 
 total-area : (es : List Edge) → total edge_area es ≡ area_of es
 total-area [] = refl
@@ -78,28 +78,28 @@ total-area (e ∷ es) = ap (λ (z : ℤ). edge_area e +ℤ z) (total-area es)
 
 -- an area is settled by how much more often each pair of places is led through forth than back
 same_area : (ps qs : List Edge)
-    → ((e : Edge) → count_of e ps + count_of (reversed e) qs ≡ count_of e qs + count_of (reversed e) ps) → area_of ps ≡ area_of qs
+    → ((e : Edge) → count_of e ps + count_of (reversed_edge e) qs ≡ count_of e qs + count_of (reversed_edge e) ps) → area_of ps ≡ area_of qs
 same_area ps qs h =
-    let counts : (e : Edge) → tally is_same_edge e (ps ++ map reversed qs) ≡ tally is_same_edge e (qs ++ map reversed ps)
+    let counts : (e : Edge) → tally is_same_edge e (ps ++ map reversed_edge qs) ≡ tally is_same_edge e (qs ++ map reversed_edge ps)
     = λ e. rw (
-      tally-append is_same_edge e ps (map reversed qs),
-      tally-append is_same_edge e qs (map reversed ps),
-      tally-reversed e qs,
-      tally-reversed e ps,
+      tally-append is_same_edge e ps (map reversed_edge qs),
+      tally-append is_same_edge e qs (map reversed_edge ps),
+      tally-reversed_edge e qs,
+      tally-reversed_edge e ps,
       tally-count e ps,
       tally-count e qs,
-      tally-count (reversed e) ps,
-      tally-count (reversed e) qs,
+      tally-count (reversed_edge e) ps,
+      tally-count (reversed_edge e) qs,
     ) (h e) in
-    let both = total-same_tallies is_same_edge same_edge_is same_edge_itself edge_area (ps ++ map reversed qs) (qs ++ map reversed ps) counts in
+    let both = total-same_tallies is_same_edge same_edge_is same_edge_itself edge_area (ps ++ map reversed_edge qs) (qs ++ map reversed_edge ps) counts in
     omega (
       arith,
       ints,
       both,
-      total-append edge_area ps (map reversed qs),
-      total-append edge_area qs (map reversed ps),
-      total-reversed ps,
-      total-reversed qs,
+      total-append edge_area ps (map reversed_edge qs),
+      total-append edge_area qs (map reversed_edge ps),
+      total-reversed_edge ps,
+      total-reversed_edge qs,
       total-area ps,
       total-area qs,
     )
@@ -150,5 +150,5 @@ matching_law rings others ours theirs m =
     let e : area_of (pieces places (edges_of rings)) ≡ area_of (pieces places (edges_of others)) = same_area (pieces places (edges_of rings)) (pieces places (edges_of others)) (λ e. by_counts e (pieces places (edges_of rings)) (pieces places (edges_of others)) (m e)) in
     omega (arith, ints, ring_areas rings ours, ring_areas others theirs, e, area-pieces places (edges_of rings), area-pieces places (edges_of others))
   where
-    by_counts : (e : Edge) (es fs : List Edge) → count_along e es ≡ count_along e fs → count_of e es + count_of (reversed e) fs ≡ count_of e fs + count_of (reversed e) es
+    by_counts : (e : Edge) (es fs : List Edge) → count_along e es ≡ count_along e fs → count_of e es + count_of (reversed_edge e) fs ≡ count_of e fs + count_of (reversed_edge e) es
     by_counts e es fs h = omega (arith, ints, h)

@@ -5,7 +5,7 @@ use Rattle.std.specs.List.{list_all}
 use Rattle.std.proofs.lemmas.Bool.Decides.{Decides-int_eq}
 use Rattle.std.proofs.lemmas.Int.{ints}
 use Rattle.std.proofs.lemmas.Bool.{and_from}
-use Rattle.land_shape.specs.Matching.{HaveSameBalance, Match, TestLaw, count_along, have_same_balance_along, passes_matching_test, edges_of, is_same_edge, pieces, places_of, reversed}
+use Rattle.land_shape.specs.Matching.{HaveSameBalance, Match, TestLaw, count_along, have_same_balance_along, passes_matching_test, edges_of, is_same_edge, pieces, places_of, reversed_edge}
 use Rattle.land_shape.specs.Place.{Place, Edge}
 use Rattle.land_shape.proofs.MatchingLaw.{and_left, and_right, same_edge_is, tally-count}
 use Rattle.land_shape.proofs.Tallies.{either_way, tally, tally-append}
@@ -30,12 +30,12 @@ none_or_some n = grind arith
 everywhere : (ours theirs : List Edge) → list_all (have_same_balance_along ours theirs) (ours ++ theirs) ≡ true → HaveSameBalance ours theirs
 everywhere ours theirs all e =
     let split = tally-append is_same_edge e ours theirs in
-    let turned = tally-append is_same_edge (reversed e) ours theirs in
-    let t1 = tally-count e ours in let t2 = tally-count e theirs in let t3 = tally-count (reversed e) ours in let t4 = tally-count (reversed e) theirs in
+    let turned = tally-append is_same_edge (reversed_edge e) ours theirs in
+    let t1 = tally-count e ours in let t2 = tally-count e theirs in let t3 = tally-count (reversed_edge e) ours in let t4 = tally-count (reversed_edge e) theirs in
     elim (none_or_some (tally is_same_edge e (ours ++ theirs))) [
       | inr some ↦ counted ours theirs (ours ++ theirs) e some all
-      | inl none ↦ elim (none_or_some (tally is_same_edge (reversed e) (ours ++ theirs))) [
-        | inr some ↦ (let back : LeadAlikeAlong ours theirs (reversed e) = counted ours theirs (ours ++ theirs) (reversed e) some all in omega (arith, ints))
+      | inl none ↦ elim (none_or_some (tally is_same_edge (reversed_edge e) (ours ++ theirs))) [
+        | inr some ↦ (let back : LeadAlikeAlong ours theirs (reversed_edge e) = counted ours theirs (ours ++ theirs) (reversed_edge e) some all in omega (arith, ints))
         | inl nowhere ↦ omega (arith, ints)
       ]
     ]

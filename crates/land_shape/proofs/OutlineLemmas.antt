@@ -10,7 +10,7 @@ use Rattle.std.specs.Prelude.{int_lt}
 use Rattle.land_shape.specs.declared.plane.Point.{Point}
 use Rattle.std.proofs.lemmas.Int.{by_lt_z}
 use lib.Signed.{◌≤ℤ◌}
-use Rattle.land_shape.specs.Outline.{turned, counterclockwise_ring, ring_of, IsOutline}
+use Rattle.land_shape.specs.Outline.{reversed_ring, counterclockwise_ring, ring_of, IsOutline}
 use Rattle.land_shape.specs.Place.{Place, area_of, ring_edges}
 use Rattle.land_shape.specs.Simple.{place_of, places, HaveLength, AllMeetOnlyAtJoints}
 use Rattle.land_shape.proofs.GrammarLemmas.{either_way}
@@ -25,7 +25,7 @@ map-reverse (p ∷ ps) =
 
 -- the result of a write to all points except the first
 pub turned_part : (ps rest : List Point) (k : ℕ) → 0 < length ps → k ≡ length ps - 1 → rest ≡ reverse (take k (drop 1 ps))
-    → places (take 1 ps ++ (rest ++ drop k (drop 1 ps))) ≡ turned (places ps)
+    → places (take 1 ps ++ (rest ++ drop k (drop 1 ps))) ≡ reversed_ring (places ps)
 turned_part [] rest k h e f = absurd (omega arith)
 turned_part (p ∷ ps) rest k h e f =
     let all : k ≡ length ps = omega arith in
@@ -36,11 +36,11 @@ turned_part (p ∷ ps) rest k h e f =
     ∙ ap (λ (s : List Point). place_of p ∷ places s) (append-nil rest ∙ f ∙ ap reverse whole)
     ∙ ap (λ (s : List Place). place_of p ∷ s) (map-reverse ps)
 
-pub area-turned : (ring : List Place) → area_of (ring_edges (turned ring)) ≡ pos 0 -ℤ area_of (ring_edges ring)
-area-turned [] = refl
-area-turned (p ∷ ps) = ring-turned p ps
+pub area-reversed_ring : (ring : List Place) → area_of (ring_edges (reversed_ring ring)) ≡ pos 0 -ℤ area_of (ring_edges ring)
+area-reversed_ring [] = refl
+area-reversed_ring (p ∷ ps) = ring-turned p ps
 
-pub put_left : (ring : List Place) → area_of (ring_edges ring) <ℤ pos 0 → counterclockwise_ring ring ≡ turned ring
+pub put_left : (ring : List Place) → area_of (ring_edges ring) <ℤ pos 0 → counterclockwise_ring ring ≡ reversed_ring ring
 put_left ring h = let t : int_lt (area_of (ring_edges ring)) (pos 0) ≡ true = sym (omega (arith, ints)) in rw t refl
 
 -- the elements of a `Vec` after a write to all of them
@@ -51,14 +51,14 @@ all_written {X} new old n e f =
     let all : n ≡ length new = omega arith in
     ap (λ (s : List X). take n (new ++ s)) none ∙ ap (λ (s : List X). take n s) (append-nil new) ∙ rw all (take-length new)
 
-length_turned : (ring : List Place) → length (turned ring) ≡ length ring
-length_turned [] = refl
-length_turned (p ∷ ps) = ap suc (length-reverse ps)
+length-reversed_ring : (ring : List Place) → length (reversed_ring ring) ≡ length ring
+length-reversed_ring [] = refl
+length-reversed_ring (p ∷ ps) = ap suc (length-reverse ps)
 
 length_left : (ring : List Place) → length (counterclockwise_ring ring) ≡ length ring
 length_left ring =
     either_way (int_lt (area_of (ring_edges ring)) (pos 0))
-    (λ t. rw t (length_turned ring))
+    (λ t. rw t (length-reversed_ring ring))
     (λ f. rw f refl)
 
 pub length-ring_of : (listed : List Place) → length (ring_of listed) ≡ length listed - 1

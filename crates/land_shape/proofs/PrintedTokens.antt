@@ -15,7 +15,7 @@ use Rattle.land_shape.specs.Tokens.{is_word_byte, word_of, tokens_after, tokens_
 use Rattle.land_shape.specs.declared.tokens.Token.{Token}
 use Rattle.land_shape.specs.declared.tokens.Token.TheVariants.{Open, Close, Comma, Word}
 use Rattle.land_shape.specs.Grammar.{Words, with_commas, point_tokens, body_tokens}
-use Rattle.land_shape.specs.Printed.{point_text, points_text, printed}
+use Rattle.land_shape.specs.Printed.{point_text, points_text, polygon_text}
 
 and_left : (a b : Bool) → (a && b) ≡ true → a ≡ true
 and_left true b h = refl
@@ -88,7 +88,7 @@ points_end p (q ∷ ps) rest h =
 
 -- the tokens of a printed ring are its keyword and the body that its points write
 pub printed_tokens : (p : Place) (ps : List Place) → AllByRecursion IsSmall ((p ∷ ps) ++ p ∷ [])
-    → tokens_of (printed (p ∷ ps)) ≡ Word (codes "POLYGON") ∷ body_tokens (map words_of ((p ∷ ps) ++ p ∷ []) ∷ [])
+    → tokens_of (polygon_text (p ∷ ps)) ≡ Word (codes "POLYGON") ∷ body_tokens (map words_of ((p ∷ ps) ++ p ∷ []) ∷ [])
 printed_tokens p ps h =
     ap (λ (s : List Token). Word (codes "POLYGON") ∷ Open ∷ Open ∷ s)
     (points_end p (ps ++ p ∷ []) (41 ∷ []) h ∙ sym (append_assoc (with_commas (map point_tokens (map words_of (p ∷ (ps ++ p ∷ []))))) (Close ∷ []) (Close ∷ [])))

@@ -4,12 +4,12 @@ use Rattle.land_shape.specs.declared.faults.ShapeFault.{ShapeFault}
 use Rattle.land_shape.specs.Faults.{IsFirstFault, Denotes, IsOutlineAnswer}
 use Rattle.land_shape.specs.Outline.{IsOutline}
 use Rattle.land_shape.specs.Place.{Place}
-use Rattle.land_shape.specs.Printed.{printed}
+use Rattle.land_shape.specs.Printed.{polygon_text}
 
 -- the canonical form of a ring denotes that ring and no other
 pub record PrintedLaw : Type 0 where
-  pub stands : (ring : List Place) → IsOutline ring → Denotes (printed ring) ring
-  pub alone : (ring other : List Place) → IsOutline ring → Denotes (printed ring) other → other ≡ ring
+  pub stands : (ring : List Place) → IsOutline ring → Denotes (polygon_text ring) ring
+  pub alone : (ring other : List Place) → IsOutline ring → Denotes (polygon_text ring) other → other ≡ ring
 
 -- a text does not have two results: it denotes at most one ring, has at most one first fault, and not both
 pub record OneAnswerLaw : Type 0 where

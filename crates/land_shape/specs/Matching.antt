@@ -59,8 +59,8 @@ places_of [] = []
 places_of (ring ∷ rings) = ring ++ places_of rings
 
 -- an edge the other way round
-abbrev pub reversed : Edge → Edge
-reversed e = record { from = e.to; to = e.from }
+abbrev pub reversed_edge : Edge → Edge
+reversed_edge e = record { from = e.to; to = e.from }
 
 -- whether two edges have the same start and the same end
 abbrev pub is_same_edge : Edge → Edge → Bool
@@ -72,7 +72,7 @@ count_of e es = count_by (λ f. is_same_edge f e) es
 
 -- the balance of a list along an edge: the occurrences of the edge minus those of the reversed edge
 abbrev pub count_along : Edge → List Edge → ℤ
-count_along e es = pos (count_of e es) -ℤ pos (count_of (reversed e) es)
+count_along e es = pos (count_of e es) -ℤ pos (count_of (reversed_edge e) es)
 
 -- two lists of edges have the same balance along every edge
 abbrev pub HaveSameBalance : List Edge → List Edge → Type 0

@@ -12,12 +12,12 @@ abbrev pub doubled_area : List Place → ℕ
 doubled_area ring = unsigned_abs (area_of (ring_edges ring))
 
 -- the ring in the opposite direction, from the same first point
-abbrev pub turned : List Place → List Place
-turned [] = []
-turned (p ∷ ps) = p ∷ reverse ps
+abbrev pub reversed_ring : List Place → List Place
+reversed_ring [] = []
+reversed_ring (p ∷ ps) = p ∷ reverse ps
 
 abbrev pub counterclockwise_ring : List Place → List Place
-counterclockwise_ring ring = if int_lt (area_of (ring_edges ring)) (pos 0) then turned ring else ring
+counterclockwise_ring ring = if int_lt (area_of (ring_edges ring)) (pos 0) then reversed_ring ring else ring
 
 -- the ring of the points that a text lists, counterclockwise. The last point closes the ring and is dropped.
 -- Reversing a ring leaves its edges in place, so conditions on them can be checked on the counterclockwise

@@ -14,5 +14,5 @@ points_text (p ∷ []) = point_text p
 points_text (p ∷ q ∷ ps) = point_text p ++ 44 ∷ 32 ∷ points_text (q ∷ ps)
 
 -- `POLYGON ((x y, x y, ...))`, closed by the first point again
-abbrev pub printed : List Place → List ℕ
-printed ring = codes "POLYGON ((" ++ points_text (ring ++ take 1 ring) ++ 41 ∷ 41 ∷ []
+abbrev pub polygon_text : List Place → List ℕ
+polygon_text ring = codes "POLYGON ((" ++ points_text (ring ++ take 1 ring) ++ 41 ∷ 41 ∷ []

@@ -90,6 +90,6 @@ abbrev pub polygon_of : List Token → Option Polygon
 polygon_of tokens = option_and_then polygon_after (split_head tokens)
 
 -- the polygon that the reader returns
-abbrev pub written : WrittenPolygon → Polygon
-written code.Empty = empty
-written (code.Body tagged rings) = body tagged rings.items
+abbrev pub written_polygon : WrittenPolygon → Polygon
+written_polygon code.Empty = empty
+written_polygon (code.Body tagged rings) = body tagged rings.items

@@ -3,7 +3,7 @@
 ghost use Rattle.std.specs.Prelude.{◌≡◌};
 ghost use Rattle.land_shape.specs.Edges.{edge_of};
 ghost use Rattle.land_shape.specs.Matching.{is_between, is_on_line, is_in_box, lies_on, lies_inside};
-ghost use Rattle.land_shape.specs.Matching.{reversed};
+ghost use Rattle.land_shape.specs.Matching.{reversed_edge};
 ghost use Rattle.land_shape.specs.Place.{is_same_place};
 ghost use Rattle.land_shape.specs.Simple.{place_of};
 
@@ -18,8 +18,8 @@ pub(crate) struct Edge {
 
 impl Edge {
     /// Returns the reversed edge.
-    pub(crate) fn reversed(self) -> Edge
-        ensures { edge_of result ≡ reversed (edge_of self) }
+    pub(crate) fn reversed_edge(self) -> Edge
+        ensures { edge_of result ≡ reversed_edge (edge_of self) }
     {
         Edge {
             from: self.to,

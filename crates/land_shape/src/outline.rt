@@ -4,7 +4,7 @@ ghost use Rattle.std.specs.Prelude.{◌≡◌, ◌<◌, ◌≤◌, ◌≤ℤ◌,
 ghost use Rattle.land_shape.specs.Matching.{runs_counterclockwise};
 ghost use Rattle.land_shape.specs.Outline.{IsOutline, counterclockwise_ring, doubled_area};
 ghost use Rattle.land_shape.specs.Place.{area_of, is_same_ring, ring_edges};
-ghost use Rattle.land_shape.specs.Printed.{printed};
+ghost use Rattle.land_shape.specs.Printed.{polygon_text};
 ghost use Rattle.land_shape.specs.Simple.{places};
 ghost use Rattle.land_shape.specs.Steps.{IsRingOrFault};
 
@@ -39,7 +39,8 @@ impl Model for Ring {
 
     ghost view = { λ r. places r.points.items };
 
-    ghost invariant = { λ r. IsOutline (places r.points.items) × (r.doubled ≡ doubled_area (places r.points.items)) };
+    ghost invariant = { λ r. IsOutline (places r.points.items)
+        × (r.doubled ≡ doubled_area (places r.points.items)) };
 }
 
 impl Ring {
@@ -70,7 +71,7 @@ impl Ring {
     /// Returns the ring in well-known text: `POLYGON ((x y, x y, ...))`, with the first point repeated at the
     /// end.
     pub fn write_wkt(&self) -> Result<String, AllocError>
-        ensures { IfOk result (λ text. string_bytes text ≡ printed self.now) }
+        ensures { IfOk result (λ text. string_bytes text ≡ polygon_text self.now) }
     {
         write_points(*self.points.allocator(), &self.points)
     }

@@ -2,7 +2,7 @@
 
 ghost use Rattle.std.specs.Prelude.{◌≡◌, ◌↔◌, IsTrue};
 ghost use Rattle.land_shape.specs.Faults.{SomeOf, HasManyWords};
-ghost use Rattle.land_shape.specs.Reader.{written};
+ghost use Rattle.land_shape.specs.Reader.{written_polygon};
 ghost use Rattle.land_shape.specs.Steps.{IsFull, PlainRing};
 
 use crate::body::{WrittenPoint, WrittenRing};
@@ -24,8 +24,8 @@ fn has_long_point(points: &[WrittenPoint<'_>]) -> bool
 /// Returns the only ring of a polygon without a tag, whose points have two words each. Errors: 111 `Empty`,
 /// 112 `Inner`, 113 `ZOrM`.
 pub(crate) fn plain_ring<'a>(polygon: WrittenPolygon<'a>) -> Result<WrittenRing<'a>, ShapeFault>
-    requires { IsFull (written polygon) }
-    ensures { PlainRing (written polygon.entry) result }
+    requires { IsFull (written_polygon polygon) }
+    ensures { PlainRing (written_polygon polygon.entry) result }
 {
     let WrittenPolygon::Body { tagged, mut rings } = polygon else {
         return Err(ShapeFault::Empty);

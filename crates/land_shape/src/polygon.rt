@@ -2,7 +2,8 @@
 
 ghost use Rattle.std.specs.Prelude.{◌≡◌, IfOk, MatchOption, Some, None};
 ghost use Rattle.std.specs.Option.{option_map};
-ghost use Rattle.land_shape.specs.Reader.{split_head, split_tag, is_only_empty_word, polygon_of, written};
+ghost use Rattle.land_shape.specs.Reader.{split_head, split_tag, is_only_empty_word, polygon_of};
+ghost use Rattle.land_shape.specs.Reader.{written_polygon};
 
 use crate::body::{WrittenRing, body_of};
 use crate::tokens::Token;
@@ -65,7 +66,7 @@ pub(crate) fn polygon_of<'a>(
     alloc: Global,
     tokens: &[Token<'a>],
 ) -> Result<Option<WrittenPolygon<'a>>, AllocError>
-    ensures { IfOk result (λ polygon. option_map written polygon ≡ polygon_of tokens.now) }
+    ensures { IfOk result (λ polygon. option_map written_polygon polygon ≡ polygon_of tokens.now) }
 {
     let Some((tagged, rest)) = split_head(tokens) else {
         return Ok(None);

@@ -1,7 +1,7 @@
 //! Writes rings as text.
 
 ghost use Rattle.std.specs.Prelude.{◌≡◌, ◌<◌, ◌++◌, length, OnOk, IfOk, string_bytes};
-ghost use Rattle.land_shape.specs.Printed.{point_text, printed};
+ghost use Rattle.land_shape.specs.Printed.{point_text, polygon_text};
 ghost use Rattle.land_shape.specs.Simple.{place_of, places};
 
 use crate::plane::Point;
@@ -20,7 +20,7 @@ fn push_point(out: &mut String, point: Point) -> Result<(), AllocError>
 /// Returns the canonical form of a ring.
 pub(crate) fn write_points(alloc: Global, points: &[Point]) -> Result<String, AllocError>
     requires { 0 < length points.now }
-    ensures { IfOk result (λ text. string_bytes text ≡ printed (places points.now)) }
+    ensures { IfOk result (λ text. string_bytes text ≡ polygon_text (places points.now)) }
 {
     let first = points[0];
     let mut out = String::from_str(alloc, "POLYGON ((")?;

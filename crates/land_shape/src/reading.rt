@@ -3,7 +3,7 @@
 ghost use Rattle.std.specs.Prelude.{◌≢◌, IfOk, IfErr};
 ghost use Rattle.land_shape.specs.Faults.{IsFirstFault, Denotes};
 ghost use Rattle.land_shape.specs.Grammar.{IsPolygon};
-ghost use Rattle.land_shape.specs.Reader.{written};
+ghost use Rattle.land_shape.specs.Reader.{written_polygon};
 ghost use Rattle.land_shape.specs.Simple.{places};
 ghost use Rattle.land_shape.specs.Steps.{IsPlainList};
 
@@ -19,7 +19,7 @@ use std::alloc::Global;
 
 /// Returns the polygon of the whole text. Error: 110 `NotPolygon`, or 501.
 fn find_polygon<'a>(alloc: Global, text: &'a str) -> Result<WrittenPolygon<'a>, ShapeFault>
-    ensures polygon { IfOk result (λ polygon. IsPolygon text.entry.now (written polygon)) }
+    ensures polygon { IfOk result (λ polygon. IsPolygon text.entry.now (written_polygon polygon)) }
     ensures fault { IfErr result (λ fault. fault ≢ ShapeFault.NoMemory → IsFirstFault text.entry.now fault) }
 {
     let tokens = tokens_of(alloc, text)?;

@@ -3,7 +3,7 @@
 ghost use Rattle.std.specs.Prelude.{◌≡◌, ◌≤◌, ◌++◌, false, true, IfOk, IsTrue, drop, length, map, take};
 ghost use Rattle.std.specs.List.{AllByRecursion};
 ghost use Rattle.land_shape.specs.Edges.{edges};
-ghost use Rattle.land_shape.specs.Matching.{reversed};
+ghost use Rattle.land_shape.specs.Matching.{reversed_edge};
 ghost use Rattle.land_shape.specs.Simple.{place_of, places};
 ghost use Rattle.land_shape.specs.Walks.{IsAscendingBy, is_before, walk, walks};
 
@@ -87,12 +87,12 @@ fn with_walks(so_far: Vec<Edge>, corners: &[Point], list: &[Edge]) -> Result<Vec
 }
 
 /// Returns the reversed edges.
-fn reversed(alloc: Global, list: &[Edge]) -> Result<Vec<Edge>, AllocError>
-    ensures { IfOk result (λ v. edges v.items ≡ map reversed (edges list.now)) }
+fn reversed_edges(alloc: Global, list: &[Edge]) -> Result<Vec<Edge>, AllocError>
+    ensures { IfOk result (λ v. edges v.items ≡ map reversed_edge (edges list.now)) }
 {
     let mut all = Vec::new(alloc);
     for edge in list {
-        all.push(edge.reversed())?;
+        all.push(edge.reversed_edge())?;
     }
     Ok(all)
 }
@@ -106,9 +106,9 @@ pub(crate) fn pieces_one_way(
 ) -> Result<Vec<Edge>, AllocError>
     requires { IsAscendingBy is_before (places corners.now) }
     ensures { IfOk result (λ v. edges v.items ≡ walks (places corners.now)
-        (edges ours.now ++ map reversed (edges theirs.now))) }
+        (edges ours.now ++ map reversed_edge (edges theirs.now))) }
 {
     let all = with_walks(Vec::new(alloc), corners, ours)?;
-    let back = reversed(alloc, theirs)?;
+    let back = reversed_edges(alloc, theirs)?;
     with_walks(all, corners, &back)
 }

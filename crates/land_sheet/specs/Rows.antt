@@ -21,7 +21,7 @@ use Rattle.land_core.specs.declared.unit.Unit.{Unit}
 use Rattle.land_fraction.specs.Text.{text_of}
 use Rattle.land_shape.specs.Outline.{doubled_area}
 use Rattle.land_shape.specs.Place.{Place}
-use Rattle.land_shape.specs.Printed.{printed}
+use Rattle.land_shape.specs.Printed.{polygon_text}
 use Rattle.land_sheet.specs.Areas.{square_metres}
 use Rattle.land_sheet.specs.Words.{checked_word}
 
@@ -53,7 +53,7 @@ parcel_start parcel = decimal parcel.number ∷ decimal parcel.unit ∷ parcel.l
 
 -- the square metres of an outline, and the outline as well-known text
 unfoldable pub outline_fields : (ring : List Place) → List (List ℕ)
-outline_fields ring = square_metres (doubled_area ring) ∷ printed ring ∷ []
+outline_fields ring = square_metres (doubled_area ring) ∷ polygon_text ring ∷ []
 
 unfoldable pub parcel_fields : Parcel → List (List ℕ)
 parcel_fields parcel = parcel_start parcel ++ (outline_fields parcel.outline ++ (decimal parcel.source ∷ []))

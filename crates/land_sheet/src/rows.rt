@@ -4,7 +4,7 @@ ghost use Rattle.std.specs.Fmt.{signed_decimal};
 ghost use Rattle.csv.specs.Writing.{default_writer, row_text, text_written};
 ghost use Rattle.land_fraction.specs.Text.{text_of};
 ghost use Rattle.land_shape.specs.Outline.{doubled_area};
-ghost use Rattle.land_shape.specs.Printed.{printed};
+ghost use Rattle.land_shape.specs.Printed.{polygon_text};
 ghost use Rattle.land_sheet.specs.Appending.{AppendsFields};
 ghost use Rattle.land_sheet.specs.Areas.{square_metres};
 ghost use Rattle.land_sheet.specs.Extracts.Writing.{rows_of};
@@ -228,7 +228,7 @@ fn push_area(fields: &mut Vec<String>, alloc: Global, outline: &Ring) -> Result<
 
 /// Writes an outline as a field, as well-known text.
 fn push_outline(fields: &mut Vec<String>, outline: &Ring) -> Result<(), AllocError>
-    ensures { AppendsFields result fields.old fields.new (printed outline.now ∷ []) }
+    ensures { AppendsFields result fields.old fields.new (polygon_text outline.now ∷ []) }
 {
     fields.push(outline.write_wkt()?)?;
     Ok(())

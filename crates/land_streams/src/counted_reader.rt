@@ -36,7 +36,7 @@ impl<'a, R> CountedReader<'a, R> {
     }
 
     /// Returns the number of reads left.
-    pub fn left(&self) -> u64
+    pub fn reads_left(&self) -> u64
         ensures { result ≡ self.now.left }
     {
         self.left

@@ -12,7 +12,7 @@ use Rattle.land_core.specs.Entries.{are_distinct}
 use Rattle.land_core.specs.Grants.{grant_cmp, grants_in}
 use Rattle.land_core.specs.Mandates.{mandate_cmp, mandates_in}
 use Rattle.land_core.specs.Numbers.{IsMoment, last_moment}
-use Rattle.land_core.specs.Register.{nothing}
+use Rattle.land_core.specs.Register.{empty_register}
 use Rattle.land_core.specs.Soundness.{IsSound}
 use Rattle.land_core.specs.declared.mandates.Mandate.{Mandate}
 use Rattle.land_core.specs.declared.mutation.MutationRecord.{MutationRecord}
@@ -38,7 +38,7 @@ use Rattle.land_tables_history.specs.History.{IsRegisterAt, namings_of}
 use Rattle.land_tables_history.specs.Intervals.{is_same_grant, is_same_mandate, is_same_member, is_same_naming, is_same_number, is_stamp}
 use Rattle.land_tables_history.specs.ValidHistory.{IsValidAt, is_same_stamp, never_decreases}
 use Rattle.land_tables_history.specs.Open.{has_ended, have_ended}
-use Rattle.land_tables_history.specs.Standing.{IsPartAt, part_at, standing}
+use Rattle.land_tables_history.specs.Standing.{IsPartAt, part_at, current_values}
 use Rattle.land_tables_history.specs.declared.history.History.{History}
 use Rattle.land_tables_history.specs.declared.moment.Moment.{Moment}
 use Rattle.land_tables_history.specs.declared.naming.Naming.{Naming}
@@ -47,22 +47,22 @@ use Rattle.land_tables_history.specs.declared.version.Version.{Version}
 -- ---- the versions at a stamp
 
 part_stands : {V : Type 0} (moments : List Moment) (t : ℤ) (vs : List (Version (ℕ × V))) → Proper is_same_number moments vs → IsPartAt t vs (part_at t vs)
-part_stands moments t vs p = made_part (standing t vs) (distinct_standing is_same_number t vs p.apart)
+part_stands moments t vs p = made_part (current_values t vs) (distinct_standing is_same_number t vs p.apart)
 
 -- at a moment at which a history is valid, its versions represent the register that they form
 stands_there : (moments : List Moment) (h : History) (m : Moment) → AllProper moments h → IsValidAt h m → IsRegisterAt m.stamp h (history.register_at m.stamp h m.next)
 stands_there moments h m p valid_history = record {
   parties = part_stands moments m.stamp h.parties p.parties;
-  roles = made_roles (standing m.stamp h.roles) (distinct_standing is_same_grant m.stamp h.roles p.roles.apart);
-  members = made_groups (standing m.stamp h.members) (distinct_standing is_same_member m.stamp h.members p.members.apart);
+  roles = made_roles (current_values m.stamp h.roles) (distinct_standing is_same_grant m.stamp h.roles p.roles.apart);
+  members = made_groups (current_values m.stamp h.members) (distinct_standing is_same_member m.stamp h.members p.members.apart);
   units = part_stands moments m.stamp h.units p.units;
   parcels = part_stands moments m.stamp h.parcels p.parcels;
   rrrs = part_stands moments m.stamp h.rrrs p.rrrs;
   sources = part_stands moments m.stamp h.sources p.sources;
   mutations = part_stands moments m.stamp h.mutations p.mutations;
-  namings = same_namings (standing m.stamp h.namings) (namings_of (history.register_at m.stamp h m.next).mutations)
+  namings = same_namings (current_values m.stamp h.namings) (namings_of (history.register_at m.stamp h m.next).mutations)
       (distinct_standing is_same_naming m.stamp h.namings p.namings.apart) (namings_distinct (history.register_at m.stamp h m.next) valid_history.sound) valid_history.named;
-  mandates = made_mandates (standing m.stamp h.mandates) (distinct_standing is_same_mandate m.stamp h.mandates p.mandates.apart);
+  mandates = made_mandates (current_values m.stamp h.mandates) (distinct_standing is_same_mandate m.stamp h.mandates p.mandates.apart);
 }
 
 -- ---- and until the next stamp
@@ -83,11 +83,11 @@ stands_still moments h s t r p least most same there = record {
   mandates = on is_same_mandate h.mandates p.mandates there.mandates;
 }
   where
-    on : {X : Type 0} (alike : X → X → Bool) (vs : List (Version X)) {records : List X} → Proper alike moments vs → IsPermutation (standing s vs) records → IsPermutation (standing t vs) records
+    on : {X : Type 0} (alike : X → X → Bool) (vs : List (Version X)) {records : List X} → Proper alike moments vs → IsPermutation (current_values s vs) records → IsPermutation (current_values t vs) records
     on alike vs {records} its there = subst (λ l. IsPermutation l records) (sym (same_standing moments s t vs least most same its.intervals)) there
 
 -- before the first stamp there are no versions
-pub nothing_stands : (moments : List Moment) (h : History) (t : ℤ) → AllProper moments h → ((u : ℤ) → is_stamp moments u ≡ true → int_le u t ≡ false) → IsRegisterAt t h nothing
+pub nothing_stands : (moments : List Moment) (h : History) (t : ℤ) → AllProper moments h → ((u : ℤ) → is_stamp moments u ≡ true → int_le u t ≡ false) → IsRegisterAt t h empty_register
 unfolding grants_in mandates_in
 nothing_stands moments h t p none = record {
   parties = on is_same_number h.parties p.parties (no_entries nat_cmp _);
@@ -102,7 +102,7 @@ nothing_stands moments h t p none = record {
   mandates = on is_same_mandate h.mandates p.mandates (ap (map_list (λ (e : Mandate × Unit {0}). e.0)) (no_entries mandate_cmp (Unit {0})));
 }
   where
-    on : {X : Type 0} (alike : X → X → Bool) (vs : List (Version X)) {records : List X} → Proper alike moments vs → records ≡ [] → IsPermutation (standing t vs) records
+    on : {X : Type 0} (alike : X → X → Bool) (vs : List (Version X)) {records : List X} → Proper alike moments vs → records ≡ [] → IsPermutation (current_values t vs) records
     on alike vs {records} its empty =
         subst (λ l. IsPermutation l records) (sym (none_standing moments t vs none its.intervals)) (subst (λ l. IsPermutation [] l) (sym empty) (IsPermutation-refl []))
 

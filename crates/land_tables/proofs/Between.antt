@@ -14,7 +14,7 @@ use Rattle.land_tables.specs.Timelines.{version_of}
 use Rattle.land_tables_history.proofs.MomentOrder.{le_from, le_itself, lt_is_le, lt_through}
 use Rattle.land_tables_history.specs.Intervals.{is_interval, is_stamp}
 use Rattle.land_tables_history.specs.Open.{has_ended}
-use Rattle.land_tables_history.specs.Standing.{standing, stands}
+use Rattle.land_tables_history.specs.Standing.{current_values, is_current}
 use Rattle.land_tables_history.specs.declared.history.History.{History}
 use Rattle.land_tables_history.specs.declared.moment.Moment.{Moment}
 use Rattle.land_tables_history.specs.declared.version.Version.{Version}
@@ -140,7 +140,7 @@ other_way t u = grind (arith, ints)
 most_too : (s t : ℤ) → s ≤ℤ t → t ≤ℤ last_moment → s ≤ℤ last_moment
 most_too s t h g = omega (arith, ints)
 
-stands_alike : {X : Type 0} (moments : List Moment) (s t : ℤ) (v : Version X) → s ≤ℤ t → t ≤ℤ last_moment → ((u : ℤ) → is_stamp moments u ≡ true → int_le u t ≡ int_le u s) → is_interval moments v ≡ true → stands t v ≡ stands s v
+stands_alike : {X : Type 0} (moments : List Moment) (s t : ℤ) (v : Version X) → s ≤ℤ t → t ≤ℤ last_moment → ((u : ℤ) → is_stamp moments u ≡ true → int_le u t ≡ int_le u s) → is_interval moments v ≡ true → is_current t v ≡ is_current s v
 stands_alike moments s t v least most same interval =
     let its = spans moments v interval in
     ap (λ b. b && int_lt t v.until) (same v.since its.begins) ∙ ap (λ b. int_le v.since s && b) (go (int_eq v.until (pos 4102444800000)) refl its.ends)
@@ -150,23 +150,23 @@ stands_alike moments s t v least most same interval =
     go false never is = other_way t v.until ∙ ap not (same v.until is) ∙ sym (other_way s v.until)
 
 pub same_standing : {X : Type 0} (moments : List Moment) (s t : ℤ) (vs : List (Version X)) → s ≤ℤ t → t ≤ℤ last_moment → ((u : ℤ) → is_stamp moments u ≡ true → int_le u t ≡ int_le u s)
-    → list_all (is_interval moments) vs ≡ true → standing t vs ≡ standing s vs
+    → list_all (is_interval moments) vs ≡ true → current_values t vs ≡ current_values s vs
 same_standing moments s t [] least most same intervals = refl
 same_standing {X} moments s t (v ∷ vs) least most same intervals =
     let parts = and_parts (is_interval moments v) (list_all (is_interval moments) vs) intervals in
-    ap (λ b. map (λ (v : Version X). v.what) (cond b (v ∷ filter (stands t) vs) (filter (stands t) vs))) (stands_alike moments s t v least most same parts.0)
-    ∙ go (stands s v) (same_standing moments s t vs least most same parts.1)
+    ap (λ b. map (λ (v : Version X). v.what) (cond b (v ∷ filter (is_current t) vs) (filter (is_current t) vs))) (stands_alike moments s t v least most same parts.0)
+    ∙ go (is_current s v) (same_standing moments s t vs least most same parts.1)
   where
-    go : (b : Bool) → standing t vs ≡ standing s vs → map (λ (v : Version X). v.what) (cond b (v ∷ filter (stands t) vs) (filter (stands t) vs)) ≡ map (λ (v : Version X). v.what) (cond b (v ∷ filter (stands s) vs) (filter (stands s) vs))
+    go : (b : Bool) → current_values t vs ≡ current_values s vs → map (λ (v : Version X). v.what) (cond b (v ∷ filter (is_current t) vs) (filter (is_current t) vs)) ≡ map (λ (v : Version X). v.what) (cond b (v ∷ filter (is_current s) vs) (filter (is_current s) vs))
     go true rest = ap (λ l. v.what ∷ l) rest
     go false rest = rest
 
 -- before every stamp no version is current
-pub none_standing : {X : Type 0} (moments : List Moment) (t : ℤ) (vs : List (Version X)) → ((u : ℤ) → is_stamp moments u ≡ true → int_le u t ≡ false) → list_all (is_interval moments) vs ≡ true → standing t vs ≡ []
+pub none_standing : {X : Type 0} (moments : List Moment) (t : ℤ) (vs : List (Version X)) → ((u : ℤ) → is_stamp moments u ≡ true → int_le u t ≡ false) → list_all (is_interval moments) vs ≡ true → current_values t vs ≡ []
 none_standing moments t [] none intervals = refl
 none_standing {X} moments t (v ∷ vs) none intervals =
     let parts = and_parts (is_interval moments v) (list_all (is_interval moments) vs) intervals in
-    ap (λ b. map (λ (v : Version X). v.what) (cond (b && int_lt t v.until) (v ∷ filter (stands t) vs) (filter (stands t) vs))) (none v.since (spans moments v parts.0).begins)
+    ap (λ b. map (λ (v : Version X). v.what) (cond (b && int_lt t v.until) (v ∷ filter (is_current t) vs) (filter (is_current t) vs))) (none v.since (spans moments v parts.0).begins)
     ∙ none_standing moments t vs none parts.1
 
 -- each end is open, or at most the last stamp

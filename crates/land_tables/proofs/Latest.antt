@@ -4,7 +4,7 @@ use Rattle.std.specs.Prelude.{ℤ, ◌<ℤ◌, int_le, fold, unwrap_or, if◌the
 use Rattle.std.specs.Option.{option_map, option_map_or}
 use Rattle.std.proofs.lemmas.Bool.{false≢true}
 use Rattle.std.proofs.lemmas.Int.{ints}
-use Rattle.land_core.specs.Register.{nothing}
+use Rattle.land_core.specs.Register.{empty_register}
 use Rattle.land_keep.specs.Timeline.{IsIncreasing, IncreasesFrom, Timeline, last_from, last_register, last_stamp, register_at, version_at}
 use Rattle.land_keep.specs.declared.timeline.Version.{Version}
 use Rattle.land_tables.proofs.Sorting.{timeline_order}
@@ -134,7 +134,7 @@ latest_version passes (v ∷ vs) moments rises p =
 pub next_is : (tl : Timeline) (moments : List Moment) (t : ℤ) → IsIncreasing tl → IsPermutation (map moment_of tl) moments → next_at moments t ≡ (register_at tl t).next
 next_is tl moments t rises p = ap (λ o. option_map_or (λ (m : Moment). m.next) o 2) (latest_version (λ m. int_le m.stamp t) tl moments rises p) ∙ same (version_at tl t)
   where
-    same : (o : Option Version) → option_map_or (λ (m : Moment). m.next) (option_map moment_of o) 2 ≡ (unwrap_or (option_map (λ (v : Version). v.register) o) nothing).next
+    same : (o : Option Version) → option_map_or (λ (m : Moment). m.next) (option_map moment_of o) 2 ≡ (unwrap_or (option_map (λ (v : Version). v.register) o) empty_register).next
     same None = refl
     same (Some v) = refl
 

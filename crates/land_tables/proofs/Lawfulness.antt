@@ -29,7 +29,7 @@ use Rattle.land_tables_history.specs.History as history
 use Rattle.land_tables_history.specs.History.{namings_of}
 use Rattle.land_tables_history.specs.Intervals.{is_same_naming}
 use Rattle.land_tables_history.specs.ValidHistory.{IsValidAt, are_moments, are_same_namings, decreases, is_among, is_same_stamp, never_decreases}
-use Rattle.land_tables_history.specs.Standing.{standing}
+use Rattle.land_tables_history.specs.Standing.{current_values}
 use Rattle.land_tables_history.specs.declared.history.History.{History}
 use Rattle.land_tables_history.specs.declared.moment.Moment.{Moment}
 use Rattle.land_tables_history.specs.declared.naming.Naming.{Naming}
@@ -143,8 +143,8 @@ lawful_at look_ups ms h tl stands sound m is its =
     let mutations = ap (λ (r : Register). r.mutations) there in
     record {
       sound = its;
-      named = same_if_permuted (standing m.stamp h.namings) (namings_of (history.register_at m.stamp h m.next).mutations)
-          (subst (λ k. IsPermutation (standing m.stamp h.namings) (namings_of k)) (sym mutations) (stands.stands m.stamp is).namings);
+      named = same_if_permuted (current_values m.stamp h.namings) (namings_of (history.register_at m.stamp h m.next).mutations)
+          (subst (λ k. IsPermutation (current_values m.stamp h.namings) (namings_of k)) (sym mutations) (stands.stands m.stamp is).namings);
     }
 
 pub sound_is_lawful : SoundnessByNumber → SoundTimelinesAreValid

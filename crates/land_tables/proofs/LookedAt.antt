@@ -7,7 +7,7 @@ use Rattle.std.specs.Ordering.{int_eq}
 use Rattle.std.proofs.lemmas.Bool.{false≢true}
 use Rattle.std.proofs.lemmas.Int.{ints}
 use Rattle.land_core.specs.Numbers.{IsMoment, last_moment}
-use Rattle.land_core.specs.Register.{nothing}
+use Rattle.land_core.specs.Register.{empty_register}
 use Rattle.land_core.specs.declared.register.Register.{Register}
 use Rattle.land_keep.specs.Timeline.{Timeline, register_at}
 use Rattle.land_tables.proofs.AdoptedTimelines.{nothing_stands}
@@ -35,7 +35,7 @@ all_after (v ∷ vs) t u all less is = go (int_eq v.stamp u) refl is (all_after 
     go false here is rest = rest is
 
 -- before the first moment the tables of a register have no versions
-stands_before : (s : State) (register : HoldsRegister s) (t : ℤ) → t <ℤ pos 0 → IsRegisterAt t register.holds.history nothing
+stands_before : (s : State) (register : HoldsRegister s) (t : ℤ) → t <ℤ pos 0 → IsRegisterAt t register.holds.history empty_register
 stands_before s register t less =
     let tl = decoded_timeline s.now.trees in
     let holds = register.holds in

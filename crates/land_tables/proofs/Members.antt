@@ -8,7 +8,7 @@ use Rattle.std.specs.Ordering.{nat_cmp}
 use Rattle.land_core.proofs.FiniteMaps.{none_is_not_some, nothing_from_length}
 use Rattle.land_core.specs.Laws.{IsSoundByNumber, SoundnessByNumber}
 use Rattle.land_core.specs.Members.{shares_in}
-use Rattle.land_core.specs.Register.{is_single, nothing, shares_of}
+use Rattle.land_core.specs.Register.{is_single, empty_register, shares_of}
 use Rattle.land_core.specs.Soundness.{IsSound}
 use Rattle.land_core.specs.declared.party.PartyRecord.{PartyRecord}
 use Rattle.land_core.specs.declared.register.Register.{Register}
@@ -34,5 +34,5 @@ sound_members look_ups r sound group is = go (map.get r.parties group) refl (tol
     go None at h = false≢true h
     go (Some p) at h = few (length (shares_of r group)) (told.groups group p at (not-true (is_single p.kind) h)).least (ap length nobody)
 
-pub no_members : HaveMembers nothing.members
+pub no_members : HaveMembers empty_register.members
 no_members group is = none_is_not_some (sym (get-empty nat_cmp group) ∙ is)

@@ -19,7 +19,7 @@ use Rattle.land_tables_history.specs.History.{named_units, namings_of}
 use Rattle.land_tables_history.specs.History.{register_at}
 use Rattle.land_tables_history.specs.Intervals.{has_intervals}
 use Rattle.land_tables_history.specs.ValidHistory.{IsValidHistory, IsValidAt, are_same_namings}
-use Rattle.land_tables_history.specs.Standing.{standing}
+use Rattle.land_tables_history.specs.Standing.{current_values}
 use Rattle.land_tables_history.specs.declared.moment.Moment.{Moment}
 use Rattle.land_tables_rows.specs.Listing.Reading.{moments}
 use Rattle.land_tables_rows.specs.Listing.Told.{decoded_history, decode_rows}
@@ -39,7 +39,7 @@ register_is = refl
 no_mutations : map.entries (map.empty {X = MutationRecord} {R = nat_cmp}) ≡ []
 no_mutations = no_more _ (sym (map.len-entries map.empty) ∙ map.len-empty nat_cmp MutationRecord)
 
-none_named : are_same_namings (standing (pos 0) new_history.namings) (namings_of (register_at (pos 0) new_history 2).mutations) ≡ true
+none_named : are_same_namings (current_values (pos 0) new_history.namings) (namings_of (register_at (pos 0) new_history 2).mutations) ≡ true
 none_named = ap (λ (entries : List (ℕ × MutationRecord)). are_same_namings [] (flat_map (λ m. map_list (λ unit. record { mutation = m.0; unit = unit }) (named_units m.1.content)) entries)) no_mutations
 
 valid_history : IsValidHistory new_moments new_history

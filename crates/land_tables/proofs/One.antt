@@ -5,7 +5,7 @@ use Rattle.std.specs.List.{AllByRecursion}
 use Rattle.std.specs.Option.{option_map}
 use Rattle.land_core.specs.Laws.{SoundnessByNumber}
 use Rattle.land_core.specs.Numbers.{IsMoment}
-use Rattle.land_core.specs.Register.{nothing}
+use Rattle.land_core.specs.Register.{empty_register}
 use Rattle.land_core.specs.Soundness.{IsSound}
 use Rattle.land_core.specs.declared.register.Register.{Register}
 use Rattle.land_keep.specs.Timeline.{IsIncreasing, IsSoundTimeline, IncreasesFrom, Timeline, register_at}
@@ -25,7 +25,7 @@ use Rattle.land_tables_history.specs.declared.moment.Moment.{Moment}
 
 -- the register of a version, or the empty register
 abbrev pub registered : Option Version → Register
-registered found = unwrap_or (option_map (λ (v : Version). v.register) found) nothing
+registered found = unwrap_or (option_map (λ (v : Version). v.register) found) empty_register
 
 -- the last version whose stamp is at most t, or a default
 abbrev pub found_at : ℤ → Option Version → Timeline → Option Version

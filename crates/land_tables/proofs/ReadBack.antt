@@ -6,7 +6,7 @@ use Rattle.std.specs.Option.{option_map}
 use Rattle.std.specs.List.{AllByRecursion}
 use Rattle.std.proofs.lemmas.Int.{ints}
 use Rattle.land_core.specs.Numbers.{IsMoment, last_moment}
-use Rattle.land_core.specs.Register.{nothing}
+use Rattle.land_core.specs.Register.{empty_register}
 use Rattle.land_core.specs.declared.register.Register.{Register}
 use Rattle.land_keep.proofs.Timelines.{last_is_moment}
 use Rattle.land_keep.specs.Keeping.{Closes}
@@ -32,8 +32,8 @@ none_found t less (v ∷ vs) all =
     ap (λ b. fold (λ found v. if int_le v.stamp t then Some v else found) (cond b (Some v) None) vs) (is_before t v.stamp all.0.0 less) ∙ none_found t less vs all.1
 
 -- before the first moment the register is empty
-pub before_all : (tl : Timeline) (t : ℤ) → IsSoundTimeline tl → t <ℤ pos 0 → register_at tl t ≡ nothing
-before_all tl t sound less = ap (λ (o : Option Version). unwrap_or (option_map (λ (v : Version). v.register) o) nothing) (none_found t less tl sound.moments)
+pub before_all : (tl : Timeline) (t : ℤ) → IsSoundTimeline tl → t <ℤ pos 0 → register_at tl t ≡ empty_register
+before_all tl t sound less = ap (λ (o : Option Version). unwrap_or (option_map (λ (v : Version). v.register) o) empty_register) (none_found t less tl sound.moments)
 
 pub not_before : (t : ℤ) → int_lt t (pos 0) ≡ false → pos 0 ≤ℤ t
 not_before t h = grind (arith, ints)
@@ -69,7 +69,7 @@ read_moment t u le is = go (int_lt last_moment t) refl is
     go false h e = subst (λ u. IsMoment u × ((tl : Timeline) → IsSoundTimeline tl → register_at tl t ≡ register_at tl u)) (sym e) ((le, within_last t h), λ tl sound. refl)
 
 -- nothing is read for a time before the first moment
-pub read_nothing : (s : State) (t : ℤ) → (HasCleanDisk s → HoldsRegister s) → t <ℤ pos 0 → (r : Register) → r ≡ nothing → IsSafeRead {X = Register} (Ok r) (λ it. it ≡ register_at (decoded_timeline s.now.trees) t) s s
+pub read_nothing : (s : State) (t : ℤ) → (HasCleanDisk s → HoldsRegister s) → t <ℤ pos 0 → (r : Register) → r ≡ empty_register → IsSafeRead {X = Register} (Ok r) (λ it. it ≡ register_at (decoded_timeline s.now.trees) t) s s
 read_nothing s t office less r is = record {
   given = λ clean. is ∙ sym (before_all (decoded_timeline s.now.trees) t (office clean).sound less);
   same = λ clean _. record { is_open = (office clean).is_open; now = refl; committed = (office clean).committed };

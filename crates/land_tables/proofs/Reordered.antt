@@ -9,15 +9,15 @@ use Rattle.land_tables.specs.Timelines.Laws.{IsReordered, OrderDoesNotMatter}
 use Rattle.land_tables_history.proofs.Permutations.{all_permuted, filter_permuted}
 use Rattle.land_tables_history.specs.History.{IsRegisterAt}
 use Rattle.land_tables_history.specs.Open.{has_ended, have_ended}
-use Rattle.land_tables_history.specs.Standing.{standing, stands}
+use Rattle.land_tables_history.specs.Standing.{current_values, is_current}
 use Rattle.land_tables_history.specs.declared.history.History.{History}
 use Rattle.land_tables_history.specs.declared.version.Version.{Version}
 
 -- the versions at a moment, if the ones in the first order are a permutation of a list
-stand_too : {X : Type 0} (t : ℤ) (one other : List (Version X)) (records : List X) → IsPermutation one other → IsPermutation (standing t one) records → IsPermutation (standing t other) records
+stand_too : {X : Type 0} (t : ℤ) (one other : List (Version X)) (records : List X) → IsPermutation one other → IsPermutation (current_values t one) records → IsPermutation (current_values t other) records
 stand_too t one other records p h =
-    IsPermutation-trans (standing t other) (standing t one) records
-    (IsPermutation-sym (standing t one) (standing t other) (IsPermutation-map (λ v. v.what) (filter (stands t) one) (filter (stands t) other) (filter_permuted (stands t) one other p))) h
+    IsPermutation-trans (current_values t other) (current_values t one) records
+    (IsPermutation-sym (current_values t one) (current_values t other) (IsPermutation-map (λ v. v.what) (filter (is_current t) one) (filter (is_current t) other) (filter_permuted (is_current t) one other p))) h
 
 pub ten : {a b c d e f g h i j k l m n o p q r s t : Bool} → a ≡ k → b ≡ l → c ≡ m → d ≡ n → e ≡ o → f ≡ p → g ≡ q → h ≡ r → i ≡ s → j ≡ t
     → (a && b && c && d && e && f && g && h && i && j) ≡ (k && l && m && n && o && p && q && r && s && t)

@@ -20,7 +20,7 @@ use Rattle.land_tables.proofs.ToldIntervals.{told_intervals}
 use Rattle.land_tables.proofs.WrittenTimelines.{stays_last, written_last}
 use Rattle.land_tables.specs.Calls.{IsSafeRead, IsSafeWrite, StaysOpenAndSame, MayWriteChange}
 use Rattle.land_tables.specs.Digests.{KeepsEarlierText}
-use Rattle.land_tables.specs.TablesState.{HoldsRegister, IsHonest, IsConsistentState, IsTablesState, CrashLeavesOneOf, TablesState, CrashKeeps, held}
+use Rattle.land_tables.specs.TablesState.{HoldsRegister, IsHonest, IsConsistentState, IsTablesState, CrashLeavesOneOf, TablesState, CrashKeeps, held_timeline}
 use Rattle.land_tables.specs.Standing.{HoldsTimeline, decoded_timeline}
 use Rattle.land_tables.specs.Timelines.Laws.{OrderDoesNotMatter, HistoriesRepresentOneTimeline}
 use Rattle.land_tables.specs.Timelines.Writing.{WritesRepresentTimelines}
@@ -140,16 +140,16 @@ rests g o settles whole open_still clean db may =
 
 -- a call leaves the state that it found, or the one that it committed
 pub leaves_either : {S : Type 0} (g : Ghosts S) (old new : TablesState S) (after : Timeline) → Settles g old.conn → IsTablesState g old
-    → (old.is_closed ≡ false → Survives (state g old.conn) (state g new.conn) (λ db. HoldsTimeline db after)) → CrashLeavesOneOf g old new (held g old) after
+    → (old.is_closed ≡ false → Survives (state g old.conn) (state g new.conn) (λ db. HoldsTimeline db after)) → CrashLeavesOneOf g old new (held_timeline g old) after
 leaves_either g old new after settles whole survives open_still clean db may = go ((survives open_still).crash clean db may)
   where
-    go : (state g old.conn).may_leave db ⊎ HoldsTimeline db after → HoldsTimeline db (held g old) ⊎ HoldsTimeline db after
+    go : (state g old.conn).may_leave db ⊎ HoldsTimeline db after → HoldsTimeline db (held_timeline g old) ⊎ HoldsTimeline db after
     go (inl before) = inl (rests g old settles whole open_still (clean_before (state g old.conn) (state g new.conn) (survives open_still) clean) db before)
     go (inr commits) = inr commits
 
 -- tables after a write
 module _ {S : Type 0} (g : Ghosts S) (one : HistoriesRepresentOneTimeline) (order : OrderDoesNotMatter) (writes : WritesRepresentTimelines) (keeps : WritingKeepsSound) (change : Change) (stamp : ℤ)
-    (now : TablesState S) (whole : IsTablesState g now) (open_still : now.is_closed ≡ false) (can : IsHonestAndOpen (IsHonest g now) now.is_closed → CanWrite (held g now) change stamp) (conn : Held S) where
+    (now : TablesState S) (whole : IsTablesState g now) (open_still : now.is_closed ≡ false) (can : IsHonestAndOpen (IsHonest g now) now.is_closed → CanWrite (held_timeline g now) change stamp) (conn : Held S) where
   abbrev a : State
   a = state g now.conn
 
@@ -159,26 +159,26 @@ module _ {S : Type 0} (g : Ghosts S) (one : HistoriesRepresentOneTimeline) (orde
   abbrev IsSafe : Result (Unit {0}) StoreFault → Type 0
   IsSafe r = IsSafeWrite r (WritesChange change now.next stamp) (MayWriteChange change now.next stamp (state g now.conn).now) (state g now.conn) (state g conn)
 
-  pub crash_written : (r : Result (Unit {0}) StoreFault) → IsSafe r → Survives (state g now.conn) (state g conn) (λ db. HoldsTimeline db (written_timeline (held g now) change stamp))
-  crash_written r safe = survives_weaker a b (MayWriteChange change now.next stamp a.now) (λ db. HoldsTimeline db (written_timeline (held g now) change stamp))
+  pub crash_written : (r : Result (Unit {0}) StoreFault) → IsSafe r → Survives (state g now.conn) (state g conn) (λ db. HoldsTimeline db (written_timeline (held_timeline g now) change stamp))
+  crash_written r safe = survives_weaker a b (MayWriteChange change now.next stamp a.now) (λ db. HoldsTimeline db (written_timeline (held_timeline g now) change stamp))
       (λ clean db may.
       let live : IsHonestAndOpen (IsHonest g now) now.is_closed = (clean_before a b safe.survives clean, open_still) in
       let office = whole.office live in
-      subst (λ trees. HoldsTimeline trees (written_timeline (held g now) change stamp)) (sym may.2)
-      (holds_written one order writes keeps change stamp a.now may.0 now.next (held g now) office.register.sound office.register.holds office.register.intervals office.next (can live) may.1))
+      subst (λ trees. HoldsTimeline trees (written_timeline (held_timeline g now) change stamp)) (sym may.2)
+      (holds_written one order writes keeps change stamp a.now may.0 now.next (held_timeline g now) office.register.sound office.register.holds office.register.intervals office.next (can live) may.1))
       safe.survives
 
-  pub timeline_written : IsSafe (Ok tt) → IsHonest g (record now { conn = conn }) → decoded_timeline (state g conn).now.trees ≡ written_timeline (held g now) change stamp
+  pub timeline_written : IsSafe (Ok tt) → IsHonest g (record now { conn = conn }) → decoded_timeline (state g conn).now.trees ≡ written_timeline (held_timeline g now) change stamp
   timeline_written safe clean =
       let live : IsHonestAndOpen (IsHonest g now) now.is_closed = (clean_before a b safe.survives clean, open_still) in
       let office = whole.office live in
-      tells_written one order writes keeps change stamp a.now b.now now.next (held g now) office.register.sound office.register.holds office.register.intervals office.next (can live) (safe.done clean)
+      tells_written one order writes keeps change stamp a.now b.now now.next (held_timeline g now) office.register.sound office.register.holds office.register.intervals office.next (can live) (safe.done clean)
 
   pub text_written : AppendingKeepsText → IsSafe (Ok tt) → IsHonest g (record now { conn = conn }) → KeepsEarlierText stamp (state g now.conn).now.trees (state g conn).now.trees
   text_written law safe clean =
       let live : IsHonestAndOpen (IsHonest g now) now.is_closed = (clean_before a b safe.survives clean, open_still) in
       let office = whole.office live in
-      earlier_text_kept law one order change now.next stamp a.now b.now (held g now) office.register.sound office.register.holds office.register.intervals office.next (safe.done clean)
+      earlier_text_kept law one order change now.next stamp a.now b.now (held_timeline g now) office.register.sound office.register.holds office.register.intervals office.next (safe.done clean)
 
   pub whole_written : (closed : Bool) → conn.in_transaction ≡ false → stamp ≤ℤ last_moment → IsSafe (Ok tt) → IsTablesState g (record { conn = conn; last = stamp; next = change.next; is_closed = closed })
   whole_written closed alone moment safe = record {

@@ -4,7 +4,7 @@ use Rattle.std.specs.Prelude.{ℤ, pos, ◌<ℤ◌, ◌≤ℤ◌, int_le, fold, 
 use Rattle.std.specs.Option.{option_map}
 use Rattle.std.proofs.lemmas.Int.{ints}
 use Rattle.land_core.specs.Changes.{after}
-use Rattle.land_core.specs.Register.{nothing}
+use Rattle.land_core.specs.Register.{empty_register}
 use Rattle.land_core.specs.declared.change.Change.{Change}
 use Rattle.land_keep.specs.Machine.{written_timeline}
 use Rattle.land_keep.specs.Timeline.{IsIncreasing, IncreasesFrom, Timeline, last_from, last_register, last_stamp, last_version, register_at}
@@ -31,9 +31,9 @@ found_last v (w ∷ ws) t rises le =
 pub stays_last : (tl : Timeline) (t : ℤ) → IsIncreasing tl → last_stamp tl ≤ℤ t → register_at tl t ≡ last_register tl
 stays_last [] t rising le = absurd rising
 stays_last (v ∷ vs) t rising le =
-    ap (λ b. unwrap_or (option_map (λ v. v.register) (fold (λ found v. if int_le v.stamp t then Some v else found) (cond b (Some v) None) vs)) nothing)
+    ap (λ b. unwrap_or (option_map (λ v. v.register) (fold (λ found v. if int_le v.stamp t then Some v else found) (cond b (Some v) None) vs)) empty_register)
     (is_reached t v.stamp (first_before_last v vs t rising le))
-    ∙ ap (λ o. unwrap_or (option_map (λ v. v.register) o) nothing) (found_last v vs t rising le)
+    ∙ ap (λ o. unwrap_or (option_map (λ v. v.register) o) empty_register) (found_last v vs t rising le)
 
 last_after : (tl : Timeline) (w : Version) → last_version (tl ++ w ∷ []) ≡ Some w
 last_after [] w = refl
@@ -49,4 +49,4 @@ written_last tl change stamp = ap (λ o. unwrap_or (option_map (λ (v : Version)
 
 -- and the last register has the change
 pub written_register : (tl : Timeline) (change : Change) (stamp : ℤ) → last_register (written_timeline tl change stamp) ≡ after change (last_register tl)
-written_register tl change stamp = ap (λ o. unwrap_or (option_map (λ (v : Version). v.register) o) nothing) (last_after tl (record { stamp = stamp; register = after change (last_register tl) }))
+written_register tl change stamp = ap (λ o. unwrap_or (option_map (λ (v : Version). v.register) o) empty_register) (last_after tl (record { stamp = stamp; register = after change (last_register tl) }))

@@ -4,7 +4,7 @@ use Rattle.std.specs.FinMap as map
 use Rattle.land_keep.specs.Timeline.{Timeline, register_at}
 use Rattle.land_tables.specs.Adopting.{IsRefused, IsRegisterTo}
 use Rattle.land_tables.specs.Calls.{StaysOpenAndSame}
-use Rattle.land_tables.specs.TablesState.{IsHonest, IsConsistentState, TablesState, held}
+use Rattle.land_tables.specs.TablesState.{IsHonest, IsConsistentState, TablesState, held_timeline}
 use Rattle.land_tables.specs.Registers.{IsRegister, version_1}
 use Rattle.land_tables.specs.Standing.{HoldsTimeline, decoded_timeline_v1, decoded_timeline}
 use Rattle.land_tables.specs.declared.fault.AdoptFault.{AdoptFault}
@@ -56,8 +56,8 @@ pub record IsMigrated {S : Type 0} (g : Ghosts S) (old : Held S) (o : TablesStat
   pub raisable : IsHonest g o → IsMigratable (state g old).now.schema
   pub raised : IsHonest g o → Migrates (state g old).now (state g o.conn).now
   pub office : IsHonest g o → IsConsistentState (state g o.conn) o.last o.next
-  pub timeline : IsHonest g o → held g o ≡ decoded_timeline_v1 (state g old).now.trees
-  pub mandates : IsHonest g o → HasNoMandates (held g o)
+  pub timeline : IsHonest g o → held_timeline g o ≡ decoded_timeline_v1 (state g old).now.trees
+  pub mandates : IsHonest g o → HasNoMandates (held_timeline g o)
 
 -- an open store has the same content as before, and a crash leaves exactly that
 pub record StaysSameAfterCrash (old new : State) : Type 0 where

@@ -47,8 +47,8 @@ pub record IsConsistentState (s : State) (stamp : ℤ) (number : ℕ) : Type 0 w
   pub next : number ≡ (last_register (decoded_timeline s.now.trees)).next
 
 -- the timeline in the tables
-abbrev pub held : {S : Type 0} → Ghosts S → TablesState S → Timeline
-held g o = decoded_timeline (state g o.conn).now.trees
+abbrev pub held_timeline : {S : Type 0} → Ghosts S → TablesState S → Timeline
+held_timeline g o = decoded_timeline (state g o.conn).now.trees
 
 -- until now the store has returned the data that was written to it
 abbrev pub IsHonest : {S : Type 0} → Ghosts S → TablesState S → Type 0
@@ -71,7 +71,7 @@ CrashLeaves g o IsSo = IsHonest g o → (db : Trees) → (state g o.conn).may_le
 
 -- while no call has failed, a crash leaves exactly the timeline in the tables
 abbrev pub CrashKeeps : {S : Type 0} → Ghosts S → TablesState S → Type 0
-CrashKeeps g o = o.is_closed ≡ false → CrashLeaves g o (λ db. HoldsTimeline db (held g o))
+CrashKeeps g o = o.is_closed ≡ false → CrashLeaves g o (λ db. HoldsTimeline db (held_timeline g o))
 
 -- if no call had failed before, a crash leaves one of these two timelines
 abbrev pub CrashLeavesOneOf : {S : Type 0} → Ghosts S → (old new : TablesState S) → (before after : Timeline)
@@ -86,7 +86,7 @@ pub record IsNewRegister (s : State) : Type 0 where
 
 -- tables that were just created are open and hold the new timeline
 pub record IsCreated {S : Type 0} (g : Ghosts S) (o : TablesState S) : Type 0 where
-  pub timeline : IsHonest g o → held g o ≡ new_timeline
+  pub timeline : IsHonest g o → held_timeline g o ≡ new_timeline
   pub is_open : o.is_closed ≡ false
 
 -- a store in which nothing was created is open, and has the last committed content

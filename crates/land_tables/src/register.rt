@@ -81,7 +81,7 @@ pub(crate) fn register_in<S: Alter>(
     order_does_not_matter();
     reading_is_the_register();
     if at < 0 {
-        return Ok(Register::nothing(alloc));
+        return Ok(Register::empty(alloc));
     }
     read_at(alloc, conn, at.min(LAST_MOMENT))
 }

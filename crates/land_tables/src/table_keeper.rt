@@ -56,9 +56,9 @@ impl<S: Alter> Keeper for TableKeeper<S> {
     ghost use Rattle.land_keep.specs.Named.{objects_at};
     ghost use Rattle.land_keep.specs.Sheets.{view_at};
     ghost use Rattle.land_keep.specs.Timeline.{last_stamp};
-    ghost use Rattle.land_tables.specs.TablesState.{IsHonest, held};
+    ghost use Rattle.land_tables.specs.TablesState.{IsHonest, held_timeline};
 
-    ghost timeline = { λ keeper. held S.Store keeper.tables };
+    ghost timeline = { λ keeper. held_timeline S.Store keeper.tables };
 
     ghost closed = { λ keeper. keeper.tables.is_closed };
 

@@ -77,7 +77,7 @@ impl<S: Alter> Tables<S> {
     ghost use Rattle.land_tables.specs.TablesState.{IsCreated, IsHonest, IsWorking, IsOldOrCommitted};
     ghost use Rattle.land_tables.specs.TablesState.{CrashLeavesOneOf};
     ghost use Rattle.land_tables.specs.TablesState.{CrashLeavesOldOrNew};
-    ghost use Rattle.land_tables.specs.TablesState.{CrashKeeps, StaysUntouchedByCrash, held};
+    ghost use Rattle.land_tables.specs.TablesState.{CrashKeeps, StaysUntouchedByCrash, held_timeline};
 
     /// Creates the tables of a new register in an empty store, in one transaction. Errors: `Store` (502) if
     /// the store has tables or a transaction is active, in which case nothing is done, or on a store error;
@@ -235,9 +235,9 @@ impl<S: Alter> Tables<S> {
     /// Returns the stamp of the last accepted change, Unix time in milliseconds; 0 in a new register.
     pub fn last(&self) -> i64
         ensures value { result ≡ self.now.last }
-        ensures last { IsWorking S.Store self.now → result ≡ last_stamp (held S.Store self.now) }
+        ensures last { IsWorking S.Store self.now → result ≡ last_stamp (held_timeline S.Store self.now) }
         ensures moment { result ≤ℤ last_moment }
-        ensures sound { IsWorking S.Store self.now → IsSoundTimeline (held S.Store self.now) }
+        ensures sound { IsWorking S.Store self.now → IsSoundTimeline (held_timeline S.Store self.now) }
     {
         self.last
     }
@@ -245,7 +245,8 @@ impl<S: Alter> Tables<S> {
     /// Returns the number that the next new object takes.
     pub fn next(&self) -> u64
         ensures value { result ≡ self.now.next }
-        ensures next { IsWorking S.Store self.now → result ≡ (last_register (held S.Store self.now)).next }
+        ensures next { IsWorking S.Store self.now
+            → result ≡ (last_register (held_timeline S.Store self.now)).next }
     {
         self.next
     }
@@ -278,8 +279,9 @@ impl<S: Alter> Tables<S> {
     /// every call returns `Closed` (503). The tables are unchanged.
     pub fn read_at(&mut self, alloc: Global, at: i64) -> Result<Register, StoreFault>
         ensures value { IsHonest S.Store self.new
-            → IfOk result (λ it. it ≡ register_at (held S.Store self.old) at) }
-        ensures same { IsWorking S.Store self.new → held S.Store self.new ≡ held S.Store self.old }
+            → IfOk result (λ it. it ≡ register_at (held_timeline S.Store self.old) at) }
+        ensures same { IsWorking S.Store self.new
+            → held_timeline S.Store self.new ≡ held_timeline S.Store self.old }
         ensures was { IsHonest S.Store self.new → IsHonest S.Store self.old }
         ensures last { self.new.last ≡ self.old.last }
         ensures next { self.new.next ≡ self.old.next }
@@ -301,9 +303,10 @@ impl<S: Alter> Tables<S> {
     /// Reads the current register. Errors are those of `read_at`. The tables are unchanged.
     pub fn last_register(&mut self, alloc: Global) -> Result<Register, StoreFault>
         ensures value { IsHonest S.Store self.new
-            → IfOk result (λ it. it ≡ last_register (held S.Store self.old)) }
+            → IfOk result (λ it. it ≡ last_register (held_timeline S.Store self.old)) }
         ensures last { self.new.last ≡ self.old.last }
-        ensures same { IsWorking S.Store self.new → held S.Store self.new ≡ held S.Store self.old }
+        ensures same { IsWorking S.Store self.new
+            → held_timeline S.Store self.new ≡ held_timeline S.Store self.old }
         ensures was { IsHonest S.Store self.new → IsHonest S.Store self.old }
         ensures closes { Closes self.old.is_closed self.new.is_closed result }
     {
@@ -316,22 +319,23 @@ impl<S: Alter> Tables<S> {
     /// the change cannot be written (a string longer than its field, an invalid number), after which every
     /// call returns `Closed` (503). After an error an open store is unchanged.
     pub fn write(&mut self, alloc: Global, change: &Change, stamp: i64) -> Result<(), StoreFault>
-        requires { IsWorking S.Store self.old → CanWrite (held S.Store self.old) change.now stamp }
+        requires { IsWorking S.Store self.old → CanWrite (held_timeline S.Store self.old) change.now stamp }
         ensures ok { IsWorking S.Store self.new
             → OnOk result
-            (held S.Store self.new ≡ written_timeline (held S.Store self.old) change.now stamp) }
+            (held_timeline S.Store self.new
+            ≡ written_timeline (held_timeline S.Store self.old) change.now stamp) }
         ensures text { IsWorking S.Store self.new
             → OnOk result (KeepsEarlierText stamp (state S.Store self.old.conn).now.trees
             (state S.Store self.new.conn).now.trees) }
         ensures err { IsWorking S.Store self.new
-            → OnErr result (held S.Store self.new ≡ held S.Store self.old) }
+            → OnErr result (held_timeline S.Store self.new ≡ held_timeline S.Store self.old) }
         ensures was { IsHonest S.Store self.new → IsHonest S.Store self.old }
         ensures closes { Closes self.old.is_closed self.new.is_closed result }
         ensures survives { self.old.is_closed ≡ false
             → Survives (state S.Store self.old.conn) (state S.Store self.new.conn)
-            (λ db. HoldsTimeline db (written_timeline (held S.Store self.old) change.now stamp)) }
-        ensures crash { CrashLeavesOneOf S.Store self.old self.new (held S.Store self.old)
-            (written_timeline (held S.Store self.old) change.now stamp) }
+            (λ db. HoldsTimeline db (written_timeline (held_timeline S.Store self.old) change.now stamp)) }
+        ensures crash { CrashLeavesOneOf S.Store self.old self.new (held_timeline S.Store self.old)
+            (written_timeline (held_timeline S.Store self.old) change.now stamp) }
         ensures rests { CrashKeeps S.Store self.new }
     {
         if self.is_closed {

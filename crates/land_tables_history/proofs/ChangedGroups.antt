@@ -16,7 +16,7 @@ use Rattle.land_tables_history.proofs.Permutations.{along_permutation}
 use Rattle.land_tables_history.specs.Changed.{changed_members, is_changed, listed_members}
 use Rattle.land_tables_history.specs.Groups.{AreGroupsAt, group_members}
 use Rattle.land_tables_history.specs.Open.{has_ended, never}
-use Rattle.land_tables_history.specs.Standing.{standing}
+use Rattle.land_tables_history.specs.Standing.{current_values}
 use Rattle.land_tables_history.specs.declared.group_member.GroupMember.{GroupMember}
 use Rattle.land_tables_history.specs.declared.version.Version.{Version}
 
@@ -73,8 +73,8 @@ pub members_change : (last stamp t : ℤ) → last <ℤ stamp → stamp ≤ℤ t
     → AreGroupsAt t (changed_members put ended stamp versions) (with_changes groups put ended)
 members_change last stamp t less since early put ended versions groups by_then once p =
     let kept : List (ℕ × Members) = filter (λ g. not (is_changed put ended g.0)) (map.entries groups) in
-    IsPermutation-trans (standing t (changed_members put ended stamp versions)) (listed_members (put ++ kept)) (group_members (with_changes groups put ended))
-    (subst (IsPermutation (standing t (changed_members put ended stamp versions)))
+    IsPermutation-trans (current_values t (changed_members put ended stamp versions)) (listed_members (put ++ kept)) (group_members (with_changes groups put ended))
+    (subst (IsPermutation (current_values t (changed_members put ended stamp versions)))
     (ap (λ l. listed_members put ++ l) (passing_members (λ number. not (is_changed put ended number)) (map.entries groups)) ∙ sym (flat_map-append (λ g. map_list (λ m. record { group = g.0; member = m }) (members_in g.1)) put kept))
     (stand_changed last stamp t less since early (listed_members put) (λ e. is_changed put ended e.group) versions (group_members groups) by_then p))
     (joined_permuted (λ g. map_list (λ m. record { group = g.0; member = m }) (members_in g.1)) (put ++ kept) (map.entries (with_changes groups put ended)) (numbered_entries groups put ended once))

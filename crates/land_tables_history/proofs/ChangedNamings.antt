@@ -22,7 +22,7 @@ use Rattle.land_tables_history.specs.Changed.{changed_namings, named_by, new_mut
 use Rattle.land_tables_history.specs.History.{named_units, namings_of}
 use Rattle.land_tables_history.specs.Laws.{IsUnchangedButState, PutsMutations}
 use Rattle.land_tables_history.specs.Open.{has_ended, never}
-use Rattle.land_tables_history.specs.Standing.{standing}
+use Rattle.land_tables_history.specs.Standing.{current_values}
 use Rattle.land_tables_history.specs.declared.naming.Naming.{Naming}
 use Rattle.land_tables_history.specs.declared.version.Version.{Version}
 
@@ -127,14 +127,14 @@ fits_from r used (e ∷ es) h = (one h.0, fits_from r used es h.1)
 
 pub namings_change : (last stamp t : ℤ) → last <ℤ stamp → stamp ≤ℤ t → t <ℤ never → (r : Register) (change : Change) (versions : List (Version Naming))
     → list_all (has_ended last) versions ≡ true → are_distinct nat_eq (map_list (λ e. e.0) change.put.mutations ++ change.ended.mutations) ≡ true → PutsMutations r change
-    → IsPermutation (standing t versions) (namings_of r.mutations)
-    → IsPermutation (standing t (changed_namings r.next change.put.mutations stamp versions)) (namings_of (with_changes r.mutations change.put.mutations change.ended.mutations))
+    → IsPermutation (current_values t versions) (namings_of r.mutations)
+    → IsPermutation (current_values t (changed_namings r.next change.put.mutations stamp versions)) (namings_of (with_changes r.mutations change.put.mutations change.ended.mutations))
 namings_change last stamp t less since early r change versions by_then once puts p =
     let put = change.put.mutations in
     let later : List Naming = named_by (new_mutations r.next put) in
     let distinct = subst (λ (same : ℕ → ℕ → Bool). are_distinct same (map_list (λ e. e.0) put) ≡ true) (sym same_numbers) (distinct_before nat_eq (map_list (λ e. e.0) put) change.ended.mutations once) in
-    subst (λ (ended : List ℕ). IsPermutation (standing t (changed_namings r.next put stamp versions)) (namings_of (with_changes r.mutations put ended))) (sym puts.ended)
-    (IsPermutation-trans (standing t (changed_namings r.next put stamp versions)) (later ++ namings_of r.mutations) (namings_of (with_changes r.mutations put []))
-    (subst (λ (l : List Naming). IsPermutation (standing t (changed_namings r.next put stamp versions)) (later ++ l)) (all_pass (namings_of r.mutations))
+    subst (λ (ended : List ℕ). IsPermutation (current_values t (changed_namings r.next put stamp versions)) (namings_of (with_changes r.mutations put ended))) (sym puts.ended)
+    (IsPermutation-trans (current_values t (changed_namings r.next put stamp versions)) (later ++ namings_of r.mutations) (namings_of (with_changes r.mutations put []))
+    (subst (λ (l : List Naming). IsPermutation (current_values t (changed_namings r.next put stamp versions)) (later ++ l)) (all_pass (namings_of r.mutations))
     (stand_changed last stamp t less since early later (λ naming. false) versions (namings_of r.mutations) by_then p))
     (namings_grow r.next r.mutations put distinct (fits_from r puts.used put puts.put)))

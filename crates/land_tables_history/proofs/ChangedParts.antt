@@ -20,7 +20,7 @@ use Rattle.land_tables_history.proofs.Made.{changed_entries}
 use Rattle.land_tables_history.proofs.Permutations.{filter_permuted}
 use Rattle.land_tables_history.specs.Changed.{changed_mandates, changed_part, changed_roles, changed_versions, is_among, is_changed}
 use Rattle.land_tables_history.specs.Open.{has_ended, never}
-use Rattle.land_tables_history.specs.Standing.{AreMandatesAt, AreRolesAt, IsPartAt, standing}
+use Rattle.land_tables_history.specs.Standing.{AreMandatesAt, AreRolesAt, IsPartAt, current_values}
 use Rattle.land_tables_history.specs.declared.version.Version.{Version}
 
 -- numbers are equal by their order if and only if they are equal by the test
@@ -53,27 +53,27 @@ module _ (last stamp t : ℤ) (less : last <ℤ stamp) (since : stamp ≤ℤ t) 
   -- the current values of changed versions are the inserted ones, and in unspecified order those of the
   -- current ones that do not end
   pub stand_changed : {X : Type 0} (put : List X) (meant : X → Bool) (versions : List (Version X)) (them : List X) → list_all (has_ended last) versions ≡ true
-      → IsPermutation (standing t versions) them → IsPermutation (standing t (changed_versions put meant stamp versions)) (put ++ filter (λ x. not (meant x)) them)
+      → IsPermutation (current_values t versions) them → IsPermutation (current_values t (changed_versions put meant stamp versions)) (put ++ filter (λ x. not (meant x)) them)
   stand_changed put meant versions them ended p =
       subst (λ l. IsPermutation l (put ++ filter (λ x. not (meant x)) them)) (sym (changed_stand put meant stamp last t less since early versions ended))
-      (IsPermutation-append_right put (filter (λ x. not (meant x)) (standing t versions)) (filter (λ x. not (meant x)) them)
-      (filter_permuted (λ x. not (meant x)) (standing t versions) them p))
+      (IsPermutation-append_right put (filter (λ x. not (meant x)) (current_values t versions)) (filter (λ x. not (meant x)) them)
+      (filter_permuted (λ x. not (meant x)) (current_values t versions) them p))
 
   pub part_changes : {V : Type 0} (put : List (ℕ × V)) (ended : List ℕ) (versions : List (Version (ℕ × V))) (m : FinMap nat_cmp V)
       → list_all (has_ended last) versions ≡ true → are_distinct nat_eq (map_list (λ e. e.0) put ++ ended) ≡ true → IsPartAt t versions m
       → IsPartAt t (changed_part put ended stamp versions) (with_changes m put ended)
   part_changes put ended versions m by_then once p =
-      IsPermutation-trans (standing t (changed_part put ended stamp versions)) (put ++ filter (λ e. not (is_changed put ended e.0)) (map.entries m)) (map.entries (with_changes m put ended))
+      IsPermutation-trans (current_values t (changed_part put ended stamp versions)) (put ++ filter (λ e. not (is_changed put ended e.0)) (map.entries m)) (map.entries (with_changes m put ended))
       (stand_changed put (λ e. is_changed put ended e.0) versions (map.entries m) by_then p) (numbered_entries m put ended once)
 
   -- keys of a set, such as roles and mandates
   module _ {K : Type 0} {R : K → K → Ordering} (o : IsTotalOrder R) (exact : IsAntisymmetric R) where
     keys_change : (put ended : List K) (versions : List (Version K)) (set : FinMap R (Unit {0}))
-        → list_all (has_ended last) versions ≡ true → are_distinct (eq_by_cmp R) (put ++ ended) ≡ true → IsPermutation (standing t versions) (map.keys set)
-        → IsPermutation (standing t (changed_versions put (λ key. is_among (eq_by_cmp R) (put ++ ended) key) stamp versions)) (map.keys (with_changes set (set_entries put) ended))
+        → list_all (has_ended last) versions ≡ true → are_distinct (eq_by_cmp R) (put ++ ended) ≡ true → IsPermutation (current_values t versions) (map.keys set)
+        → IsPermutation (current_values t (changed_versions put (λ key. is_among (eq_by_cmp R) (put ++ ended) key) stamp versions)) (map.keys (with_changes set (set_entries put) ended))
     keys_change put ended versions set by_then once p =
         let kept : List K = filter (λ key. not (is_among (eq_by_cmp R) (put ++ ended) key)) (map.keys set) in
-        IsPermutation-trans (standing t (changed_versions put (λ key. is_among (eq_by_cmp R) (put ++ ended) key) stamp versions)) (put ++ kept) (map.keys (with_changes set (set_entries put) ended))
+        IsPermutation-trans (current_values t (changed_versions put (λ key. is_among (eq_by_cmp R) (put ++ ended) key) stamp versions)) (put ++ kept) (map.keys (with_changes set (set_entries put) ended))
         (stand_changed put (λ key. is_among (eq_by_cmp R) (put ++ ended) key) versions (map.keys set) by_then p)
         (subst (λ l. IsPermutation l (map.keys (with_changes set (set_entries put) ended))) (listed (put ++ ended) (map.entries set))
         (IsPermutation-map (λ e. e.0) (set_entries put ++ filter (λ e. not (list_any (eq_by_cmp R e.0) (put ++ ended))) (map.entries set)) (map.entries (with_changes set (set_entries put) ended)) entries))

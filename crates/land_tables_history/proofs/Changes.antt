@@ -13,13 +13,13 @@ use Rattle.land_tables_history.proofs.ChangedVersions.{changed_end, past_version
 use Rattle.land_tables_history.specs.Changed.{changed_part, changed_versions, is_among, is_changed, listed_members, named_by, new_mutations}
 use Rattle.land_tables_history.specs.Laws.{ChangesTakeEffect, ChangedHaveEnded, ChangesKeepThePast}
 use Rattle.land_tables_history.specs.Open.{has_ended, have_ended, never}
-use Rattle.land_tables_history.specs.Standing.{standing}
+use Rattle.land_tables_history.specs.Standing.{current_values}
 use Rattle.land_tables_history.specs.declared.history.History.{History}
 use Rattle.land_tables_history.specs.declared.version.Version.{Version}
 
 -- values that were current stay current under a change of the versions
 still : {X : Type 0} (put : List X) (meant : X → Bool) (stamp t : ℤ) (versions : List (Version X)) (them : List X) → t <ℤ stamp → t <ℤ never
-    → IsPermutation (standing t versions) them → IsPermutation (standing t (changed_versions put meant stamp versions)) them
+    → IsPermutation (current_values t versions) them → IsPermutation (current_values t (changed_versions put meant stamp versions)) them
 still put meant stamp t versions them less early p = subst (λ l. IsPermutation l them) (sym (past_versions put meant stamp t less early versions)) p
 
 pub past_stands : ChangesKeepThePast

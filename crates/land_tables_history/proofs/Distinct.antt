@@ -12,7 +12,7 @@ use Rattle.land_core.specs.Entries.{are_distinct}
 use Rattle.land_tables_history.proofs.NamingTests.{any_standing}
 use Rattle.land_tables_history.proofs.Permutations.{all_permuted, along_permutation}
 use Rattle.land_tables_history.specs.Intervals.{overlap}
-use Rattle.land_tables_history.specs.Standing.{standing, stands}
+use Rattle.land_tables_history.specs.Standing.{current_values, is_current}
 use Rattle.land_tables_history.specs.declared.version.Version.{Version}
 
 -- ---- no key is current twice at a moment
@@ -28,9 +28,9 @@ any_fewer p q more (x ∷ xs) none = let parts = or_parts (q x) (list_any q xs) 
     go true is fails rest = absurd (false≢true (sym fails ∙ more x is))
     go false is fails rest = rest
 
-pub distinct_standing : {X : Type 0} (same : X → X → Bool) (t : ℤ) (vs : List (Version X)) → are_distinct (overlap same) vs ≡ true → are_distinct same (standing t vs) ≡ true
+pub distinct_standing : {X : Type 0} (same : X → X → Bool) (t : ℤ) (vs : List (Version X)) → are_distinct (overlap same) vs ≡ true → are_distinct same (current_values t vs) ≡ true
 distinct_standing same t [] distinct = refl
-distinct_standing {X} same t (v ∷ vs) distinct = go (stands t v) refl (distinct_standing same t vs parts.1)
+distinct_standing {X} same t (v ∷ vs) distinct = go (is_current t v) refl (distinct_standing same t vs parts.1)
   where
     parts : (not (list_any (overlap same v) vs) ≡ true) × (are_distinct (overlap same) vs ≡ true)
     parts = and_parts (not (list_any (overlap same v) vs)) (are_distinct (overlap same) vs) distinct
@@ -38,15 +38,15 @@ distinct_standing {X} same t (v ∷ vs) distinct = go (stands t v) refl (distinc
     joined : (a b c : Bool) → a ≡ true → (b && c) ≡ true → (a && b && c) ≡ true
     joined a b c x y = grind arith
 
-    overlaps : (w : Version X) → stands t v ≡ true → (stands t w && same v.what w.what) ≡ true → overlap same v w ≡ true
+    overlaps : (w : Version X) → is_current t v ≡ true → (is_current t w && same v.what w.what) ≡ true → overlap same v w ≡ true
     overlaps w here h =
-        let there = and_parts (stands t w) (same v.what w.what) h in
+        let there = and_parts (is_current t w) (same v.what w.what) h in
         joined (same v.what w.what) (int_lt v.since w.until) (int_lt w.since v.until) there.1 (both_stand t v.since v.until w.since w.until here there.0)
 
-    go : (b : Bool) → stands t v ≡ b → are_distinct same (standing t vs) ≡ true → are_distinct same (map_list (λ (v : Version X). v.what) (cond b (v ∷ filter (stands t) vs) (filter (stands t) vs))) ≡ true
+    go : (b : Bool) → is_current t v ≡ b → are_distinct same (current_values t vs) ≡ true → are_distinct same (map_list (λ (v : Version X). v.what) (cond b (v ∷ filter (is_current t) vs) (filter (is_current t) vs))) ≡ true
     go true here rest =
-        ap (λ b. not b && are_distinct same (standing t vs))
-        (sym (any_standing t (same v.what) vs) ∙ any_fewer (λ w. stands t w && same v.what w.what) (overlap same v) (λ w. overlaps w here) vs (not-true (list_any (overlap same v) vs) parts.0)) ∙ rest
+        ap (λ b. not b && are_distinct same (current_values t vs))
+        (sym (any_standing t (same v.what) vs) ∙ any_fewer (λ w. is_current t w && same v.what w.what) (overlap same v) (λ w. overlaps w here) vs (not-true (list_any (overlap same v) vs) parts.0)) ∙ rest
     go false here rest = rest
 
 -- ---- two lists with the same items, none twice

@@ -24,7 +24,7 @@ use Rattle.land_tables_history.specs.History.{IsRegisterAt}
 use Rattle.land_tables_history.specs.Intervals.{are_intervals, has_intervals, is_same_grant, is_same_mandate, is_same_member, is_same_naming, is_same_number}
 use Rattle.land_tables_history.specs.Laws.{ChangesKeepIntervals, PutsMutations}
 use Rattle.land_tables_history.specs.Open.{have_ended, never}
-use Rattle.land_tables_history.specs.Standing.{IsPartAt, standing}
+use Rattle.land_tables_history.specs.Standing.{IsPartAt, current_values}
 use Rattle.land_tables_history.specs.declared.history.History.{History}
 use Rattle.land_tables_history.specs.declared.moment.Moment.{Moment}
 use Rattle.land_tables_history.specs.declared.version.Version.{Version}
@@ -39,7 +39,7 @@ module _ (moments : List Moment) (last stamp : ℤ) (by : AllByRecursion (λ (m 
 
   -- a version that was current at the last stamp is current until the next
   still : {X : Type 0} {same : X → X → Bool} (vs : List (Version X)) (them : List X) → Proper same moments vs
-      → IsPermutation (standing last vs) them → IsPermutation (standing stamp vs) them
+      → IsPermutation (current_values last vs) them → IsPermutation (current_values stamp vs) them
   still vs them proper p = subst (λ l. IsPermutation l them) (sym (standing_still moments last by stamp less early vs proper.intervals)) p
 
   module _ (next : ℕ) where
@@ -49,11 +49,11 @@ module _ (moments : List Moment) (last stamp : ℤ) (by : AllByRecursion (λ (m 
     -- no key is current twice with the change, so the intervals stay valid
     versions_kept : {X : Type 0} (same : X → X → Bool) → ((x y : X) → same x y ≡ same y x)
         → (put : List X) (meant : X → Bool) (vs : List (Version X)) (them : List X)
-        → Proper same moments vs → IsPermutation (standing stamp (changed_versions put meant stamp vs)) them → are_distinct same them ≡ true
+        → Proper same moments vs → IsPermutation (current_values stamp (changed_versions put meant stamp vs)) them → are_distinct same them ≡ true
         → are_intervals same more (changed_versions put meant stamp vs) ≡ true
     versions_kept same flips put meant vs them proper p once =
         kept moments last by stamp less early next same meant put vs proper
-        (sym (distinct_permuted same flips (standing stamp (changed_versions put meant stamp vs)) them p) ∙ once)
+        (sym (distinct_permuted same flips (current_values stamp (changed_versions put meant stamp vs)) them p) ∙ once)
 
     part_kept : {V : Type 0} (put : List (ℕ × V)) (ended : List ℕ) (vs : List (Version (ℕ × V))) (m : FinMap nat_cmp V)
         → Proper is_same_number moments vs → IsPartAt stamp (changed_part put ended stamp vs) m → are_intervals is_same_number more (changed_part put ended stamp vs) ≡ true

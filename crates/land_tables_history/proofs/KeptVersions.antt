@@ -18,7 +18,7 @@ use Rattle.land_tables_history.proofs.Proper.{Proper}
 use Rattle.land_tables_history.specs.Changed.{opened_version, changed_versions, closed_version}
 use Rattle.land_tables_history.specs.Intervals.{are_intervals, is_interval, is_stamp, overlap}
 use Rattle.land_tables_history.specs.Open.{has_ended, never}
-use Rattle.land_tables_history.specs.Standing.{standing, stands}
+use Rattle.land_tables_history.specs.Standing.{current_values, is_current}
 use Rattle.land_tables_history.specs.declared.moment.Moment.{Moment}
 use Rattle.land_tables_history.specs.declared.version.Version.{Version}
 
@@ -49,9 +49,9 @@ stamp_by last t (m ∷ ms) by is = go (int_eq m.stamp t) refl is (stamp_by last 
 
 -- of a version and others: it is the first current one, or it is not current
 one_stands : {X : Type 0} (t : ℤ) (v : Version X) (vs : List (Version X))
-    → standing t (v ∷ vs) ≡ cond (stands t v) (v.what ∷ standing t vs) (standing t vs)
+    → current_values t (v ∷ vs) ≡ cond (is_current t v) (v.what ∷ current_values t vs) (current_values t vs)
 one_stands t v vs =
-    elim (stands t v) as (λ b. map_list (λ v. v.what) (cond b (v ∷ filter (stands t) vs) (filter (stands t) vs)) ≡ cond b (v.what ∷ standing t vs) (standing t vs)) [
+    elim (is_current t v) as (λ b. map_list (λ v. v.what) (cond b (v ∷ filter (is_current t) vs) (filter (is_current t) vs)) ≡ cond b (v.what ∷ current_values t vs) (current_values t vs)) [
       | true ↦ refl
       | false ↦ refl
     ]
@@ -85,7 +85,7 @@ module _ (moments : List Moment) (last : ℤ) (by : AllByRecursion (λ (m : Mome
       and_from (has_ended last v) (list_all (has_ended last) vs) (ends_by v parts.0) (all_end_by vs parts.1)
 
   -- a version that has no end is current at the last stamp
-  pub open_stands : {X : Type 0} (v : Version X) → last <ℤ never → is_interval moments v ≡ true → int_eq v.until never ≡ true → stands last v ≡ true
+  pub open_stands : {X : Type 0} (v : Version X) → last <ℤ never → is_interval moments v ≡ true → int_eq v.until never ≡ true → is_current last v ≡ true
   open_stands v early h no_end =
       and_from (int_le v.since last) (int_lt last v.until) (le_true v.since last (stamp_by last v.since moments by (fit moments v h).begins))
       (ap (int_lt last) (equal v.until never no_end) ∙ lt_true last never early)
@@ -93,7 +93,7 @@ module _ (moments : List Moment) (last : ℤ) (by : AllByRecursion (λ (m : Mome
   module _ (stamp : ℤ) (less : last <ℤ stamp) (early : stamp <ℤ never) where
     -- ---- versions that are current at the last stamp stay current until the next
 
-    stands_still : {X : Type 0} (v : Version X) → is_interval moments v ≡ true → stands stamp v ≡ stands last v
+    stands_still : {X : Type 0} (v : Version X) → is_interval moments v ≡ true → is_current stamp v ≡ is_current last v
     stands_still v h =
         let it = fit moments v h in
         let since : v.since ≤ℤ last = stamp_by last v.since moments by it.begins in
@@ -110,13 +110,13 @@ module _ (moments : List Moment) (last : ℤ) (by : AllByRecursion (λ (m : Mome
             lt_false stamp v.until (lt_is_le v.until stamp (le_then_lt v.until last stamp until less)) ∙ sym (lt_false last v.until until)
 
     pub standing_still : {X : Type 0} (vs : List (Version X)) → list_all (is_interval moments) vs ≡ true
-        → standing stamp vs ≡ standing last vs
+        → current_values stamp vs ≡ current_values last vs
     standing_still [] h = refl
     standing_still (v ∷ vs) h =
         let parts = and_parts (is_interval moments v) (list_all (is_interval moments) vs) h in
         one_stands stamp v vs
-        ∙ ap (λ b. cond b (v.what ∷ standing stamp vs) (standing stamp vs)) (stands_still v parts.0)
-        ∙ ap (λ l. cond (stands last v) (v.what ∷ l) l) (standing_still vs parts.1)
+        ∙ ap (λ b. cond b (v.what ∷ current_values stamp vs) (current_values stamp vs)) (stands_still v parts.0)
+        ∙ ap (λ l. cond (is_current last v) (v.what ∷ l) l) (standing_still vs parts.1)
         ∙ sym (one_stands last v vs)
 
     module _ (next : ℕ) where
@@ -192,40 +192,40 @@ module _ (moments : List Moment) (last : ℤ) (by : AllByRecursion (λ (m : Mome
       module _ {X : Type 0} (same : X → X → Bool) where
         -- a lifespan that overlaps a new one is current at the stamp
         meets : (x : X) (vs : List (Version X)) → list_all (is_interval more) vs ≡ true
-            → AllByRecursion (λ v. overlap same (opened_version x stamp) v ≡ true → (stands stamp v && same x v.what) ≡ true) vs
+            → AllByRecursion (λ v. overlap same (opened_version x stamp) v ≡ true → (is_current stamp v && same x v.what) ≡ true) vs
         meets x [] h = tt
         meets x (v ∷ vs) h =
             let parts = and_parts (is_interval more v) (list_all (is_interval more) vs) h in
             (one parts.0, meets x vs parts.1)
           where
-            one : is_interval more v ≡ true → overlap same (opened_version x stamp) v ≡ true → (stands stamp v && same x v.what) ≡ true
+            one : is_interval more v ≡ true → overlap same (opened_version x stamp) v ≡ true → (is_current stamp v && same x v.what) ≡ true
             one fits meet =
                 let two = and_parts (same x v.what && int_lt stamp v.until) (int_lt v.since never) meet in
                 let of_key = and_parts (same x v.what) (int_lt stamp v.until) two.0 in
-                and_from (stands stamp v) (same x v.what)
+                and_from (is_current stamp v) (same x v.what)
                 (and_from (int_le v.since stamp) (int_lt stamp v.until) (le_true v.since stamp (by_now v.since (fit more v fits).begins)) of_key.1)
                 of_key.0
 
-        begun_stands : (x : X) (vs : List (Version X)) → standing stamp (opened_version x stamp ∷ vs) ≡ x ∷ standing stamp vs
+        begun_stands : (x : X) (vs : List (Version X)) → current_values stamp (opened_version x stamp ∷ vs) ≡ x ∷ current_values stamp vs
         begun_stands x vs =
             one_stands stamp (opened_version x stamp) vs
-            ∙ ap (λ b. cond b (x ∷ standing stamp vs) (standing stamp vs))
+            ∙ ap (λ b. cond b (x ∷ current_values stamp vs) (current_values stamp vs))
             (and_from (int_le stamp stamp) (int_lt stamp never) (le_true stamp stamp (least stamp stamp refl)) (lt_true stamp never early))
 
         -- if no key is current twice, a new version is disjoint from all others
         begun_apart : (put : List X) (vs : List (Version X)) → list_all (is_interval more) vs ≡ true → are_distinct (overlap same) vs ≡ true
-            → are_distinct same (standing stamp (map_list (λ x. opened_version x stamp) put ++ vs)) ≡ true
+            → are_distinct same (current_values stamp (map_list (λ x. opened_version x stamp) put ++ vs)) ≡ true
             → are_distinct (overlap same) (map_list (λ x. opened_version x stamp) put ++ vs) ≡ true
         begun_apart [] vs fits apart once = apart
         begun_apart (x ∷ put) vs fits apart once =
             let others : List (Version X) = map_list (λ x. opened_version x stamp) put ++ vs in
             let parts =
-            and_parts (not (list_any (same x) (standing stamp others))) (are_distinct same (standing stamp others))
+            and_parts (not (list_any (same x) (current_values stamp others))) (are_distinct same (current_values stamp others))
             (sym (ap (are_distinct same) (begun_stands x others)) ∙ once) in
             and_from (not (list_any (overlap same (opened_version x stamp)) others)) (are_distinct (overlap same) others)
             (ap not
-            (none_fewer (overlap same (opened_version x stamp)) (λ v. stands stamp v && same x v.what) others (meets x others (all_fit put vs fits))
-            (any_standing stamp (same x) others ∙ not-true (list_any (same x) (standing stamp others)) parts.0)))
+            (none_fewer (overlap same (opened_version x stamp)) (λ v. is_current stamp v && same x v.what) others (meets x others (all_fit put vs fits))
+            (any_standing stamp (same x) others ∙ not-true (list_any (same x) (current_values stamp others)) parts.0)))
             (begun_apart put vs fits apart parts.1)
 
         module _ (meant : X → Bool) where
@@ -270,7 +270,7 @@ module _ (moments : List Moment) (last : ℤ) (by : AllByRecursion (λ (m : Mome
 
           -- intervals stay valid if no key is current twice at the stamp of the change
           pub kept : (put : List X) (vs : List (Version X)) → Proper same moments vs
-              → are_distinct same (standing stamp (changed_versions put meant stamp vs)) ≡ true
+              → are_distinct same (current_values stamp (changed_versions put meant stamp vs)) ≡ true
               → are_intervals same more (changed_versions put meant stamp vs) ≡ true
           kept put vs proper once =
               let closed_ones : List (Version X) = map_list (closed_version meant stamp) vs in

@@ -29,7 +29,7 @@ use Rattle.land_tables_history.proofs.NamingTests.{told_all}
 use Rattle.land_tables_history.specs.History.{named_units, namings_of}
 use Rattle.land_tables_history.specs.Intervals.{AreApart, is_same_naming}
 use Rattle.land_tables_history.specs.ValidHistory.{are_same_namings, is_told}
-use Rattle.land_tables_history.specs.Standing.{standing, stands}
+use Rattle.land_tables_history.specs.Standing.{current_values, is_current}
 use Rattle.land_tables_history.specs.declared.naming.Naming.{Naming}
 use Rattle.land_tables_history.specs.declared.version.Version.{Version}
 
@@ -150,17 +150,17 @@ one_naming a b is =
 naming_itself : (a : Naming) → is_same_naming a a ≡ true
 naming_itself a = same_unit a.mutation a.unit a.unit ∙ nat_eq_equiv.refl a.unit
 
-pub same_namings : (standing named : List Naming) → are_distinct is_same_naming standing ≡ true → are_distinct is_same_naming named ≡ true → are_same_namings standing named ≡ true → IsPermutation standing named
-same_namings standing named ds dn same =
-    let parts = and_parts (list_all (λ n. list_any (is_same_naming n) named) standing) (list_all (λ n. list_any (is_same_naming n) standing) named) same in
-    same_items is_same_naming one_naming naming_itself standing named ds dn parts.0 parts.1
+pub same_namings : (current_values named : List Naming) → are_distinct is_same_naming current_values ≡ true → are_distinct is_same_naming named ≡ true → are_same_namings current_values named ≡ true → IsPermutation current_values named
+same_namings current_values named ds dn same =
+    let parts = and_parts (list_all (λ n. list_any (is_same_naming n) named) current_values) (list_all (λ n. list_any (is_same_naming n) current_values) named) same in
+    same_items is_same_naming one_naming naming_itself current_values named ds dn parts.0 parts.1
 
 -- if the mutations' references are among the current rows, and equally many, then they are the same
 pub named_both : (t : ℤ) (versions : List (Version Naming)) (mutations : FinMap nat_cmp MutationRecord) → AreApart is_same_naming versions → are_distinct is_same_naming (namings_of mutations) ≡ true
-    → (one other : Bool) → one ≡ true → one ≡ list_all (λ v. not (stands t v) || is_told mutations v.what) versions → other ≡ nat_eq (length (namings_of mutations)) (length (standing t versions))
-    → other ≡ are_same_namings (standing t versions) (namings_of mutations)
+    → (one other : Bool) → one ≡ true → one ≡ list_all (λ v. not (is_current t v) || is_told mutations v.what) versions → other ≡ nat_eq (length (namings_of mutations)) (length (current_values t versions))
+    → other ≡ are_same_namings (current_values t versions) (namings_of mutations)
 named_both t versions mutations apart once one other is told counted =
-    let all : list_all (λ n. list_any (is_same_naming n) (namings_of mutations)) (standing t versions) ≡ true = sym (told_all t versions mutations) ∙ sym told ∙ is in
+    let all : list_all (λ n. list_any (is_same_naming n) (namings_of mutations)) (current_values t versions) ≡ true = sym (told_all t versions mutations) ∙ sym told ∙ is in
     counted
-    ∙ sym (as_many is_same_naming one_naming naming_itself (standing t versions) (namings_of mutations) (distinct_standing is_same_naming t versions apart) once all)
-    ∙ ap (λ b. b && list_all (λ n. list_any (is_same_naming n) (standing t versions)) (namings_of mutations)) (sym all)
+    ∙ sym (as_many is_same_naming one_naming naming_itself (current_values t versions) (namings_of mutations) (distinct_standing is_same_naming t versions apart) once all)
+    ∙ ap (λ b. b && list_all (λ n. list_any (is_same_naming n) (current_values t versions)) (namings_of mutations)) (sym all)

@@ -19,26 +19,26 @@ use Rattle.land_core.specs.declared.mutation.MutationRecord.{MutationRecord}
 use Rattle.land_tables_history.specs.History.{named_units, namings_of}
 use Rattle.land_tables_history.specs.Intervals.{is_same_naming}
 use Rattle.land_tables_history.specs.ValidHistory.{are_same_namings, is_among, is_told}
-use Rattle.land_tables_history.specs.Standing.{standing, stands}
+use Rattle.land_tables_history.specs.Standing.{current_values, is_current}
 use Rattle.land_tables_history.specs.declared.naming.Naming.{Naming}
 use Rattle.land_tables_history.specs.declared.version.Version.{Version}
 
 -- a test of some or all current values
-pub any_standing : {X : Type 0} (t : ℤ) (p : X → Bool) (vs : List (Version X)) → list_any (λ v. stands t v && p v.what) vs ≡ list_any p (standing t vs)
+pub any_standing : {X : Type 0} (t : ℤ) (p : X → Bool) (vs : List (Version X)) → list_any (λ v. is_current t v && p v.what) vs ≡ list_any p (current_values t vs)
 any_standing t p [] = refl
-any_standing {X} t p (v ∷ vs) = go (stands t v) (any_standing t p vs)
+any_standing {X} t p (v ∷ vs) = go (is_current t v) (any_standing t p vs)
   where
-    go : (b : Bool) → list_any (λ v. stands t v && p v.what) vs ≡ list_any p (standing t vs)
-        → ((b && p v.what) || list_any (λ (v : Version X). stands t v && p v.what) vs) ≡ list_any p (map_list (λ (v : Version X). v.what) (cond b (v ∷ filter (stands t) vs) (filter (stands t) vs)))
+    go : (b : Bool) → list_any (λ v. is_current t v && p v.what) vs ≡ list_any p (current_values t vs)
+        → ((b && p v.what) || list_any (λ (v : Version X). is_current t v && p v.what) vs) ≡ list_any p (map_list (λ (v : Version X). v.what) (cond b (v ∷ filter (is_current t) vs) (filter (is_current t) vs)))
     go true rest = ap (λ k. p v.what || k) rest
     go false rest = rest
 
-pub all_standing : {X : Type 0} (t : ℤ) (p : X → Bool) (vs : List (Version X)) → list_all (λ v. not (stands t v) || p v.what) vs ≡ list_all p (standing t vs)
+pub all_standing : {X : Type 0} (t : ℤ) (p : X → Bool) (vs : List (Version X)) → list_all (λ v. not (is_current t v) || p v.what) vs ≡ list_all p (current_values t vs)
 all_standing t p [] = refl
-all_standing {X} t p (v ∷ vs) = go (stands t v) (all_standing t p vs)
+all_standing {X} t p (v ∷ vs) = go (is_current t v) (all_standing t p vs)
   where
-    go : (b : Bool) → list_all (λ v. not (stands t v) || p v.what) vs ≡ list_all p (standing t vs)
-        → ((not b || p v.what) && list_all (λ (v : Version X). not (stands t v) || p v.what) vs) ≡ list_all p (map_list (λ (v : Version X). v.what) (cond b (v ∷ filter (stands t) vs) (filter (stands t) vs)))
+    go : (b : Bool) → list_all (λ v. not (is_current t v) || p v.what) vs ≡ list_all p (current_values t vs)
+        → ((not b || p v.what) && list_all (λ (v : Version X). not (is_current t v) || p v.what) vs) ≡ list_all p (map_list (λ (v : Version X). v.what) (cond b (v ∷ filter (is_current t) vs) (filter (is_current t) vs)))
     go true rest = ap (λ k. p v.what && k) rest
     go false rest = rest
 
@@ -122,8 +122,8 @@ told_there mutations n =
 -- ---- current namings are the references of mutations
 
 module _ (t : ℤ) (versions : List (Version Naming)) (mutations : FinMap nat_cmp MutationRecord) where
-  pub told_all : list_all (λ v. not (stands t v) || is_told mutations v.what) versions ≡ list_all (is_among (namings_of mutations)) (standing t versions)
-  told_all = all_standing t (is_told mutations) versions ∙ all_alike (is_told mutations) (is_among (namings_of mutations)) (λ n. any_named n (map.entries mutations)) (standing t versions)
+  pub told_all : list_all (λ v. not (is_current t v) || is_told mutations v.what) versions ≡ list_all (is_among (namings_of mutations)) (current_values t versions)
+  told_all = all_standing t (is_told mutations) versions ∙ all_alike (is_told mutations) (is_among (namings_of mutations)) (λ n. any_named n (map.entries mutations)) (current_values t versions)
 
-  pub none_told : (one : Bool) → one ≡ false → one ≡ list_all (λ v. not (stands t v) || is_told mutations v.what) versions → one ≡ are_same_namings (standing t versions) (namings_of mutations)
-  none_told one is a = is ∙ sym (ap (λ k. k && list_all (is_among (standing t versions)) (namings_of mutations)) (sym (a ∙ told_all) ∙ is))
+  pub none_told : (one : Bool) → one ≡ false → one ≡ list_all (λ v. not (is_current t v) || is_told mutations v.what) versions → one ≡ are_same_namings (current_values t versions) (namings_of mutations)
+  none_told one is a = is ∙ sym (ap (λ k. k && list_all (is_among (current_values t versions)) (namings_of mutations)) (sym (a ∙ told_all) ∙ is))

@@ -16,7 +16,7 @@ use Rattle.land_core.specs.Mandates.{Mandates, mandates_in}
 use Rattle.land_core.specs.declared.mandates.Mandate.{Mandate}
 use Rattle.land_core.specs.declared.roles.Grant.{Grant}
 use Rattle.land_tables_history.proofs.Permutations.{filter_permuted}
-use Rattle.land_tables_history.specs.Standing.{AreMandatesAt, AreRolesAt, IsPartAt, mandates_at, part_at, roles_at, standing}
+use Rattle.land_tables_history.specs.Standing.{AreMandatesAt, AreRolesAt, IsPartAt, mandates_at, part_at, roles_at, current_values}
 use Rattle.land_tables_history.specs.declared.version.Version.{Version}
 
 last_of : {K V : Type 0} → Option V → List (K × V) → Option V
@@ -92,20 +92,20 @@ module _ {K : Type 0} {R : K → K → Ordering} (o : IsTotalOrder R) (same : Is
 
 -- if the current values of versions are the entries of a map, they build it
 pub given : {V : Type 0} (t : ℤ) (versions : List (Version (ℕ × V))) (m : FinMap nat_cmp V) → IsPartAt t versions m → part_at t versions ≡ m
-given t versions m p = in_any_order nat_cmp_total nat_cmp-IsAntisymmetric m (standing t versions) p
+given t versions m p = in_any_order nat_cmp_total nat_cmp-IsAntisymmetric m (current_values t versions) p
 
 -- if the current values of versions are the grants of roles, they build them
 pub granted : (t : ℤ) (versions : List (Version Grant)) (grants : Grants) → AreRolesAt t versions grants → roles_at t versions ≡ grants
 unfolding grants_in
 granted t versions grants p =
-    in_any_order grants_total exact_grants grants (set_entries (standing t versions))
-    (subst (λ l. IsPermutation (set_entries (standing t versions)) l) (set_entries-keys (map.entries grants))
-    (IsPermutation-map (λ k. (k, tt)) (standing t versions) (map.keys grants) p))
+    in_any_order grants_total exact_grants grants (set_entries (current_values t versions))
+    (subst (λ l. IsPermutation (set_entries (current_values t versions)) l) (set_entries-keys (map.entries grants))
+    (IsPermutation-map (λ k. (k, tt)) (current_values t versions) (map.keys grants) p))
 
 -- if the current values of versions are these mandates, they build them
 pub mandated : (t : ℤ) (versions : List (Version Mandate)) (mandates : Mandates) → AreMandatesAt t versions mandates → mandates_at t versions ≡ mandates
 unfolding mandates_in
 mandated t versions mandates p =
-    in_any_order mandates_total exact_mandates mandates (set_entries (standing t versions))
-    (subst (λ l. IsPermutation (set_entries (standing t versions)) l) (set_entries-keys (map.entries mandates))
-    (IsPermutation-map (λ k. (k, tt)) (standing t versions) (map.keys mandates) p))
+    in_any_order mandates_total exact_mandates mandates (set_entries (current_values t versions))
+    (subst (λ l. IsPermutation (set_entries (current_values t versions)) l) (set_entries-keys (map.entries mandates))
+    (IsPermutation-map (λ k. (k, tt)) (current_values t versions) (map.keys mandates) p))

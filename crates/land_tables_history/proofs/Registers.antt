@@ -5,7 +5,7 @@ use Rattle.land_tables_history.proofs.GroupOrders.{grouped}
 use Rattle.land_tables_history.proofs.Orders.{given, granted, mandated}
 use Rattle.land_tables_history.specs.Groups.{HaveMembers}
 use Rattle.land_tables_history.specs.History.{IsRegisterAt, register_at}
-use Rattle.land_tables_history.specs.Standing.{standing}
+use Rattle.land_tables_history.specs.Standing.{current_values}
 use Rattle.land_tables_history.specs.declared.history.History.{History}
 
 pub nine : {A B C D E F G H I X : Type 0} (make : A → B → C → D → E → F → G → H → I → X) {a j : A} {b k : B} {c l : C} {d m : D} {e n : E} {f o : F} {g p : G} {h q : H} {i r : I}
@@ -29,6 +29,6 @@ stood t history next r have stands = nine
       mandates = mandates;
       next = next;
     })
-    (given t history.parties r.parties stands.parties) (granted t history.roles r.roles stands.roles) (grouped r.members (standing t history.members) have stands.members)
+    (given t history.parties r.parties stands.parties) (granted t history.roles r.roles stands.roles) (grouped r.members (current_values t history.members) have stands.members)
     (given t history.units r.units stands.units) (given t history.parcels r.parcels stands.parcels) (given t history.rrrs r.rrrs stands.rrrs)
     (given t history.sources r.sources stands.sources) (given t history.mutations r.mutations stands.mutations) (mandated t history.mandates r.mandates stands.mandates)

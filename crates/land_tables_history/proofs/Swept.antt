@@ -16,7 +16,7 @@ use Rattle.land_core.proofs.Booleans.{conflict}
 use Rattle.land_tables_history.proofs.MomentOrder.{le_itself, le_through}
 use Rattle.land_tables_history.proofs.SweepOrders.{Rising, no_earlier, no_less, rising_in_order, then_not, tie}
 use Rattle.land_tables_history.proofs.Permutations.{all_permuted, filter_permuted}
-use Rattle.land_tables_history.specs.Sweeps.Sweep.{AreSound, is_at, standing}
+use Rattle.land_tables_history.specs.Sweeps.Sweep.{AreSound, is_at, values_under_key}
 use Rattle.land_tables_history.specs.Sweeps.SweepSteps.{span_start, begun_by, end, is_begun_by, left_by, live_span_cmp, sound_from, tick_cmp, all_ticks}
 use Rattle.land_tables_history.specs.declared.sweeps.sweep.LiveSpan.{LiveSpan}
 use Rattle.land_tables_history.specs.declared.sweeps.sweep.Tick.{Tick}
@@ -150,7 +150,7 @@ module _ {T : Type 0} where
 
   module _ (is_sound : List T → Bool) where
     abbrev judged : List (LiveSpan T) → Tick → Bool
-    judged xs u = is_sound (standing xs u.key u.at)
+    judged xs u = is_sound (values_under_key xs u.key u.at)
 
     alike : (p q : Tick → Bool) (us : List Tick) → AllByRecursion (λ u. p u ≡ q u) us → list_all p us ≡ list_all q us
     alike p q [] all = refl
@@ -284,7 +284,7 @@ module _ {T : Type 0} (is_sound : List T → Bool) (empty_is_sound : is_sound []
     same_judged live_spans sorted p [] = refl
     same_judged live_spans sorted p (u ∷ us) =
         ap₂ (λ b c. b && c)
-        (sym (in_any_order (standing live_spans u.key u.at) (standing sorted u.key u.at)
+        (sym (in_any_order (values_under_key live_spans u.key u.at) (values_under_key sorted u.key u.at)
         (IsPermutation-map (λ (x : LiveSpan T). x.what) (filter (is_at u.key u.at) live_spans) (filter (is_at u.key u.at) sorted) (filter_permuted (is_at u.key u.at) live_spans sorted p))))
         (same_judged live_spans sorted p us)
 

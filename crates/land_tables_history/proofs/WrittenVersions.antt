@@ -35,7 +35,7 @@ use Rattle.land_tables_history.specs.Intervals.{is_interval, is_same_grant, is_s
 use Rattle.land_tables_history.specs.Laws.{WritesCloseAll}
 use Rattle.land_tables_history.specs.Open.{never}
 use Rattle.land_tables_history.specs.Pairs.{grants_by_pairs, mandates_by_pairs}
-use Rattle.land_tables_history.specs.Standing.{IsPartAt, standing, stands}
+use Rattle.land_tables_history.specs.Standing.{IsPartAt, current_values, is_current}
 use Rattle.land_tables_history.specs.Written.{existing_records, written_mandates, written_members, written_part, written_roles}
 use Rattle.land_tables_history.specs.declared.group_member.GroupMember.{GroupMember}
 use Rattle.land_tables_history.specs.declared.moment.Moment.{Moment}
@@ -150,26 +150,26 @@ passes_from false b is h = absurd (false≢true is)
 
 module _ (moments : List Moment) (last stamp : ℤ) (by : AllByRecursion (λ (m : Moment). m.stamp ≤ℤ last) moments) (early : last <ℤ never) where
   module _ {X : Type 0} (some all : X → Bool) (test : X → Bool) (alike : (x : X) → test x ≡ true → some x ≡ all x) where
-    one_closed : (v : Version X) → is_interval moments v ≡ true → (not (stands last v) || test v.what) ≡ true → closed_version some stamp v ≡ closed_version all stamp v
+    one_closed : (v : Version X) → is_interval moments v ≡ true → (not (is_current last v) || test v.what) ≡ true → closed_version some stamp v ≡ closed_version all stamp v
     one_closed v fits passes =
         ap (λ b. cond b (record v { until = stamp }) v)
         (both_alike (some v.what) (all v.what) (int_eq v.until never)
-        (λ no_end. alike v.what (passes_from (stands last v) (test v.what) (open_stands moments last by v early fits no_end) passes)))
+        (λ no_end. alike v.what (passes_from (is_current last v) (test v.what) (open_stands moments last by v early fits no_end) passes)))
 
-    each_closed : (vs : List (Version X)) → list_all (is_interval moments) vs ≡ true → list_all (λ v. not (stands last v) || test v.what) vs ≡ true
+    each_closed : (vs : List (Version X)) → list_all (is_interval moments) vs ≡ true → list_all (λ v. not (is_current last v) || test v.what) vs ≡ true
         → map_list (closed_version some stamp) vs ≡ map_list (closed_version all stamp) vs
     each_closed [] fits passes = refl
     each_closed (v ∷ vs) fits passes =
         let fit = and_parts (is_interval moments v) (list_all (is_interval moments) vs) fits in
-        let pass = and_parts (not (stands last v) || test v.what) (list_all (λ v. not (stands last v) || test v.what) vs) passes in
+        let pass = and_parts (not (is_current last v) || test v.what) (list_all (λ v. not (is_current last v) || test v.what) vs) passes in
         ap (λ w. w ∷ map_list (closed_version some stamp) vs) (one_closed v fit.0 pass.0) ∙ ap (λ ws. closed_version all stamp v ∷ ws) (each_closed vs fit.1 pass.1)
 
     -- if the current values pass the test
-    versions_closed : {same : X → X → Bool} (put : List X) (vs : List (Version X)) (them : List X) → Proper same moments vs → IsPermutation (standing last vs) them → list_all test them ≡ true
+    versions_closed : {same : X → X → Bool} (put : List X) (vs : List (Version X)) (them : List X) → Proper same moments vs → IsPermutation (current_values last vs) them → list_all test them ≡ true
         → changed_versions put some stamp vs ≡ changed_versions put all stamp vs
     versions_closed put vs them proper p passes =
         ap (λ l. map_list (λ x. opened_version x stamp) put ++ l)
-        (each_closed vs proper.intervals (all_standing last test vs ∙ sym (all_permuted test (standing last vs) them p) ∙ passes))
+        (each_closed vs proper.intervals (all_standing last test vs ∙ sym (all_permuted test (current_values last vs) them p) ∙ passes))
 
   module _ (next : ℕ) where
     part_closed : {V : Type 0} (put : List (ℕ × V)) (ended : List ℕ) (vs : List (Version (ℕ × V))) (m : FinMap nat_cmp V) → Proper is_same_number moments vs → IsPartAt last vs m
@@ -178,13 +178,13 @@ module _ (moments : List Moment) (last stamp : ℤ) (by : AllByRecursion (λ (m 
         versions_closed (λ e. is_changed (existing_records (λ x. x.0) next put) ended e.0) (λ e. is_changed put ended e.0) (λ e. nat_lt e.0 next)
         (λ e less. number_changed next put ended e.0 less) put vs (map.entries m) proper p passes
 
-    roles_closed : (put ended : List Grant) (vs : List (Version Grant)) (them : List Grant) → Proper is_same_grant moments vs → IsPermutation (standing last vs) them
+    roles_closed : (put ended : List Grant) (vs : List (Version Grant)) (them : List Grant) → Proper is_same_grant moments vs → IsPermutation (current_values last vs) them
         → list_all (λ g. nat_lt g.party next) them ≡ true → written_roles next put ended stamp vs ≡ changed_roles put ended stamp vs
     roles_closed put ended vs them proper p passes =
         versions_closed (λ grant. is_among (eq_by_cmp grant_cmp) (existing_records (λ x. x.party) next put ++ ended) grant) (λ grant. is_among (eq_by_cmp grant_cmp) (put ++ ended) grant)
         (λ g. nat_lt g.party next) (λ g less. key_changed next (eq_by_cmp grant_cmp) (λ x. x.party) same_party put ended g less) put vs them proper p passes
 
-    mandates_closed : (put ended : List Mandate) (vs : List (Version Mandate)) (them : List Mandate) → Proper is_same_mandate moments vs → IsPermutation (standing last vs) them
+    mandates_closed : (put ended : List Mandate) (vs : List (Version Mandate)) (them : List Mandate) → Proper is_same_mandate moments vs → IsPermutation (current_values last vs) them
         → list_all (λ m. nat_lt m.principal next) them ≡ true → written_mandates next put ended stamp vs ≡ changed_mandates put ended stamp vs
     mandates_closed put ended vs them proper p passes =
         versions_closed (λ mandate. is_among (eq_by_cmp mandate_cmp) (existing_records (λ x. x.principal) next put ++ ended) mandate)
@@ -192,7 +192,7 @@ module _ (moments : List Moment) (last stamp : ℤ) (by : AllByRecursion (λ (m 
         (λ m less. key_changed next (eq_by_cmp mandate_cmp) (λ x. x.principal) same_principal put ended m less) put vs them proper p passes
 
     members_closed : (put : List (ℕ × Members)) (ended : List ℕ) (vs : List (Version GroupMember)) (them : List GroupMember) → Proper is_same_member moments vs
-        → IsPermutation (standing last vs) them → list_all (λ e. nat_lt e.group next) them ≡ true → written_members next put ended stamp vs ≡ changed_members put ended stamp vs
+        → IsPermutation (current_values last vs) them → list_all (λ e. nat_lt e.group next) them ≡ true → written_members next put ended stamp vs ≡ changed_members put ended stamp vs
     members_closed put ended vs them proper p passes =
         versions_closed (λ e. is_changed (existing_records (λ x. x.0) next put) ended e.group) (λ e. is_changed put ended e.group) (λ e. nat_lt e.group next)
         (λ e less. number_changed next put ended e.group less) (listed_members put) vs them proper p passes

@@ -6,7 +6,7 @@ use Rattle.std.specs.List.Sorted.{IsPermutation}
 use Rattle.std.specs.Option.{option_map_or}
 use Rattle.std.specs.Ordering.{nat_cmp}
 use Rattle.land_core.specs.Members.{Members, members_in}
-use Rattle.land_tables_history.specs.Standing.{standing}
+use Rattle.land_tables_history.specs.Standing.{current_values}
 use Rattle.land_tables_history.specs.declared.group_member.GroupMember.{GroupMember}
 use Rattle.land_tables_history.specs.declared.version.Version.{Version}
 
@@ -21,7 +21,7 @@ HaveMembers groups = (group : ℕ) → map.get groups group ≢ Some map.empty
 
 -- the current versions are exactly the members of these groups
 abbrev pub AreGroupsAt : ℤ → List (Version GroupMember) → FinMap nat_cmp Members → Type 0
-AreGroupsAt t versions groups = IsPermutation (standing t versions) (group_members groups)
+AreGroupsAt t versions groups = IsPermutation (current_values t versions) (group_members groups)
 
 -- the members of a group, empty if the group does not exist
 abbrev pub members_of : FinMap nat_cmp Members → ℕ → Members
@@ -42,4 +42,4 @@ with_members groups (e ∷ es) = with_members (with_member groups e) es
 
 -- the groups whose members are current
 abbrev pub groups_at : ℤ → List (Version GroupMember) → FinMap nat_cmp Members
-groups_at t versions = with_members map.empty (standing t versions)
+groups_at t versions = with_members map.empty (current_values t versions)

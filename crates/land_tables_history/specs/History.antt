@@ -10,7 +10,7 @@ use Rattle.land_core.specs.declared.mutation.MutationRecord.{MutationRecord}
 use Rattle.land_core.specs.declared.register.Register.{Register}
 use Rattle.land_tables_history.specs.Groups.{AreGroupsAt, groups_at}
 use Rattle.land_tables_history.specs.Standing.{AreMandatesAt, AreRolesAt, IsPartAt, mandates_at, part_at}
-use Rattle.land_tables_history.specs.Standing.{roles_at, standing}
+use Rattle.land_tables_history.specs.Standing.{roles_at, current_values}
 use Rattle.land_tables_history.specs.declared.history.History.{History}
 use Rattle.land_tables_history.specs.declared.naming.Naming.{Naming}
 
@@ -39,7 +39,7 @@ pub record IsRegisterAt (t : ℤ) (history : History) (register : Register) : Ty
   pub rrrs : IsPartAt t history.rrrs register.rrrs
   pub sources : IsPartAt t history.sources register.sources
   pub mutations : IsPartAt t history.mutations register.mutations
-  pub namings : IsPermutation (standing t history.namings) (namings_of register.mutations)
+  pub namings : IsPermutation (current_values t history.namings) (namings_of register.mutations)
   pub mandates : AreMandatesAt t history.mandates register.mandates
 
 -- the register at a moment, with this next number

@@ -12,33 +12,33 @@ use Rattle.land_core.specs.declared.roles.Grant.{Grant}
 use Rattle.land_tables_history.specs.declared.version.Version.{Version}
 
 -- a lifespan includes its start, and not its end
-abbrev pub stands : {X : Type 0} → ℤ → Version X → Bool
-stands t v = int_le v.since t && int_lt t v.until
+abbrev pub is_current : {X : Type 0} → ℤ → Version X → Bool
+is_current t v = int_le v.since t && int_lt t v.until
 
 -- the values of the versions that are current at a moment, in the order of the list
-abbrev pub standing : {X : Type 0} → ℤ → List (Version X) → List X
-standing t versions = map_list (λ v. v.what) (filter (stands t) versions)
+abbrev pub current_values : {X : Type 0} → ℤ → List (Version X) → List X
+current_values t versions = map_list (λ v. v.what) (filter (is_current t) versions)
 
 -- the current versions are exactly these records
 abbrev pub IsPartAt : {V : Type 0} → ℤ → List (Version (ℕ × V)) → FinMap nat_cmp V → Type 0
-IsPartAt t versions m = IsPermutation (standing t versions) (map.entries m)
+IsPartAt t versions m = IsPermutation (current_values t versions) (map.entries m)
 
 -- the current records, inserted in order
 abbrev pub part_at : {V : Type 0} → ℤ → List (Version (ℕ × V)) → FinMap nat_cmp V
-part_at t versions = with_entries map.empty (standing t versions)
+part_at t versions = with_entries map.empty (current_values t versions)
 
 -- the current versions are exactly these grants
 abbrev pub AreRolesAt : ℤ → List (Version Grant) → Grants → Type 0
-AreRolesAt t versions grants = IsPermutation (standing t versions) (grants_in grants)
+AreRolesAt t versions grants = IsPermutation (current_values t versions) (grants_in grants)
 
 -- the current grants, inserted in order
 abbrev pub roles_at : ℤ → List (Version Grant) → Grants
-roles_at t versions = with_entries map.empty (set_entries (standing t versions))
+roles_at t versions = with_entries map.empty (set_entries (current_values t versions))
 
 -- the current versions are exactly these mandates
 abbrev pub AreMandatesAt : ℤ → List (Version Mandate) → Mandates → Type 0
-AreMandatesAt t versions mandates = IsPermutation (standing t versions) (mandates_in mandates)
+AreMandatesAt t versions mandates = IsPermutation (current_values t versions) (mandates_in mandates)
 
 -- the current mandates, inserted in order
 abbrev pub mandates_at : ℤ → List (Version Mandate) → Mandates
-mandates_at t versions = with_entries map.empty (set_entries (standing t versions))
+mandates_at t versions = with_entries map.empty (set_entries (current_values t versions))

@@ -10,7 +10,7 @@ use Rattle.land_core.specs.Soundness.{IsSound}
 use Rattle.land_core.specs.declared.mutation.MutationRecord.{MutationRecord}
 use Rattle.land_tables_history.specs.History.{namings_of, register_at}
 use Rattle.land_tables_history.specs.Intervals.{is_same_naming}
-use Rattle.land_tables_history.specs.Standing.{standing}
+use Rattle.land_tables_history.specs.Standing.{current_values}
 use Rattle.land_tables_history.specs.declared.history.History.{History}
 use Rattle.land_tables_history.specs.declared.moment.Moment.{Moment}
 use Rattle.land_tables_history.specs.declared.naming.Naming.{Naming}
@@ -51,7 +51,7 @@ is_told mutations n =
 -- at a commit the register is sound, and the current rows of `names` are the references of its mutations
 pub record IsValidAt (history : History) (m : Moment) : Type 0 where
   pub sound : IsSound (register_at m.stamp history m.next)
-  pub named : are_same_namings (standing m.stamp history.namings)
+  pub named : are_same_namings (current_values m.stamp history.namings)
       (namings_of (register_at m.stamp history m.next).mutations) ≡ true
 
 -- a history is valid if its commits are valid, and it is valid at each of them

@@ -26,7 +26,7 @@ pub fn groups_at(
 {
     let mut groups = Records::new(alloc);
     for version in versions {
-        if version.stands(at) {
+        if version.is_current(at) {
             let members = joined_members(alloc, &groups, &version.what)?;
             groups.insert(version.what.group, members)?;
         }

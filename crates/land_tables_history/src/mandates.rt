@@ -20,7 +20,7 @@ pub fn mandates_at(
 {
     let mut mandates = Mandates::new(alloc);
     for version in versions {
-        if version.stands(at) {
+        if version.is_current(at) {
             mandates.insert(version.what)?;
         }
     }

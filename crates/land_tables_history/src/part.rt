@@ -21,7 +21,7 @@ pub fn part_at<V: Duplicate>(
 {
     let mut part = Records::new(alloc);
     for version in versions {
-        if version.stands(at) {
+        if version.is_current(at) {
             part.insert(version.what.0, version.what.1.copy(alloc)?)?;
         }
     }

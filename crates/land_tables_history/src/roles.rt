@@ -15,7 +15,7 @@ pub fn roles_at(alloc: Global, versions: &[Version<Grant>], at: i64) -> Result<R
 {
     let mut roles = Roles::new(alloc);
     for version in versions {
-        if version.stands(at) {
+        if version.is_current(at) {
             roles.insert(version.what)?;
         }
     }

@@ -6,7 +6,7 @@ use Rattle.land_core.specs.Texts.{is_label}
 use Rattle.land_core.specs.declared.parcel.ParcelRecord.{ParcelRecord}
 use Rattle.land_fraction.specs.Laws.{SameFractionLaw}
 use Rattle.land_shape.specs.Laws.{OneAnswerLaw, PrintedLaw}
-use Rattle.land_shape.specs.Printed.{printed}
+use Rattle.land_shape.specs.Printed.{polygon_text}
 use Rattle.land_tables_history.specs.declared.version.Version.{Version}
 use Rattle.land_tables_rows.proofs.CellReadings.{end_is, ends, kept_is, kept_is_read, moment_is, moment_is_read, never_is_read, number_is, number_is_read, same_end, same_number, text_is, text_is_read}
 use Rattle.land_tables_rows.proofs.Closings.{IsReadAs, closing}
@@ -78,14 +78,14 @@ parcels_read_back printing one answers shares e since fits exact moment =
     let p = and_parts (is_number e.0) (is_number e.1.unit && (is_storable is_label e.1.label && is_number e.1.source)) fits in
     let q = and_parts (is_number e.1.unit) (is_storable is_label e.1.label && is_number e.1.source) p.1 in
     let r = and_parts (is_storable is_label e.1.label) (is_number e.1.source) q.1 in
-    from_cells (whole e.0) (whole e.1.unit) (Text e.1.label) (Text (printed e.1.outline)) (whole e.1.source) (Int since) (Int never)
+    from_cells (whole e.0) (whole e.1.unit) (Text e.1.label) (Text (polygon_text e.1.outline)) (whole e.1.source) (Int since) (Int never)
     (record { what = e; since = since; until = never })
     (record {
       the_number = number_is_read e.0 p.0;
       the_unit = number_is_read e.1.unit q.0;
       the_label = kept_is_read is_label e.1.label r.0;
-      text = printed e.1.outline;
-      the_text = text_is_read (printed e.1.outline) (printed_is_utf8 e.1.outline exact);
+      text = polygon_text e.1.outline;
+      the_text = text_is_read (polygon_text e.1.outline) (printed_is_utf8 e.1.outline exact);
       the_outline = outline_is_read shares printing one answers e.1.outline exact;
       the_source = number_is_read e.1.source r.1;
       the_since = moment_is_read since moment;

@@ -11,7 +11,7 @@ use Rattle.json.proofs.Printed.Utf8.{IsUtf8-are_ascii, are_ascii}
 use Rattle.land_shape.specs.Coordinate.{IsCoordinate}
 use Rattle.land_shape.specs.Outline.{IsNear, IsOutline}
 use Rattle.land_shape.specs.Place.{Place}
-use Rattle.land_shape.specs.Printed.{point_text, points_text, printed}
+use Rattle.land_shape.specs.Printed.{point_text, points_text, polygon_text}
 
 pub ascii_is_utf8 : (text : List ℕ) → are_ascii text ≡ true → is_utf8 text ≡ true
 ascii_is_utf8 text e = is_utf8-from_IsUtf8 text (IsUtf8-are_ascii text e)
@@ -43,12 +43,12 @@ near_first : (ps : List Place) → AllByRecursion IsNear ps → AllByRecursion I
 near_first [] h = h
 near_first (p ∷ ps) h = (h.0, tt)
 
-pub printed_utf8 : (ring : List Place) → IsOutline ring → IsUtf8 (printed ring)
+pub printed_utf8 : (ring : List Place) → IsOutline ring → IsUtf8 (polygon_text ring)
 printed_utf8 ring h =
     let near = near_again ring (take 1 ring) h.near (near_first ring h.near) in
     IsUtf8-append (codes "POLYGON ((" ++ points_text (ring ++ take 1 ring)) (41 ∷ 41 ∷ [])
     (IsUtf8-append (codes "POLYGON ((") (points_text (ring ++ take 1 ring)) (IsUtf8-are_ascii (codes "POLYGON ((") refl) (points_utf8 (ring ++ take 1 ring) near))
     (IsUtf8-are_ascii (41 ∷ 41 ∷ []) refl)
 
-pub printed_is_utf8 : (ring : List Place) → IsOutline ring → is_utf8 (printed ring) ≡ true
-printed_is_utf8 ring h = is_utf8-from_IsUtf8 (printed ring) (printed_utf8 ring h)
+pub printed_is_utf8 : (ring : List Place) → IsOutline ring → is_utf8 (polygon_text ring) ≡ true
+printed_is_utf8 ring h = is_utf8-from_IsUtf8 (polygon_text ring) (printed_utf8 ring h)

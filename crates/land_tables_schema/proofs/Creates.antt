@@ -2,7 +2,7 @@
 use Rattle.std.proofs.Common.{◌≡◌, ◌⊎◌, inl, inr, ℕ, List, [], ◌∷◌, ◌++◌, map, false, None, Some, Ok, Err, Result, Option, slice_get, refl, sym, ap, ap₂, subst, ◌∙◌, append-nil, append_assoc, is_ok}
 use Rattle.std.specs.List.{AllByRecursion}
 use Rattle.std.proofs.lemmas.List.{map-append}
-use Rattle.land_tables_schema.specs.Definitions.{made_by, schema_after_command, with_table_of, with_index_of, index_on, without_index_of, IsDefining, IsChanging, made, AreDefinitions, IsReady, AreReady}
+use Rattle.land_tables_schema.specs.Definitions.{schema_after_statement, schema_after_command, with_table_of, with_index_of, index_on, without_index_of, IsDefining, IsChanging, schema_after_statements, AreDefinitions, IsReady, AreReady}
 use Rattle.land_tables_schema.specs.Schemas.{no_schema}
 use Rattle.land_tables_schema.specs.Laws.{TextsLaw, create_statements}
 use Rattle.land_tables_schema.specs.Making.{AreEmpty, Defines, DefinesAll, IsMade}
@@ -86,11 +86,11 @@ more_as s text (CreateIndex at) = more_on s text (slice_get s.tables at)
 more_as s text (DropIndex at) = more_dropped s (slice_get s.indexes at)
 more_as s text _ = same_tables s s refl
 
-more_made : (texts : List (List ℕ)) (s : Schema) → HasMore s (made s texts)
+more_made : (texts : List (List ℕ)) (s : Schema) → HasMore s (schema_after_statements s texts)
 more_made [] s = same_tables s s refl
 more_made (text ∷ texts) s =
     let one = more_as s text (command_of (understood s text)) in
-    let rest = more_made texts (made_by s text) in
+    let rest = more_made texts (schema_after_statement s text) in
     record { more = one.more ++ rest.more; is = rest.is ∙ ap (λ ts. ts ++ rest.more) one.is ∙ append_assoc s.tables one.more rest.more }
 
 kept_before : (s t : Schema) (a b : Trees) → HasMore s t → KeepsRows t.tables a b → KeepsRows s.tables a b
@@ -184,9 +184,9 @@ module _ (old new : State) (text : List ℕ) (count : ℕ) where
       let it = defines_as command refl def.changing w in
       record { schema = it.schema; empty = it.empty; kept = it.kept }
 
-made_last : (s : Schema) (texts : List (List ℕ)) (text : List ℕ) → made s (texts ++ text ∷ []) ≡ made_by (made s texts) text
+made_last : (s : Schema) (texts : List (List ℕ)) (text : List ℕ) → schema_after_statements s (texts ++ text ∷ []) ≡ schema_after_statement (schema_after_statements s texts) text
 made_last s [] text = refl
-made_last s (t ∷ texts) text = made_last (made_by s t) texts text
+made_last s (t ∷ texts) text = made_last (schema_after_statement s t) texts text
 
 -- the effect of the statements until now, and the remaining ones
 pub record HasDefined (done left : List (List ℕ)) (old new : Database) : Type 0 where
@@ -210,7 +210,7 @@ defined_more a b c f before rest x is more far one =
     let so : map f (before ++ x ∷ []) ≡ map f before ++ f x ∷ [] = map-append f before (x ∷ []) in
     record {
       defined = record {
-        schema = one.schema ∙ ap (λ s. made_by s (f x)) far.defined.schema ∙ sym (made_last a.schema (map f before) (f x)) ∙ ap (made a.schema) (sym (ap (map f) more ∙ so));
+        schema = one.schema ∙ ap (λ s. schema_after_statement s (f x)) far.defined.schema ∙ sym (made_last a.schema (map f before) (f x)) ∙ ap (schema_after_statements a.schema) (sym (ap (map f) more ∙ so));
         empty = λ e. one.empty (far.defined.empty e);
         kept = kept_then a.schema.tables a.trees b.trees c.trees far.defined.kept (kept_before a.schema b.schema b.trees c.trees more_tables one.kept);
       };
@@ -227,7 +227,7 @@ are_ready : (texts : List (List ℕ)) (s : Schema) → AreDefinitions s texts �
 are_ready [] s all = tt
 are_ready (text ∷ texts) s all =
     let one = all.0 in
-    (λ _. record { plain = one.plain; whole = one.whole; changing = changing (command_of (understood s text)) (made_by s text) one.defining }, are_ready texts (made_by s text) all.1)
+    (λ _. record { plain = one.plain; whole = one.whole; changing = changing (command_of (understood s text)) (schema_after_statement s text) one.defining }, are_ready texts (schema_after_statement s text) all.1)
 
 -- the statements of the register create its tables
 pub texts_define : (s : Schema) (texts : List (List ℕ)) → s ≡ no_schema → texts ≡ create_statements → TextsLaw → AreReady s texts
@@ -238,4 +238,4 @@ none_there db s db_is s_is = rw (db_is, s_is) tt
 
 pub texts_make : (old new : Database) (texts : List (List ℕ)) → old.schema ≡ no_schema → texts ≡ create_statements → TextsLaw → DefinesAll texts old new → IsMade new
 texts_make old new texts old_is texts_is law did =
-    record { schema = did.schema ∙ ap₂ made old_is texts_is ∙ law.makes; empty = did.empty (none_there old old.schema refl old_is) }
+    record { schema = did.schema ∙ ap₂ schema_after_statements old_is texts_is ∙ law.makes; empty = did.empty (none_there old old.schema refl old_is) }

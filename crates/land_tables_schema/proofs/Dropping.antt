@@ -9,7 +9,7 @@ use Rattle.std.specs.Ordering.{is_eq, nat_cmp}
 use Rattle.std.specs.Prelude.{nat_eq, nat_lt}
 use Rattle.land_tables_schema.proofs.Named.{IsDrop, compiled_dropping, drop_by_name, drop_with, heard}
 use Rattle.land_tables_schema.proofs.Raisable.{first_but_for_indexes}
-use Rattle.land_tables_schema.specs.Definitions.{AreReady, IsChanging, IsReady, without_index_of, made, schema_after_command, made_by}
+use Rattle.land_tables_schema.specs.Definitions.{AreReady, IsChanging, IsReady, without_index_of, schema_after_statements, schema_after_command, schema_after_statement}
 use Rattle.land_tables_schema.specs.Schemas.{IsSchemaV1, IsMigratable, are_apart, schema_v1_with, is_apart, is_lookup_index, is_named, lookup_index_names, adds_no_constraint, without_lookup_indexes, without_named}
 use Rattle.land_tables_schema.specs.Laws.{drop_statements}
 use Rattle.sqlite.proofs.Callers.{command_of, statement_of}
@@ -161,7 +161,7 @@ may_change None after = tt
 may_change (Some k) after = tt
 
 abbrev Dropped : List ℕ → List ℕ → List Index → Type 0
-Dropped text name is = IsReady (schema_v1_with [] is) text × (made_by (schema_v1_with [] is) text ≡ schema_v1_with [] (without_one name is))
+Dropped text name is = IsReady (schema_v1_with [] is) text × (schema_after_statement (schema_v1_with [] is) text ≡ schema_v1_with [] (without_one name is))
 
 module _ (text name : List ℕ) (d : Drops text name) (is : List Index) (apart : are_apart is ≡ true) where
   abbrev schema : Schema
@@ -179,7 +179,7 @@ module _ (text name : List ℕ) (d : Drops text name) (is : List Index) (apart :
         λ _. record {
           plain = subst IsPlain (sym same) h.plain;
           whole = ap (statement_of text) same ∙ h.whole;
-          changing = subst (λ (c : Command). IsChanging c (made_by schema text)) (sym command) (may_change o (made_by schema text));
+          changing = subst (λ (c : Command). IsChanging c (schema_after_statement schema text)) (sym command) (may_change o (schema_after_statement schema text));
         },
         ap (schema_after_command schema text) command ∙ loses text name is apart o e,
       )
@@ -188,7 +188,7 @@ module _ (text name : List ℕ) (d : Drops text name) (is : List Index) (apart :
   dropped_one = dropped_by (index_named schema name) refl
 
 dropped_all : (texts names : List (List ℕ)) → AllZip Drops texts names → (is : List Index) → are_apart is ≡ true
-    → AreReady (schema_v1_with [] is) texts × (made (schema_v1_with [] is) texts ≡ schema_v1_with [] (filter (λ i. not (is_named names i)) is))
+    → AreReady (schema_v1_with [] is) texts × (schema_after_statements (schema_v1_with [] is) texts ≡ schema_v1_with [] (filter (λ i. not (is_named names i)) is))
 dropped_all [] [] drop is apart = (tt, ap (λ l. schema_v1_with [] l) (sym (all_stay is)))
 dropped_all [] (n ∷ ns) drop is apart = absurd drop
 dropped_all (t ∷ ts) [] drop is apart = absurd drop
@@ -196,7 +196,7 @@ dropped_all (t ∷ ts) (n ∷ ns) drop is apart =
     let one = dropped_one t n drop.0 is apart in
     let rest = dropped_all ts ns drop.1 (without_one n is) (apart_of (λ i. not (same_name i.name n)) is apart) in (
       (one.0, subst (λ s. AreReady s ts) (sym one.1) rest.0),
-      ap (λ s. made s ts) one.1 ∙ rest.1 ∙ ap (λ l. schema_v1_with [] l) (filter_twice (λ (i : Index). same_name i.name n) (is_named ns) is),
+      ap (λ s. schema_after_statements s ts) one.1 ∙ rest.1 ∙ ap (λ l. schema_v1_with [] l) (filter_twice (λ (i : Index). same_name i.name n) (is_named ns) is),
     )
 
 statement_in : (r : Checked Parsed) → is_ok r ≡ true → Parsed
@@ -291,9 +291,9 @@ join_drops : AllZip Drops drop_statements lookup_index_names
 join_drops = (rrr_party_dropped, (rrr_unit_dropped, (parcel_unit_dropped, (member_party_dropped, (names_unit_dropped, (mutation_lodger_dropped, (role_role_dropped, tt)))))))
 
 -- the statements are ready to run, and drop the plain indexes of version 1
-pub drops_ready : (s : Schema) → IsMigratable s → AreReady s drop_statements × (made s drop_statements ≡ without_lookup_indexes s)
+pub drops_ready : (s : Schema) → IsMigratable s → AreReady s drop_statements × (schema_after_statements s drop_statements ≡ without_lookup_indexes s)
 drops_ready s able =
-    subst (λ (x : Schema). AreReady x drop_statements × (made x drop_statements ≡ without_lookup_indexes x)) (sym (first_but_for_indexes s able.first))
+    subst (λ (x : Schema). AreReady x drop_statements × (schema_after_statements x drop_statements ≡ without_lookup_indexes x)) (sym (first_but_for_indexes s able.first))
     (dropped_all drop_statements lookup_index_names join_drops s.indexes able.apart)
 
 -- without some indexes the schema still has version 1

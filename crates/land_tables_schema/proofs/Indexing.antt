@@ -5,7 +5,7 @@ use Rattle.std.specs.List.{AllByRecursion, list_any}
 use Rattle.std.proofs.lemmas.Bool.{false≢true}
 use Rattle.land_tables_schema.proofs.Named.{IsIndex, compiled_by, heard, index_by_name, index_with, index_without}
 use Rattle.land_tables_schema.proofs.Raisable.{but_for_indexes}
-use Rattle.land_tables_schema.specs.Definitions.{AreReady, IsChanging, IsReady, with_index_of, index_on, made, schema_after_command, made_by}
+use Rattle.land_tables_schema.specs.Definitions.{AreReady, IsChanging, IsReady, with_index_of, index_on, schema_after_statements, schema_after_command, schema_after_statement}
 use Rattle.land_tables_schema.specs.Schemas.{IsSchemaV2, an_index, is_key_of, schema_v2_with, adds_no_constraint}
 use Rattle.land_tables_schema.specs.Laws.{index_statements}
 use Rattle.land_tables_schema.specs.Tables as table
@@ -75,7 +75,7 @@ indexed_is_land s t i common has_tables =
     }
 
 abbrev Indexed : List ℕ → Schema → Type 0
-Indexed text s = IsReady s text × IsSchemaV2 (made_by s text)
+Indexed text s = IsReady s text × IsSchemaV2 (schema_after_statement s text)
 
 module _ (text : List ℕ) (m : MakesPlain text) (is : List Index) (has_tables : IsSchemaV2 (schema_v2_with is)) where
   abbrev schema : Schema
@@ -92,7 +92,7 @@ module _ (text : List ℕ) (m : MakesPlain text) (is : List Index) (has_tables :
         λ _. record {
           plain = subst IsPlain (sym same) m.plain;
           whole = ap (statement_of text) same ∙ m.whole;
-          changing = subst (λ (c : Command). IsChanging c (made_by schema text)) (sym command) tt;
+          changing = subst (λ (c : Command). IsChanging c (schema_after_statement schema text)) (sym command) tt;
         },
         subst IsSchemaV2 (sym (made_as_known (command_of (understood schema text)) (indexed schema m.on m.index) command refl)) (indexed_is_land schema m.on m.index m.common has_tables),
       )
@@ -113,11 +113,11 @@ indexed_one text m s has_tables =
     let is = but_for_indexes s has_tables in
     subst (Indexed text) (sym is) (by_name text m s.indexes (subst IsSchemaV2 is has_tables) (index_named (schema_v2_with s.indexes) m.it.def.name) refl)
 
-indexed_all : (texts : List (List ℕ)) → AllByRecursion MakesPlain texts → (s : Schema) → IsSchemaV2 s → AreReady s texts × IsSchemaV2 (made s texts)
+indexed_all : (texts : List (List ℕ)) → AllByRecursion MakesPlain texts → (s : Schema) → IsSchemaV2 s → AreReady s texts × IsSchemaV2 (schema_after_statements s texts)
 indexed_all [] all s has_tables = (tt, has_tables)
 indexed_all (text ∷ texts) all s has_tables =
     let one = indexed_one text all.0 s has_tables in
-    let rest = indexed_all texts all.1 (made_by s text) one.1 in
+    let rest = indexed_all texts all.1 (schema_after_statement s text) one.1 in
     ((one.0, rest.0), rest.1)
 
 rrr_party_is : IsIndex rrr.INDEX_PARTY.now
@@ -284,8 +284,8 @@ each_made : AllByRecursion MakesPlain index_statements
 each_made = (rrr_party_made, (rrr_unit_made, (parcel_unit_made, (member_party_made, (names_unit_made, (mutation_lodger_made, (role_role_made, (mandate_agent_made, tt))))))))
 
 -- the statements are ready to run on a register, and it stays one
-pub indexes_ready : (s : Schema) → IsSchemaV2 s → AreReady s index_statements × IsSchemaV2 (made s index_statements)
+pub indexes_ready : (s : Schema) → IsSchemaV2 s → AreReady s index_statements × IsSchemaV2 (schema_after_statements s index_statements)
 indexes_ready s has_tables = indexed_all index_statements each_made s has_tables
 
-pub plain_are_land : (s : Schema) → IsSchemaV2 s → IsSchemaV2 (made s index_statements)
+pub plain_are_land : (s : Schema) → IsSchemaV2 s → IsSchemaV2 (schema_after_statements s index_statements)
 plain_are_land s has_tables = (indexes_ready s has_tables).1

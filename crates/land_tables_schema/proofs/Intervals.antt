@@ -1,7 +1,7 @@
 -- The nodes of the one term of an interval.
 use Rattle.std.proofs.Common.{◌≡◌, ◌≤◌, ◌∙◌, IsTrue, false, ℕ, suc, List, [], ◌∷◌, length, Option, Some, None, refl, sym, ap, ap₂, subst, arith, get_or, slice_get, unwrap_or}
 use Rattle.std.proofs.lemmas.Option.{unwrap_or-slice_get}
-use Rattle.land_tables_schema.specs.Columns.{ordered}
+use Rattle.land_tables_schema.specs.Columns.{lifespan_check}
 use Rattle.sqlite_schema.specs.Code.{op_term, term_to, terms_in}
 use Rattle.sqlite_schema.specs.declared.code.Op.{Op}
 use Rattle.sqlite_schema.specs.declared.code.Op.TheVariants.{Binary, Case, Column, Literal, Unary}
@@ -77,7 +77,7 @@ deep nodes d root since until e =
     }
 
 -- so there are at least two nodes, including the three of the interval
-found : (nodes : List Op) (root since until : ℕ) → terms_in nodes (root ∷ []) ≡ ordered since until
+found : (nodes : List Op) (root since until : ℕ) → terms_in nodes (root ∷ []) ≡ lifespan_check since until
     → (2 ≤ length nodes) × IsInterval nodes root since until
 found [] root since until e = absurd (cc (e))
 found (n ∷ []) root since until e =
@@ -91,7 +91,7 @@ shallow nodes d at o is = steps nodes d at ∙ ap (λ x. op_term (term_to nodes 
 
 -- the three nodes, among at least two, have the term of the interval
 meant : (nodes : List Op) (root since until : ℕ) → 2 ≤ length nodes → IsInterval nodes root since until
-    → terms_in nodes (root ∷ []) ≡ ordered since until
+    → terms_in nodes (root ∷ []) ≡ lifespan_check since until
 meant [] root since until long i = absurd (omega (arith, long))
 meant (n ∷ []) root since until long i = absurd (omega (arith, long))
 meant (m ∷ n ∷ rest) root since until long i =
@@ -107,7 +107,7 @@ pub record IsWhole (nodes : List Op) (roots : List ℕ) (since until : ℕ) : Ty
   pub two : 2 ≤ length nodes
   pub interval : IsInterval nodes (get_or roots 0 0) since until
 
-pub whole : (nodes : List Op) (roots : List ℕ) (since until : ℕ) → terms_in nodes roots ≡ ordered since until
+pub whole : (nodes : List Op) (roots : List ℕ) (since until : ℕ) → terms_in nodes roots ≡ lifespan_check since until
     → IsWhole nodes roots since until
 whole nodes [] since until e = absurd (cc (e))
 whole nodes (r ∷ []) since until e = let f = found nodes r since until e in record { one = refl; two = f.0; interval = f.1 }
@@ -115,7 +115,7 @@ whole nodes (r ∷ s ∷ roots) since until e = absurd (cc (e))
 
 -- and conversely
 pub meant_by : (nodes : List Op) (roots : List ℕ) (since until : ℕ) → IsWhole nodes roots since until
-    → terms_in nodes roots ≡ ordered since until
+    → terms_in nodes roots ≡ lifespan_check since until
 meant_by nodes [] since until w = absurd (omega (arith, w.one))
 meant_by nodes (r ∷ []) since until w = meant nodes r since until w.two w.interval
 meant_by nodes (r ∷ s ∷ roots) since until w = absurd (omega (arith, w.one))

@@ -5,7 +5,7 @@ use Rattle.std.proofs.lemmas.List.Sorted.{IsPermutation-refl, IsPermutation-sym,
 use Rattle.land_tables_schema.proofs.Dropping.{drops_ready, first_without, next_is}
 use Rattle.land_tables_schema.proofs.Indexing.{plain_are_land}
 use Rattle.land_tables_schema.proofs.Raisable.{but_for_indexes, mandates_are_land}
-use Rattle.land_tables_schema.specs.Definitions.{made}
+use Rattle.land_tables_schema.specs.Definitions.{schema_after_statements}
 use Rattle.land_tables_schema.specs.Schemas.{IsSchemaV1 as IsFirstSchema, IsSchemaV2, IsMigratable, lookup_index_names, schema_v2_with, with_mandates}
 use Rattle.land_tables_schema.specs.Laws.{drop_statements, index_statements}
 use Rattle.land_tables_schema.specs.Making.{DefinesAll}
@@ -174,7 +174,7 @@ last_left c d kept = kept.1.1.1.1.1.1.1.1.1.1.1.0 (λ e. absurd (omega arith))
 
 raises : (a b c d e : Database) → DropsLookupIndexes a b → CreatesMandateTable b c → CreatesLookupIndexes c d → Rewrites v1_edition v2_edition d e → Migrates a e
 raises a b c d e dropped with_table_of indexes_made row = record {
-  schema = row.schema ∙ indexes_made.schema ∙ ap (λ s. made s index_statements) (with_table_of.schema ∙ ap with_mandates dropped.schema);
+  schema = row.schema ∙ indexes_made.schema ∙ ap (λ s. schema_after_statements s index_statements) (with_table_of.schema ∙ ap with_mandates dropped.schema);
   has_tables = subst IsSchemaV2 (sym row.schema) indexes_made.has_tables;
   edition = λ held. row.rewritten (subst (λ rs. IsPermutation (map numbered_cells rs) (edition_row v1_edition ∷ [])) (sym (indexes_made.kept.0 ∙ with_table_of.kept.0 ∙ dropped.kept.0)) held);
   mandates = last_left d.trees e.trees row.kept ∙ last_kept c.trees d.trees indexes_made.kept ∙ with_table_of.empty;

@@ -1,7 +1,7 @@
 -- The statements create the schema of a new register, in order.
 use Rattle.std.proofs.Common.{◌≡◌, ◌∙◌, ℕ, List, [], ◌∷◌, ◌++◌, ap, drop, refl, subst, sym, take}
 use Rattle.land_tables_schema.proofs.Dropping.{drops_ready, next_is}
-use Rattle.land_tables_schema.specs.Definitions.{AreDefinitions, IsDefinition, made, made_by}
+use Rattle.land_tables_schema.specs.Definitions.{AreDefinitions, IsDefinition, schema_after_statements, schema_after_statement}
 use Rattle.land_tables_schema.specs.Schemas.{v1_indexes, v1_schema, schema_v1_with, v2_indexes, v2_schema, no_schema, with_mandates, without_lookup_indexes}
 use Rattle.land_tables_schema.specs.Laws.{TableTextsLaw, TextsLaw, VersionsLaw, first_texts, index_statements, create_statements}
 use Rattle.land_tables_schema.specs.Tables.{land_tables}
@@ -31,7 +31,7 @@ first_so_far indexes = schema_v1_with [] (take indexes v1_indexes)
 
 -- a statement is a CREATE that turns one schema into another
 record Makes (s : Schema) (text : List ℕ) (next : Schema) : Type 0 where
-  made_is : made_by s text ≡ next
+  made_is : schema_after_statement s text ≡ next
   definition : IsDefinition s text
 
 edition_made : Makes (so_far 0 0) edition.CREATE.now (so_far 1 0)
@@ -149,12 +149,12 @@ first_role_role = record { made_is = refl; definition = record { plain = (refl, 
 -- from one schema on, statements are CREATEs that yield another
 record Finish (last s : Schema) (texts : List (List ℕ)) : Type 0 where
   definitions : AreDefinitions s texts
-  made_is : made s texts ≡ last
+  made_is : schema_after_statements s texts ≡ last
 
 one_more : {last s next : Schema} {text : List ℕ} {texts : List (List ℕ)} → Makes s text next → Finish last next texts → Finish last s (text ∷ texts)
 one_more {last} {s} {next} {text} {texts} one rest = record {
   definitions = (one.definition, subst (λ x. AreDefinitions x texts) (sym one.made_is) rest.definitions);
-  made_is = ap (λ x. made x texts) one.made_is ∙ rest.made_is;
+  made_is = ap (λ x. schema_after_statements x texts) one.made_is ∙ rest.made_is;
 }
 
 done : (last : Schema) → Finish last last []
@@ -215,7 +215,7 @@ unfolding everything
 versions_differ = record {
   makes = first_finish.made_is;
   raisable = record { first = record { tables = refl; indexes = refl; views = refl }; apart = refl; before = refl; last = refl };
-  raises = ap (λ s. made s index_statements) first_with_mandates ∙ indexes_finish.made_is;
+  raises = ap (λ s. schema_after_statements s index_statements) first_with_mandates ∙ indexes_finish.made_is;
   drops = λ s able. (drops_ready s able).1;
   next = next_is;
 }

@@ -41,12 +41,12 @@ abbrev pub words_or_null : List ℕ → Column
 words_or_null name = a_column name Text false
 
 -- CHECK (since < until), by the positions of the two columns: a lifespan begins before it ends
-abbrev pub ordered : ℕ → ℕ → List Term
-ordered since until = op2 (Compare Lt Binary) (col 1 since) (col 1 until) ∷ []
+abbrev pub lifespan_check : ℕ → ℕ → List Term
+lifespan_check since until = op2 (Compare Lt Binary) (col 1 since) (col 1 until) ∷ []
 
 -- a table whose rowid is its first column (INTEGER PRIMARY KEY), without a CHECK
-abbrev pub numbered : List ℕ → ℕ → List Column → Table
-numbered name tree columns = record {
+abbrev pub numbered_table : List ℕ → ℕ → List Column → Table
+numbered_table name tree columns = record {
   name = name;
   tree = tree;
   columns = columns;
@@ -62,8 +62,8 @@ numbered name tree columns = record {
 }
 
 -- a table with a primary key on these columns, all ascending, and with these CHECKs
-abbrev pub keyed : List ℕ → ℕ → List Column → List ℕ → List Term → Table
-keyed name tree columns key checks = record {
+abbrev pub keyed_table : List ℕ → ℕ → List Column → List ℕ → List Term → Table
+keyed_table name tree columns key checks = record {
   name = name;
   tree = tree;
   columns = columns;
@@ -80,8 +80,8 @@ keyed name tree columns key checks = record {
 
 -- A versioned table: its own columns, then `since` and `until`. Each lifespan begins before it ends. The
 -- primary key is the positions of the named key, then `since`.
-abbrev pub versioned : List ℕ → ℕ → List ℕ → List Column → Table
-versioned name tree key columns =
+abbrev pub versioned_table : List ℕ → ℕ → List ℕ → List Column → Table
+versioned_table name tree key columns =
     let since = suc (length columns) in
-    keyed name tree (columns ++ number (codes "since") ∷ number (codes "until") ∷ []) (key ++ since ∷ [])
-    (ordered since (suc since))
+    keyed_table name tree (columns ++ number (codes "since") ∷ number (codes "until") ∷ [])
+    (key ++ since ∷ []) (lifespan_check since (suc since))

@@ -43,12 +43,12 @@ schema_after_command s text (DropIndex at) = without_index_of s (slice_get s.ind
 schema_after_command s text _ = s
 
 -- the schema after one statement
-abbrev pub made_by : Schema → List ℕ → Schema
-made_by s text = schema_after_command s text (command_of (understood s text))
+abbrev pub schema_after_statement : Schema → List ℕ → Schema
+schema_after_statement s text = schema_after_command s text (command_of (understood s text))
 
 -- the schema after these statements, in order
-abbrev pub made : Schema → List (List ℕ) → Schema
-made = fold made_by
+abbrev pub schema_after_statements : Schema → List (List ℕ) → Schema
+schema_after_statements = fold schema_after_statement
 
 -- the command creates a table without AUTOINCREMENT, or an index
 abbrev pub IsDefining : Command → Schema → Type 0
@@ -60,12 +60,12 @@ IsDefining _ after = ⊥
 pub record IsDefinition (s : Schema) (text : List ℕ) : Type 0 where
   pub plain : IsPlain (understood s text)
   pub whole : statement_of text (understood s text) ≡ text
-  pub defining : IsDefining (command_of (understood s text)) (made_by s text)
+  pub defining : IsDefining (command_of (understood s text)) (schema_after_statement s text)
 
 -- each statement, run after those before it, is one CREATE and nothing else
 abbrev pub AreDefinitions : Schema → List (List ℕ) → Type 0
 AreDefinitions s [] = ⊤
-AreDefinitions s (text ∷ texts) = IsDefinition s text × AreDefinitions (made_by s text) texts
+AreDefinitions s (text ∷ texts) = IsDefinition s text × AreDefinitions (schema_after_statement s text) texts
 
 -- the command creates a table or an index, drops an index, or finds no index to drop
 abbrev pub IsChanging : Command → Schema → Type 0
@@ -77,7 +77,7 @@ IsChanging command after = IsDefining command after
 pub record IsChange (s : Schema) (text : List ℕ) : Type 0 where
   pub plain : IsPlain (understood s text)
   pub whole : statement_of text (understood s text) ≡ text
-  pub changing : IsChanging (command_of (understood s text)) (made_by s text)
+  pub changing : IsChanging (command_of (understood s text)) (schema_after_statement s text)
 
 -- the statement is such a one, or it does not compile, like a CREATE whose name exists already
 abbrev pub IsReady : Schema → List ℕ → Type 0
@@ -86,4 +86,4 @@ IsReady s text = is_ok (understood s text) ≡ true → IsChange s text
 -- each statement is such a one, run after those before it
 abbrev pub AreReady : Schema → List (List ℕ) → Type 0
 AreReady s [] = ⊤
-AreReady s (text ∷ texts) = IsReady s text × AreReady (made_by s text) texts
+AreReady s (text ∷ texts) = IsReady s text × AreReady (schema_after_statement s text) texts

@@ -1,7 +1,7 @@
 -- Laws of the tables and of the SQL statements that create them, on definitions only.
 use Rattle.std.specs.List.{list_all}
 use Rattle.std.specs.Prelude.{◌≡◌, ◌↔◌, ◌++◌, ℕ, List, Ok, drop, map, take, true}
-use Rattle.land_tables_schema.specs.Definitions.{AreDefinitions, made}
+use Rattle.land_tables_schema.specs.Definitions.{AreDefinitions, schema_after_statements}
 use Rattle.land_tables_schema.specs.Schemas.{ContainsSchemaV1, IsSchemaV1, IsSchemaV2, IsMigratable}
 use Rattle.land_tables_schema.specs.Schemas.{MayBeRegisterSchema}
 use Rattle.land_tables_schema.specs.Schemas.{v1_schema, schema_v2_with, v2_schema, no_schema}
@@ -64,14 +64,14 @@ first_texts = take 11 create_statements ++ take 7 index_statements
 
 -- a migrated schema of version 1: the plain indexes are dropped, `mandate` is added, and then all plain
 -- indexes are created by their statements
-abbrev pub raised : Schema → Schema
-raised s = made (with_mandates (without_lookup_indexes s)) index_statements
+abbrev pub migrated_schema : Schema → Schema
+migrated_schema s = schema_after_statements (with_mandates (without_lookup_indexes s)) index_statements
 
 -- each statement is one CREATE and nothing else, and together they turn the empty schema into that of a new
 -- register
 pub record TextsLaw : Type 0 where
   pub creates : AreDefinitions no_schema create_statements
-  pub makes : made no_schema create_statements ≡ v2_schema
+  pub makes : schema_after_statements no_schema create_statements ≡ v2_schema
 
 -- a schema is a register's if and only if it has the register's tables, no views, and only indexes that
 -- reject no more rows than the primary keys do
@@ -84,10 +84,11 @@ IndexLaw =
 -- that can be migrated, and its migration is what all statements create. The DROP statements drop the plain
 -- indexes, and then the next tree is that of `mandate`.
 pub record VersionsLaw : Type 0 where
-  pub makes : made no_schema first_texts ≡ v1_schema
+  pub makes : schema_after_statements no_schema first_texts ≡ v1_schema
   pub raisable : IsMigratable v1_schema
-  pub raises : raised v1_schema ≡ v2_schema
-  pub drops : (s : Schema) → IsMigratable s → made s drop_statements ≡ without_lookup_indexes s
+  pub raises : migrated_schema v1_schema ≡ v2_schema
+  pub drops : (s : Schema) → IsMigratable s
+      → schema_after_statements s drop_statements ≡ without_lookup_indexes s
   pub next : (s : Schema) → IsMigratable s → next_tree (without_lookup_indexes s) ≡ table.mandate.tree
 
 -- Each schema of a register, in version 1 or 2, may be a register's; and a migrated schema of version 1 is
@@ -96,4 +97,4 @@ pub record SchemasLaw : Type 0 where
   pub has_tables : (s : Schema) → IsSchemaV2 s → MayBeRegisterSchema s
   pub first : (s : Schema) → IsSchemaV1 s → MayBeRegisterSchema s
   pub tables : (s : Schema) → MayBeRegisterSchema s → ContainsSchemaV1 s
-  pub raised : (s : Schema) → IsSchemaV1 s → IsSchemaV2 (raised s)
+  pub raised : (s : Schema) → IsSchemaV1 s → IsSchemaV2 (migrated_schema s)

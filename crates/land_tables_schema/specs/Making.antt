@@ -1,7 +1,7 @@
 -- The effect on a database of the SQL statements that create its tables.
 use Rattle.std.specs.Prelude.{◌≡◌, ℕ, List, []}
 use Rattle.std.specs.List.{AllByRecursion}
-use Rattle.land_tables_schema.specs.Definitions.{made, made_by}
+use Rattle.land_tables_schema.specs.Definitions.{schema_after_statements, schema_after_statement}
 use Rattle.land_tables_schema.specs.Schemas.{v2_schema}
 use Rattle.sqlite.specs.Effect.{Database}
 use Rattle.sqlite_catalog.specs.Change.{KeepsRows}
@@ -13,13 +13,13 @@ AreEmpty db = AllByRecursion (λ (t : Table). db.trees t.tree ≡ []) db.schema.
 
 -- the statement changes the schema as it defines, adds no row, and leaves all rows unchanged
 pub record Defines (text : List ℕ) (old new : Database) : Type 0 where
-  pub schema : new.schema ≡ made_by old.schema text
+  pub schema : new.schema ≡ schema_after_statement old.schema text
   pub empty : AreEmpty old → AreEmpty new
   pub kept : KeepsRows old.schema.tables old.trees new.trees
 
 -- the statements, in order, do so
 pub record DefinesAll (texts : List (List ℕ)) (old new : Database) : Type 0 where
-  pub schema : new.schema ≡ made old.schema texts
+  pub schema : new.schema ≡ schema_after_statements old.schema texts
   pub empty : AreEmpty old → AreEmpty new
   pub kept : KeepsRows old.schema.tables old.trees new.trees
 

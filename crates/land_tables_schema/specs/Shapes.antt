@@ -1,6 +1,7 @@
 -- The tables that shapes describe.
 use Rattle.std.specs.Prelude.{◌≡◌, ℕ, List, [], ◌∷◌, map, false, Option, Some, None}
-use Rattle.land_tables_schema.specs.Columns.{keyed, number, number_or_null, numbered, ordered, words}
+use Rattle.land_tables_schema.specs.Columns.{keyed_table, lifespan_check, number, number_or_null}
+use Rattle.land_tables_schema.specs.Columns.{numbered_table, words}
 use Rattle.land_tables_schema.specs.Columns.{words_or_null}
 use Rattle.land_tables_schema.specs.declared.shape.ColumnShape.{ColumnShape}
 use Rattle.land_tables_schema.specs.declared.shape.ColumnShape.TheVariants as column
@@ -21,9 +22,9 @@ column_of (column.OptionalWords name) = words_or_null name.now
 
 -- the table with these rows
 abbrev pub with_rows : Rows → List ℕ → ℕ → List Column → Table
-with_rows rows.Numbered name tree columns = numbered name tree columns
+with_rows rows.Numbered name tree columns = numbered_table name tree columns
 with_rows (rows.Versioned key since until) name tree columns =
-    keyed name tree columns key.now (ordered since until)
+    keyed_table name tree columns key.now (lifespan_check since until)
 
 -- the table of a shape
 abbrev pub table_of : TableShape → Table
@@ -49,4 +50,4 @@ pub record AreKept (t : Table) (key : Option ℕ) (primary : List ℕ) (uniques 
 abbrev pub AreRows : Table → Rows → Type 0
 AreRows t rows.Numbered = AreKept t (Some 0) (0 ∷ []) [] [] []
 AreRows t (rows.Versioned key since until) =
-    AreKept t None key.now (key.now ∷ []) ((record { digits = 0 }) ∷ []) (ordered since until)
+    AreKept t None key.now (key.now ∷ []) ((record { digits = 0 }) ∷ []) (lifespan_check since until)

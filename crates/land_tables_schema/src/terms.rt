@@ -1,6 +1,6 @@
 //! Checks that the CHECK of a table is `since < until`.
 ghost use Rattle.std.specs.Prelude.{◌≡◌, ◌≢◌, ◌↔◌, ℕ, [], IfSome, IsTrue, None, Some, slice_get};
-ghost use Rattle.land_tables_schema.specs.Columns.{ordered};
+ghost use Rattle.land_tables_schema.specs.Columns.{lifespan_check};
 ghost use Rattle.sqlite_schema.specs.Code.{terms_in};
 ghost use Rattle.sqlite_schema.specs.declared.code.Op.TheVariants.{Binary as ABinary, Column as AColumn};
 ghost use Rattle.sqlite_sql.specs.declared.ops.BinaryOp.TheVariants.{Compare};
@@ -46,7 +46,7 @@ fn is_place(nodes: &[Op], at: usize, place: usize) -> bool
 /// Returns whether nodes with these roots are the comparison `since < until` of two columns of a row, and
 /// nothing else.
 fn is_interval(nodes: &[Op], roots: &[usize], since: usize, until: usize) -> bool
-    ensures { IsTrue result ↔ (terms_in nodes.now roots.now ≡ ordered since until) }
+    ensures { IsTrue result ↔ (terms_in nodes.now roots.now ≡ lifespan_check since until) }
 {
     if roots.len() != 1 || nodes.len() < 2 {
         return false;
@@ -59,7 +59,7 @@ fn is_interval(nodes: &[Op], roots: &[usize], since: usize, until: usize) -> boo
 
 /// Returns whether terms are the comparison `since < until` of two columns of a row, and nothing else.
 pub fn is_ordered(terms: &Terms, since: usize, until: usize) -> bool
-    ensures { IsTrue result ↔ (terms.now ≡ ordered since until) }
+    ensures { IsTrue result ↔ (terms.now ≡ lifespan_check since until) }
 {
     is_interval(terms.nodes.as_slice(), terms.roots.as_slice(), since, until)
 }

@@ -13,7 +13,7 @@ use Rattle.land_core.specs.declared.roles.Grant.{Grant}
 use Rattle.land_tables_history.proofs.Proper.{all_proper}
 use Rattle.land_tables_history.specs.History.{register_at}
 use Rattle.land_tables_history.specs.Intervals.{has_intervals}
-use Rattle.land_tables_history.specs.Standing.{stands}
+use Rattle.land_tables_history.specs.Standing.{is_current}
 use Rattle.land_tables_history.specs.declared.history.History.{History}
 use Rattle.land_tables_history.specs.declared.moment.Moment.{Moment}
 use Rattle.land_tables_history.specs.declared.version.Version.{Version}
@@ -48,16 +48,16 @@ module _ (roles : List (Version Grant)) where
   at_each_stamp [] h = tt
   at_each_stamp (m ∷ ms) h = (
     h 0 m.stamp
-        (or_left (stands m.stamp (instant m) && (0 == 0)) (stood_by (λ m. 0) (map_list instant ms) 0 m.stamp)
-        (and_from (stands m.stamp (instant m)) (0 == 0) (stands_then m.stamp) refl)),
-    at_each_stamp ms (λ a t s. h a t (or_right (stands t (instant m) && (0 == a)) (stood_by (λ m. 0) (map_list instant ms) a t) s)),
+        (or_left (is_current m.stamp (instant m) && (0 == 0)) (stood_by (λ m. 0) (map_list instant ms) 0 m.stamp)
+        (and_from (is_current m.stamp (instant m)) (0 == 0) (stands_then m.stamp) refl)),
+    at_each_stamp ms (λ a t s. h a t (or_right (is_current t (instant m) && (0 == a)) (stood_by (λ m. 0) (map_list instant ms) a t) s)),
   )
 
   whenever_asked : (ms : List Moment) → AllByRecursion (λ m. is_administered m.stamp ≡ true) ms
       → (a : ℕ) (t : ℤ) → stood_by (λ m. 0) (map_list instant ms) a t ≡ true → stood_by (λ r. 0) (administrators roles) a t ≡ true
   whenever_asked [] all a t s = absurd (false≢true s)
-  whenever_asked (m ∷ ms) all a t s = elim (or_cases (stands t (instant m) && (0 == a)) (stood_by (λ m. 0) (map_list instant ms) a t) s) [
-    | inl here ↦ let it = and_parts (stands t (instant m)) (0 == a) here in
+  whenever_asked (m ∷ ms) all a t s = elim (or_cases (is_current t (instant m) && (0 == a)) (stood_by (λ m. 0) (map_list instant ms) a t) s) [
+    | inl here ↦ let it = and_parts (is_current t (instant m)) (0 == a) here in
         subst (λ (n : ℕ). stood_by (λ r. 0) (administrators roles) n t ≡ true) (eqb-true 0 a it.1)
         (subst (λ (u : ℤ). is_administered u ≡ true) (stands_only_then m.stamp t it.0) all.0)
     | inr later ↦ whenever_asked ms all.1 a t later

@@ -11,7 +11,7 @@ use Rattle.land_core.specs.declared.unit.UnitRecord.{UnitRecord}
 use Rattle.land_tables_history.proofs.Proper.{AllProper, all_proper}
 use Rattle.land_tables_history.specs.History.{register_at}
 use Rattle.land_tables_history.specs.Intervals.{has_intervals, is_interval}
-use Rattle.land_tables_history.specs.Standing.{stands}
+use Rattle.land_tables_history.specs.Standing.{is_current}
 use Rattle.land_tables_history.specs.declared.history.History.{History}
 use Rattle.land_tables_history.specs.declared.moment.Moment.{Moment}
 use Rattle.land_tables_history.specs.declared.version.Version.{Version}
@@ -48,17 +48,17 @@ and_false false b = refl
 
 module _ (unit : ℕ) (t : ℤ) where
   abbrev is_owner : Version (ℕ × RrrRecord) → Bool
-  is_owner v = stands t v && is_right_in unit Ownership v.what.1
+  is_owner v = is_current t v && is_right_in unit Ownership v.what.1
 
   owned_by : (vs : List (Version (ℕ × RrrRecord))) → list_any is_owner vs ≡ stood_by entry_unit (ownerships vs) unit t
   owned_by [] = refl
   owned_by (v ∷ vs) = go (owns v) (owned_by vs)
     where
       go : (b : Bool) → list_any is_owner vs ≡ stood_by entry_unit (ownerships vs) unit t
-          → ((stands t v && (nat_eq v.what.1.unit unit && b)) || list_any is_owner vs)
+          → ((is_current t v && (nat_eq v.what.1.unit unit && b)) || list_any is_owner vs)
           ≡ stood_by entry_unit (cond b (v ∷ ownerships vs) (ownerships vs)) unit t
-      go true rest = ap₂ (λ b c. b || c) (sym (and_true (stands t v) (nat_eq v.what.1.unit unit))) rest
-      go false rest = ap₂ (λ b c. b || c) (sym (and_false (stands t v) (nat_eq v.what.1.unit unit))) rest
+      go true rest = ap₂ (λ b c. b || c) (sym (and_true (is_current t v) (nat_eq v.what.1.unit unit))) rest
+      go false rest = ap₂ (λ b c. b || c) (sym (and_false (is_current t v) (nat_eq v.what.1.unit unit))) rest
 
 -- ---- units
 

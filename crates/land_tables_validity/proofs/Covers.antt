@@ -17,7 +17,7 @@ use Rattle.land_tables_history.proofs.Distinct.{distinct_standing}
 use Rattle.land_tables_history.proofs.Entered.{made_part}
 use Rattle.land_tables_history.proofs.NamingTests.{any_standing}
 use Rattle.land_tables_history.specs.Intervals.{AreApart, is_interval, is_same_number}
-use Rattle.land_tables_history.specs.Standing.{part_at, standing, stands}
+use Rattle.land_tables_history.specs.Standing.{part_at, current_values, is_current}
 use Rattle.land_tables_history.specs.declared.moment.Moment.{Moment}
 use Rattle.land_tables_history.specs.declared.version.Version.{Version}
 use Rattle.land_tables_validity.specs.CoverageSpans.{are_in_range, required_span, provided_span, coverage_spans}
@@ -27,7 +27,7 @@ use Rattle.land_tables_history.specs.Sweeps.Cover.{IsCovered, is_required, is_pr
 -- ---- current values under a key
 
 abbrev pub stood_by : {X : Type 0} → (key : X → ℕ) → List (Version X) → ℕ → ℤ → Bool
-stood_by key vs a t = list_any (λ v. stands t v && (key v.what == a)) vs
+stood_by key vs a t = list_any (λ v. is_current t v && (key v.what == a)) vs
 
 and_nothing : (q : Bool) → false ≡ (q && false)
 and_nothing true = refl
@@ -44,13 +44,13 @@ module _ {X : Type 0} (key : X → ℕ) (a b : ℕ) (t : ℤ) where
   offered_by [] = and_nothing (0 == b)
   offered_by (v ∷ vs) =
       ap₂ (λ c d. c || d) (shuffled (key v.what == a) (0 == b) (int_le v.since t) (int_lt t v.until)) (offered_by vs)
-      ∙ gathered (0 == b) (stands t v && (key v.what == a)) (stood_by key vs a t)
+      ∙ gathered (0 == b) (is_current t v && (key v.what == a)) (stood_by key vs a t)
 
   asked_by : (vs : List (Version X)) → is_required (map_list (required_span key) vs) a b t ≡ ((0 == b) && stood_by key vs a t)
   asked_by [] = and_nothing (0 == b)
   asked_by (v ∷ vs) =
       ap₂ (λ c d. c || d) (shuffled (key v.what == a) (0 == b) (int_le v.since t) (int_lt t v.until)) (asked_by vs)
-      ∙ gathered (0 == b) (stands t v && (key v.what == a)) (stood_by key vs a t)
+      ∙ gathered (0 == b) (is_current t v && (key v.what == a)) (stood_by key vs a t)
 
   none_offered : (vs : List (Version X)) → is_provided (map_list (required_span key) vs) a b t ≡ false
   none_offered [] = refl
@@ -94,9 +94,9 @@ has_by {V} m n = go (map.get m n) refl
         none_is_not_some (sym is ∙ subst (λ (k : ℕ). map.get m k ≡ Some it.value) (eqb-true it.key n it.passes) it.there)))
 
 pub some_by : {V : Type 0} (p : ℕ × V → Bool) (t : ℤ) (vs : List (Version (ℕ × V))) → AreApart is_same_number vs
-    → list_any p (map.entries (part_at t vs)) ≡ list_any (λ v. stands t v && p v.what) vs
+    → list_any p (map.entries (part_at t vs)) ≡ list_any (λ v. is_current t v && p v.what) vs
 some_by p t vs apart =
-    sym (list_any-IsPermutation p (standing t vs) (map.entries (part_at t vs)) (made_part (standing t vs) (distinct_standing is_same_number t vs apart)))
+    sym (list_any-IsPermutation p (current_values t vs) (map.entries (part_at t vs)) (made_part (current_values t vs) (distinct_standing is_same_number t vs apart)))
     ∙ sym (any_standing t p vs)
 
 pub has_at : {V : Type 0} (t : ℤ) (vs : List (Version (ℕ × V))) → AreApart is_same_number vs → (n : ℕ) → has (part_at t vs) n ≡ stood_by (λ e. e.0) vs n t
@@ -108,14 +108,14 @@ any_alike p q same (x ∷ xs) = ap₂ (λ b c. b || c) (same x) (any_alike p q s
 
 -- ---- between stamps
 
-stood_same : {X : Type 0} (moments : List Moment) (key : X → ℕ) (a : ℕ) (t s : ℤ) → ((v : Version X) → is_interval moments v ≡ true → stands t v ≡ stands s v)
+stood_same : {X : Type 0} (moments : List Moment) (key : X → ℕ) (a : ℕ) (t s : ℤ) → ((v : Version X) → is_interval moments v ≡ true → is_current t v ≡ is_current s v)
     → (vs : List (Version X)) → list_all (is_interval moments) vs ≡ true → stood_by key vs a t ≡ stood_by key vs a s
 stood_same moments key a t s same [] h = refl
 stood_same moments key a t s same (v ∷ vs) h =
     let parts = and_parts (is_interval moments v) (list_all (is_interval moments) vs) h in
     ap₂ (λ b c. b && (key v.what == a) || c) (same v parts.0) (stood_same moments key a t s same vs parts.1)
 
-stood_never : {X : Type 0} (moments : List Moment) (key : X → ℕ) (a : ℕ) (t : ℤ) → ((v : Version X) → is_interval moments v ≡ true → stands t v ≡ false)
+stood_never : {X : Type 0} (moments : List Moment) (key : X → ℕ) (a : ℕ) (t : ℤ) → ((v : Version X) → is_interval moments v ≡ true → is_current t v ≡ false)
     → (vs : List (Version X)) → list_all (is_interval moments) vs ≡ true → stood_by key vs a t ≡ false
 stood_never moments key a t none [] h = refl
 stood_never moments key a t none (v ∷ vs) h =

@@ -23,7 +23,7 @@ use Rattle.land_tables_history.proofs.Proper.{AllProper, all_proper}
 use Rattle.land_tables_history.specs.Groups.{HaveMembers, group_members, groups_at, with_member, joined_members, members_of, with_members}
 use Rattle.land_tables_history.specs.History.{register_at}
 use Rattle.land_tables_history.specs.Intervals.{AreApart, has_intervals, is_interval, is_same_member}
-use Rattle.land_tables_history.specs.Standing.{standing, stands}
+use Rattle.land_tables_history.specs.Standing.{current_values, is_current}
 use Rattle.land_tables_history.specs.declared.group_member.GroupMember.{GroupMember}
 use Rattle.land_tables_history.specs.declared.history.History.{History}
 use Rattle.land_tables_history.specs.declared.moment.Moment.{Moment}
@@ -63,7 +63,7 @@ have_all m [] have = have
 have_all m (e ∷ es) have = have_all (with_member m e) es (have_more m e have)
 
 have_members : (t : ℤ) (vs : List (Version GroupMember)) → HaveMembers (groups_at t vs)
-have_members t vs = have_all map.empty (standing t vs) (λ q is. none_is_not_some (sym (map.get-empty nat_cmp q) ∙ is))
+have_members t vs = have_all map.empty (current_values t vs) (λ q is. none_is_not_some (sym (map.get-empty nat_cmp q) ∙ is))
 
 somebody : (groups : FinMap nat_cmp Members) → HaveMembers groups → (es : List (ℕ × Members))
     → AllByRecursion (λ e. map.get groups e.0 ≡ Some e.1) es
@@ -111,13 +111,13 @@ module _ (G S : ℕ → Bool) where
 
   loose_groups : (t : ℤ) (vs : List (Version GroupMember)) → AreApart is_same_member vs
       → list_any (λ g. not (G g.0) || list_any (λ s. not (S s.0)) (map.entries g.1)) (map.entries (groups_at t vs))
-      ≡ list_any (λ v. stands t v && not (is_well_listed v.what)) vs
+      ≡ list_any (λ v. is_current t v && not (is_well_listed v.what)) vs
   loose_groups t vs apart =
       let groups = groups_at t vs in
       let some = somebody groups (have_members t vs) (map.entries groups) (each_there nat_cmp_total nat_cmp-IsAntisymmetric groups) in
-      let made = made_groups (standing t vs) (distinct_standing is_same_member t vs apart) in
+      let made = made_groups (current_values t vs) (distinct_standing is_same_member t vs apart) in
       each_group (map.entries groups) some
-      ∙ sym (list_any-IsPermutation (λ m. not (is_well_listed m)) (standing t vs) (group_members groups) made)
+      ∙ sym (list_any-IsPermutation (λ m. not (is_well_listed m)) (current_values t vs) (group_members groups) made)
       ∙ sym (any_standing t (λ m. not (is_well_listed m)) vs)
 
 -- ---- a member refers to its group and to a party
@@ -140,9 +140,9 @@ module _ (moments : List Moment) (h : History) (p : AllProper moments h) where
   loose_at m =
       let r = register_at m.stamp h m.next in
       loose_groups (has_group r) (has_single_party r) m.stamp h.members p.members.apart
-      ∙ any_alike (λ v. stands m.stamp v && not (has_group r v.what.group && has_single_party r v.what.member.party))
-      (λ v. stands m.stamp v && not (also is_group_there is_party_there m.stamp v.what))
-      (λ v. ap₂ (λ b c. stands m.stamp v && not (b && c)) (group_at m v.what.group) (single_at moments h p m v.what.member.party)) h.members
+      ∙ any_alike (λ v. is_current m.stamp v && not (has_group r v.what.group && has_single_party r v.what.member.party))
+      (λ v. is_current m.stamp v && not (also is_group_there is_party_there m.stamp v.what))
+      (λ v. ap₂ (λ b c. is_current m.stamp v && not (b && c)) (group_at m v.what.group) (single_at moments h p m v.what.member.party)) h.members
 
   refer : are_in_range moments ≡ true
       → (IsCovered (group_spans h.parties h.members) × IsCovered (member_spans h.parties h.members)) ↔ Never has_dangling_members moments h

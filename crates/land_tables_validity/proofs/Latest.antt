@@ -8,7 +8,7 @@ use Rattle.std.specs.List.{AllByRecursion}
 use Rattle.std.specs.Ordering.{int_eq}
 use Rattle.land_tables_history.proofs.MomentOrder.{le_itself, le_through}
 use Rattle.land_tables_history.specs.Intervals.{is_interval, is_stamp}
-use Rattle.land_tables_history.specs.Standing.{stands}
+use Rattle.land_tables_history.specs.Standing.{is_current}
 use Rattle.land_tables_history.specs.declared.moment.Moment.{Moment}
 use Rattle.land_tables_history.specs.declared.version.Version.{Version}
 use Rattle.land_tables_validity.specs.CoverageSpans.{are_in_range}
@@ -101,10 +101,10 @@ module _ (t : ℤ) where
 pub record Matched (moments : List Moment) (t : ℤ) : Type 1 where
   pub moment : Moment
   pub among : (P : Moment → Type 0) → AllByRecursion P moments → P moment
-  pub same : {X : Type 0} (v : Version X) → is_interval moments v ≡ true → stands t v ≡ stands moment.stamp v
+  pub same : {X : Type 0} (v : Version X) → is_interval moments v ≡ true → is_current t v ≡ is_current moment.stamp v
 
 pub record Empty (moments : List Moment) (t : ℤ) : Type 1 where
-  pub none : {X : Type 0} (v : Version X) → is_interval moments v ≡ true → stands t v ≡ false
+  pub none : {X : Type 0} (v : Version X) → is_interval moments v ≡ true → is_current t v ≡ false
 
 -- an interval starts at a stamp, and ends at one or never
 pub record Ends (moments : List Moment) (since until : ℤ) : Type 0 where
@@ -126,7 +126,7 @@ matched moments t in_time = go (int_lt t (pos 4102444800000)) refl
     within : (u : ℤ) → is_stamp moments u ≡ true → int_lt u (pos 4102444800000) ≡ true
     within u is = at_stamp t (λ s. int_lt s (pos 4102444800000) ≡ true) u (early_too t u) moments is (early t moments in_time)
 
-    ended : {X : Type 0} → int_lt t (pos 4102444800000) ≡ false → (v : Version X) → is_interval moments v ≡ true → stands t v ≡ false
+    ended : {X : Type 0} → int_lt t (pos 4102444800000) ≡ false → (v : Version X) → is_interval moments v ≡ true → is_current t v ≡ false
     ended late v h = let it = ends_of moments v h in
         elim it.ends [ inl e ↦ gone_at_the_end t v.since v.until late (inl e) | inr e ↦ gone_at_the_end t v.since v.until late (inr (within v.until e)) ]
 

@@ -8,7 +8,7 @@ use Rattle.land_core.specs.declared.register.Register.{Register}
 use Rattle.land_core.specs.declared.soundness.Unsound.TheVariants.{Reference, Shares, Group, Bare, Crowded, Twice, Rank, Administrator, Reused, Memory}
 use Rattle.land_tables_history.specs.History.{namings_of, register_at}
 use Rattle.land_tables_history.specs.ValidHistory.{IsValidHistory, IsValidAt, are_moments, are_same_namings}
-use Rattle.land_tables_history.specs.Standing.{standing}
+use Rattle.land_tables_history.specs.Standing.{current_values}
 use Rattle.land_tables_history.specs.declared.history.History.{History}
 use Rattle.land_tables_history.specs.declared.moment.Moment.{Moment}
 use Rattle.land_tables_validity.specs.Conditions.{AreNumbersInRange, HaveNoDuplicates, HaveValidSums, RefsExist, has_no_administrator}
@@ -127,7 +127,7 @@ module _ (h : History) where
     references : Free has_reused_reference ms
 
   abbrev Named : Moment → Type 0
-  Named m = are_same_namings (standing m.stamp h.namings) (namings_of (register_at m.stamp h m.next).mutations) ≡ true
+  Named m = are_same_namings (current_values m.stamp h.namings) (namings_of (register_at m.stamp h m.next).mutations) ≡ true
 
   first_free : (m : Moment) (ms : List Moment) → AllFree (m ∷ ms) → IsFree (register_at m.stamp h m.next)
   first_free m ms f = record {

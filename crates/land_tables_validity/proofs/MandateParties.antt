@@ -12,7 +12,7 @@ use Rattle.land_tables_history.proofs.NamingTests.{any_standing}
 use Rattle.land_tables_history.proofs.Proper.{AllProper, all_proper}
 use Rattle.land_tables_history.specs.History.{register_at}
 use Rattle.land_tables_history.specs.Intervals.{AreApart, has_intervals, is_same_mandate}
-use Rattle.land_tables_history.specs.Standing.{mandates_at, standing, stands}
+use Rattle.land_tables_history.specs.Standing.{mandates_at, current_values, is_current}
 use Rattle.land_tables_history.specs.Sweeps.Cover.{IsCovered}
 use Rattle.land_tables_history.specs.declared.history.History.{History}
 use Rattle.land_tables_history.specs.declared.moment.Moment.{Moment}
@@ -28,10 +28,10 @@ use Rattle.land_tables_validity.specs.Roles.{single_parties}
 
 -- some current mandate passes a test
 some_mandate : (p : Mandate → Bool) (t : ℤ) (vs : List (Version Mandate)) → AreApart is_same_mandate vs
-    → list_any p (mandates_in (mandates_at t vs)) ≡ list_any (λ v. stands t v && p v.what) vs
+    → list_any p (mandates_in (mandates_at t vs)) ≡ list_any (λ v. is_current t v && p v.what) vs
 some_mandate p t vs apart =
-    let entered = made_mandates (standing t vs) (distinct_standing is_same_mandate t vs apart) in
-    sym (list_any-IsPermutation p (standing t vs) (mandates_in (mandates_at t vs)) entered) ∙ sym (any_standing t p vs)
+    let entered = made_mandates (current_values t vs) (distinct_standing is_same_mandate t vs apart) in
+    sym (list_any-IsPermutation p (current_values t vs) (mandates_in (mandates_at t vs)) entered) ∙ sym (any_standing t p vs)
 
 abbrev principal_of : Mandate → ℕ
 principal_of m = m.principal
@@ -62,9 +62,9 @@ module _ (moments : List Moment) (h : History) (p : AllProper moments h) (in_tim
   loose_at : (at : Moment) → has_dangling_mandate (register_at at.stamp h at.next) ≡ fails (also (also of_principal of_agent) of_others) h.mandates at.stamp
   loose_at at =
       some_mandate (λ m. is_dangling_mandate (register_at at.stamp h at.next) m) at.stamp h.mandates p.mandates.apart
-      ∙ any_alike (λ v. stands at.stamp v && is_dangling_mandate (register_at at.stamp h at.next) v.what)
-      (λ v. stands at.stamp v && not (also (also of_principal of_agent) of_others at.stamp v.what))
-      (λ v. ap₂ (λ a b. stands at.stamp v && not (a && b && is_of_others v.what)) (single_at moments h p at v.what.principal) (single_at moments h p at v.what.agent))
+      ∙ any_alike (λ v. is_current at.stamp v && is_dangling_mandate (register_at at.stamp h at.next) v.what)
+      (λ v. is_current at.stamp v && not (also (also of_principal of_agent) of_others at.stamp v.what))
+      (λ v. ap₂ (λ a b. is_current at.stamp v && not (a && b && is_of_others v.what)) (single_at moments h p at v.what.principal) (single_at moments h p at v.what.agent))
       h.mandates
 
   refer : ((IsCovered (principal_pieces h) × IsCovered (agent_pieces h)) × (list_all (λ v. is_of_others v.what) h.mandates ≡ true)) ↔ Never has_dangling_mandate moments h

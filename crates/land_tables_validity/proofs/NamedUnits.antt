@@ -13,7 +13,7 @@ use Rattle.land_tables_history.proofs.Proper.{AllProper, all_proper}
 use Rattle.land_tables_history.specs.History.{named_units, namings_of, register_at}
 use Rattle.land_tables_history.specs.Intervals.{AreApart, has_intervals, is_same_naming, is_same_number}
 use Rattle.land_tables_history.specs.ValidHistory.{are_same_namings, is_among}
-use Rattle.land_tables_history.specs.Standing.{part_at, standing, stands}
+use Rattle.land_tables_history.specs.Standing.{part_at, current_values, is_current}
 use Rattle.land_tables_history.specs.declared.history.History.{History}
 use Rattle.land_tables_history.specs.declared.moment.Moment.{Moment}
 use Rattle.land_tables_history.specs.declared.naming.Naming.{Naming}
@@ -70,11 +70,11 @@ or_nothing true = refl
 or_nothing false = refl
 
 namings_under : (t : ℤ) (vs : List (Version Naming)) (key : ℕ × ℕ)
-    → is_among (standing t vs) (naming_of key) ≡ stood (has_key naming_pair key) vs t
+    → is_among (current_values t vs) (naming_of key) ≡ stood (has_key naming_pair key) vs t
 namings_under t vs key =
     sym (any_standing t (is_same_naming (naming_of key)) vs)
-    ∙ any_alike (λ v. stands t v && is_same_naming (naming_of key) v.what) (λ v. stands t v && has_key naming_pair key v.what)
-    (λ v. ap (λ b. stands t v && b)
+    ∙ any_alike (λ v. is_current t v && is_same_naming (naming_of key) v.what) (λ v. is_current t v && has_key naming_pair key v.what)
+    (λ v. ap (λ b. is_current t v && b)
     (as_key key.0 v.what.mutation key.1 v.what.unit ∙ or_nothing ((v.what.mutation == key.0) && (v.what.unit == key.1)))) vs
 
 units_under : (key : ℕ × ℕ) (mutation : ℕ) (units : List ℕ)
@@ -88,9 +88,9 @@ mutations_under : (t : ℤ) (vs : List (Version (ℕ × MutationRecord))) → Ar
 mutations_under t vs apart key =
     any_flat (is_same_naming (naming_of key)) named_by (map.entries (part_at t vs))
     ∙ some_by (λ e. list_any (is_same_naming (naming_of key)) (named_by e)) t vs apart
-    ∙ any_alike (λ v. stands t v && list_any (is_same_naming (naming_of key)) (named_by v.what))
-    (λ v. stands t v && has_key named_pairs key v.what)
-    (λ v. ap (λ b. stands t v && b) (units_under key v.what.0 (named_units v.what.1.content))) vs
+    ∙ any_alike (λ v. is_current t v && list_any (is_same_naming (naming_of key)) (named_by v.what))
+    (λ v. is_current t v && has_key named_pairs key v.what)
+    (λ v. ap (λ b. is_current t v && b) (units_under key v.what.0 (named_units v.what.1.content))) vs
 
 -- ---- namings and mutations
 
@@ -103,11 +103,11 @@ module _ (moments : List Moment) (h : History) (p : AllProper moments h) (in_tim
   AreListed m = AreAmong naming_pair h.namings named_pairs h.mutations m.stamp
 
   abbrev is_same_at : Moment → Bool
-  is_same_at m = are_same_namings (standing m.stamp h.namings) (namings_of (register_at m.stamp h m.next).mutations)
+  is_same_at m = are_same_namings (current_values m.stamp h.namings) (namings_of (register_at m.stamp h m.next).mutations)
 
   same_at : (m : Moment) → (AreTold m × AreListed m) ↔ (is_same_at m ≡ true)
   same_at m =
-      let there = standing m.stamp h.namings in
+      let there = current_values m.stamp h.namings in
       let named = namings_of (part_at m.stamp h.mutations) in
       let of_naming = namings_under m.stamp h.namings in
       let of_mutation = mutations_under m.stamp h.mutations p.mutations.apart in (

@@ -7,7 +7,7 @@ use Rattle.std.proofs.lemmas.Bool.{and_from, and_parts}
 use Rattle.land_core.proofs.Booleans.{conflict, or_nothing}
 use Rattle.land_core.proofs.Reflection.{list_any-map}
 use Rattle.land_tables_history.specs.Intervals.{is_interval}
-use Rattle.land_tables_history.specs.Standing.{stands}
+use Rattle.land_tables_history.specs.Standing.{is_current}
 use Rattle.land_tables_history.specs.declared.moment.Moment.{Moment}
 use Rattle.land_tables_history.specs.declared.version.Version.{Version}
 use Rattle.land_tables_validity.proofs.Covers.{nonempty}
@@ -18,7 +18,7 @@ use Rattle.land_tables_history.specs.Sweeps.Cover.{IsCovered, is_required, is_at
 
 -- a current value passes a test
 abbrev pub stood : {X : Type 0} → (passes : X → Bool) → List (Version X) → ℤ → Bool
-stood passes vs t = list_any (λ v. stands t v && passes v.what) vs
+stood passes vs t = list_any (λ v. is_current t v && passes v.what) vs
 
 abbrev pub is_pair : ℕ × ℕ → ℕ × ℕ → Bool
 is_pair key k = (k.0 == key.0) && (k.1 == key.1)
@@ -70,7 +70,7 @@ module _ {X : Type 0} (keys : X → List (ℕ × ℕ)) (required : Bool) (key : 
       ∙ ap₂ (λ b c. b || c)
       (list_any-map (λ x. not x.required && is_at key.0 key.1 t x) (λ k. pair_at required k.0 k.1 v.since v.until) (keys v.what)
       ∙ one_stands (not required) (int_le v.since t) (int_lt t v.until) key (keys v.what)) (offered_in vs)
-      ∙ shared (not required) (stands t v && has_key keys key v.what) (stood (has_key keys key) vs t)
+      ∙ shared (not required) (is_current t v && has_key keys key v.what) (stood (has_key keys key) vs t)
 
   asked_in : (vs : List (Version X)) → is_required (flat_map (key_spans required keys) vs) key.0 key.1 t ≡ (required && stood (has_key keys key) vs t)
   asked_in [] = and_nothing required
@@ -79,7 +79,7 @@ module _ {X : Type 0} (keys : X → List (ℕ × ℕ)) (required : Bool) (key : 
       ∙ ap₂ (λ b c. b || c)
       (list_any-map (λ x. x.required && is_at key.0 key.1 t x) (λ k. pair_at required k.0 k.1 v.since v.until) (keys v.what)
       ∙ one_stands required (int_le v.since t) (int_lt t v.until) key (keys v.what)) (asked_in vs)
-      ∙ shared required (stands t v && has_key keys key v.what) (stood (has_key keys key) vs t)
+      ∙ shared required (is_current t v && has_key keys key v.what) (stood (has_key keys key) vs t)
 
 module _ {X Y : Type 0} (provided : X → List (ℕ × ℕ)) (xs : List (Version X)) (required : Y → List (ℕ × ℕ)) (ys : List (Version Y)) where
   offers_are : (key : ℕ × ℕ) (t : ℤ) → is_provided (key_pairs provided xs required ys) key.0 key.1 t ≡ stood (has_key provided key) xs t
@@ -104,7 +104,7 @@ module _ {X Y : Type 0} (provided : X → List (ℕ × ℕ)) (xs : List (Version
 -- ---- between stamps
 
 stood_same : {X : Type 0} (moments : List Moment) (passes : X → Bool) (t s : ℤ)
-    → ((v : Version X) → is_interval moments v ≡ true → stands t v ≡ stands s v)
+    → ((v : Version X) → is_interval moments v ≡ true → is_current t v ≡ is_current s v)
     → (vs : List (Version X)) → list_all (is_interval moments) vs ≡ true → stood passes vs t ≡ stood passes vs s
 stood_same moments passes t s same [] h = refl
 stood_same moments passes t s same (v ∷ vs) h =
@@ -112,7 +112,7 @@ stood_same moments passes t s same (v ∷ vs) h =
     ap₂ (λ b c. b && passes v.what || c) (same v parts.0) (stood_same moments passes t s same vs parts.1)
 
 stood_never : {X : Type 0} (moments : List Moment) (passes : X → Bool) (t : ℤ)
-    → ((v : Version X) → is_interval moments v ≡ true → stands t v ≡ false)
+    → ((v : Version X) → is_interval moments v ≡ true → is_current t v ≡ false)
     → (vs : List (Version X)) → list_all (is_interval moments) vs ≡ true → stood passes vs t ≡ false
 stood_never moments passes t none [] h = refl
 stood_never moments passes t none (v ∷ vs) h =

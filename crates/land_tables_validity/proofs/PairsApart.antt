@@ -12,7 +12,7 @@ use Rattle.land_core.specs.Entries.{are_distinct}
 use Rattle.land_tables_history.proofs.Distinct.{distinct_standing}
 use Rattle.land_tables_history.proofs.Entered.{made_part}
 use Rattle.land_tables_history.specs.Intervals.{is_interval, is_same_number, overlap}
-use Rattle.land_tables_history.specs.Standing.{part_at, standing}
+use Rattle.land_tables_history.specs.Standing.{part_at, current_values}
 use Rattle.land_tables_history.specs.declared.moment.Moment.{Moment}
 use Rattle.land_tables_history.specs.declared.version.Version.{Version}
 use Rattle.land_tables_validity.proofs.Covers.{any_alike}
@@ -79,17 +79,17 @@ module _ {V : Type 0} (clash : V → V → Bool) (flips : (a b : V) → clash a 
   -- ---- at each stamp
 
   module _ (vs : List (Version (ℕ × V))) (once : are_distinct (overlap is_same_number) vs ≡ true) where
-    at_stamp : (m : Moment) → any_pair (map.entries (part_at m.stamp vs)) ≡ not (are_distinct do_clash (standing m.stamp vs))
+    at_stamp : (m : Moment) → any_pair (map.entries (part_at m.stamp vs)) ≡ not (are_distinct do_clash (current_values m.stamp vs))
     at_stamp m =
         let one = distinct_standing is_same_number m.stamp vs once in
-        sym (pairs_permuted (standing m.stamp vs) (map.entries (part_at m.stamp vs)) (made_part (standing m.stamp vs) one))
-        ∙ pairs_are (standing m.stamp vs) one
+        sym (pairs_permuted (current_values m.stamp vs) (map.entries (part_at m.stamp vs)) (made_part (current_values m.stamp vs) one))
+        ∙ pairs_are (current_values m.stamp vs) one
 
     abbrev NoPair : Moment → Type 0
     NoPair m = any_pair (map.entries (part_at m.stamp vs)) ≡ false
 
     abbrev Distinct : Moment → Type 0
-    Distinct m = are_distinct do_clash (standing m.stamp vs) ≡ true
+    Distinct m = are_distinct do_clash (current_values m.stamp vs) ≡ true
 
     there : (ms : List Moment) → AllByRecursion Distinct ms → AllByRecursion NoPair ms
     there [] all = tt
@@ -97,7 +97,7 @@ module _ {V : Type 0} (clash : V → V → Bool) (flips : (a b : V) → clash a 
 
     back : (ms : List Moment) → AllByRecursion NoPair ms → AllByRecursion Distinct ms
     back [] all = tt
-    back (m ∷ ms) all = (not-false (are_distinct do_clash (standing m.stamp vs)) (sym (at_stamp m) ∙ all.0), back ms all.1)
+    back (m ∷ ms) all = (not-false (are_distinct do_clash (current_values m.stamp vs)) (sym (at_stamp m) ∙ all.0), back ms all.1)
 
     pub never_pair : (moments : List Moment) → list_all (is_interval moments) vs ≡ true
         → (are_distinct (overlap do_clash) vs ≡ true) ↔ All (λ m. any_pair (map.entries (part_at m.stamp vs)) ≡ false) moments

@@ -12,7 +12,7 @@ use Rattle.std.proofs.lemmas.Cmp.{nat_eq_equiv}
 use Rattle.land_core.proofs.FiniteMaps.{none_is_not_some}
 use Rattle.land_core.proofs.Reflection.{none_passes, some_at}
 use Rattle.land_tables_history.specs.Intervals.{AreApart, is_interval, is_same_number}
-use Rattle.land_tables_history.specs.Standing.{part_at, stands}
+use Rattle.land_tables_history.specs.Standing.{part_at, is_current}
 use Rattle.land_tables_history.specs.declared.moment.Moment.{Moment}
 use Rattle.land_tables_history.specs.declared.version.Version.{Version}
 use Rattle.land_tables_validity.proofs.Covers.{some_by, stood_by}
@@ -26,16 +26,16 @@ and_false : (a b c : Bool) → c ≡ ((a && (b && false)) || c)
 and_false a b c = grind arith
 
 pub stood_among : {X : Type 0} (key : X → ℕ) (p : X → Bool) (a : ℕ) (t : ℤ) (vs : List (Version X))
-    → stood_by key (filter (λ v. p v.what) vs) a t ≡ list_any (λ v. stands t v && ((key v.what == a) && p v.what)) vs
+    → stood_by key (filter (λ v. p v.what) vs) a t ≡ list_any (λ v. is_current t v && ((key v.what == a) && p v.what)) vs
 stood_among key p a t [] = refl
 stood_among {X} key p a t (v ∷ vs) = go (p v.what) (stood_among key p a t vs)
   where
-    go : (b : Bool) → stood_by key (filter (λ v. p v.what) vs) a t ≡ list_any (λ v. stands t v && ((key v.what == a) && p v.what)) vs
+    go : (b : Bool) → stood_by key (filter (λ v. p v.what) vs) a t ≡ list_any (λ v. is_current t v && ((key v.what == a) && p v.what)) vs
         → stood_by key (cond b (v ∷ filter (λ (v : Version X). p v.what) vs) (filter (λ (v : Version X). p v.what) vs)) a t
-        ≡ ((stands t v && ((key v.what == a) && b)) || list_any (λ (v : Version X). stands t v && ((key v.what == a) && p v.what)) vs)
-    go true rest = ap₂ (λ b c. b || c) (and_true (stands t v) (key v.what == a)) rest
+        ≡ ((is_current t v && ((key v.what == a) && b)) || list_any (λ (v : Version X). is_current t v && ((key v.what == a) && p v.what)) vs)
+    go true rest = ap₂ (λ b c. b || c) (and_true (is_current t v) (key v.what == a)) rest
     go false rest =
-        rest ∙ and_false (stands t v) (key v.what == a) (list_any (λ (v : Version X). stands t v && ((key v.what == a) && p v.what)) vs)
+        rest ∙ and_false (is_current t v) (key v.what == a) (list_any (λ (v : Version X). is_current t v && ((key v.what == a) && p v.what)) vs)
 
 pub intervals_among : {X : Type 0} (moments : List Moment) (p : Version X → Bool) (vs : List (Version X))
     → list_all (is_interval moments) vs ≡ true → list_all (is_interval moments) (filter p vs) ≡ true

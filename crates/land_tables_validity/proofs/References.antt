@@ -11,7 +11,7 @@ use Rattle.std.proofs.lemmas.Cmp.{nat_eq_equiv}
 use Rattle.land_core.specs.declared.register.Register.{Register}
 use Rattle.land_tables_history.specs.History.{register_at}
 use Rattle.land_tables_history.specs.Intervals.{AreApart, is_interval, is_same_number}
-use Rattle.land_tables_history.specs.Standing.{part_at, stands}
+use Rattle.land_tables_history.specs.Standing.{part_at, is_current}
 use Rattle.land_tables_history.specs.declared.history.History.{History}
 use Rattle.land_tables_history.specs.declared.moment.Moment.{Moment}
 use Rattle.land_tables_history.specs.declared.version.Version.{Version}
@@ -25,7 +25,7 @@ use Rattle.land_tables_history.specs.Sweeps.Cover.{IsCovered}
 
 -- at a moment some current value fails a test
 abbrev pub fails : {Y : Type 0} → (ℤ → Y → Bool) → List (Version Y) → ℤ → Bool
-fails test ys t = list_any (λ v. stands t v && not (test t v.what)) ys
+fails test ys t = list_any (λ v. is_current t v && not (test t v.what)) ys
 
 -- at no stamp does a current value fail a test
 abbrev pub NeverFails : {Y : Type 0} → (ℤ → Y → Bool) → List (Version Y) → List Moment → Type 0
@@ -40,8 +40,8 @@ pub failing_at : {V : Type 0} (t : ℤ) (vs : List (Version (ℕ × V))) → Are
     → list_any (λ e. not (p e)) (map.entries (part_at t vs)) ≡ fails test vs t
 failing_at t vs apart test p same =
     some_by (λ e. not (p e)) t vs apart
-    ∙ any_alike (λ v. stands t v && not (p v.what)) (λ v. stands t v && not (test t v.what))
-    (λ v. ap (λ b. stands t v && not b) (same v.what)) vs
+    ∙ any_alike (λ v. is_current t v && not (p v.what)) (λ v. is_current t v && not (test t v.what))
+    (λ v. ap (λ b. is_current t v && not b) (same v.what)) vs
 
 pub never_by : (fault : Register → Bool) (h : History) {Y : Type 0} (test : ℤ → Y → Bool) (ys : List (Version Y))
     → ((m : Moment) → fault (register_at m.stamp h m.next) ≡ fails test ys m.stamp)
@@ -72,8 +72,8 @@ module _ {Y : Type 0} (p q : ℤ → Y → Bool) where
   one_or_other : (t : ℤ) (vs : List (Version Y)) → fails also vs t ≡ (fails p vs t || fails q vs t)
   one_or_other t [] = refl
   one_or_other t (v ∷ vs) =
-      ap (λ b. stands t v && not (p t v.what && q t v.what) || b) (one_or_other t vs)
-      ∙ regrouped (stands t v) (p t v.what) (q t v.what) (fails p vs t) (fails q vs t)
+      ap (λ b. is_current t v && not (p t v.what && q t v.what) || b) (one_or_other t vs)
+      ∙ regrouped (is_current t v) (p t v.what) (q t v.what) (fails p vs t) (fails q vs t)
 
   pub both_pass : (ys : List (Version Y)) (ms : List Moment) → (NeverFails p ys ms × NeverFails q ys ms) ↔ NeverFails also ys ms
   both_pass ys [] = (λ h. tt, λ h. (tt, tt))
@@ -96,11 +96,11 @@ module _ {X Y : Type 0} (provided : X → ℕ) (xs : List (Version X)) (required
       → (a : ℕ) → stood_by required vs a t ≡ true → stood_by provided xs a t ≡ true
   asked_are_there t [] h a s = absurd (false≢true s)
   asked_are_there t (v ∷ vs) h a s =
-      let parts = or_parts (stands t v && not (is_there t v.what)) (fails is_there vs t) h in
-      elim (or_cases (stands t v && (required v.what == a)) (stood_by required vs a t) s) [
-        | inl here ↦ let it = and_parts (stands t v) (required v.what == a) here in
+      let parts = or_parts (is_current t v && not (is_there t v.what)) (fails is_there vs t) h in
+      elim (or_cases (is_current t v && (required v.what == a)) (stood_by required vs a t) s) [
+        | inl here ↦ let it = and_parts (is_current t v) (required v.what == a) here in
             subst (λ (n : ℕ). stood_by provided xs n t ≡ true) (eqb-true (required v.what) a it.1)
-            (passed (stands t v) (is_there t v.what) parts.0 it.0)
+            (passed (is_current t v) (is_there t v.what) parts.0 it.0)
         | inr later ↦ asked_are_there t vs parts.1 a later
       ]
 
@@ -108,14 +108,14 @@ module _ {X Y : Type 0} (provided : X → ℕ) (xs : List (Version X)) (required
       → fails is_there vs t ≡ false
   none_fails t [] h = refl
   none_fails t (v ∷ vs) h =
-      ap₂ (λ b c. b || c) (go (stands t v) refl)
-      (none_fails t vs (λ a s. h a (or_right (stands t v && (required v.what == a)) (stood_by required vs a t) s)))
+      ap₂ (λ b c. b || c) (go (is_current t v) refl)
+      (none_fails t vs (λ a s. h a (or_right (is_current t v && (required v.what == a)) (stood_by required vs a t) s)))
     where
-      go : (b : Bool) → stands t v ≡ b → (b && not (is_there t v.what)) ≡ false
+      go : (b : Bool) → is_current t v ≡ b → (b && not (is_there t v.what)) ≡ false
       go false e = refl
       go true e =
           let a = required v.what in
-          ap not (h a (or_left (stands t v && (required v.what == a)) (stood_by required vs a t) (and_from (stands t v) (required v.what == a) e (nat_eq_equiv.refl a))))
+          ap not (h a (or_left (is_current t v && (required v.what == a)) (stood_by required vs a t) (and_from (is_current t v) (required v.what == a) e (nat_eq_equiv.refl a))))
 
   -- required moments are provided if the records exist at the stamps
   pub covered_at_stamps : (moments : List Moment) → are_in_range moments ≡ true → (ys : List (Version Y))
@@ -152,7 +152,7 @@ module _ {Y : Type 0} (test : Y → Bool) where
   none_fails_alone t [] h = refl
   none_fails_alone t (v ∷ vs) h =
       let parts = and_parts (test v.what) (list_all (λ w. test w.what) vs) h in
-      ap₂ (λ b c. b || c) (fine (stands t v) (test v.what) parts.0) (none_fails_alone t vs parts.1)
+      ap₂ (λ b c. b || c) (fine (is_current t v) (test v.what) parts.0) (none_fails_alone t vs parts.1)
 
   -- each version is current at a stamp, namely at its start
   pub all_alone : (moments : List Moment) (ys : List (Version Y)) → list_all (is_interval moments) ys ≡ true
@@ -165,7 +165,7 @@ module _ {Y : Type 0} (test : Y → Bool) where
 
       later : (v : Version Y) (vs : List (Version Y)) (ms : List Moment) → NeverFails alone (v ∷ vs) ms → NeverFails alone vs ms
       later v vs [] never = tt
-      later v vs (m ∷ ms) never = ((or_parts (stands m.stamp v && not (test v.what)) (fails alone vs m.stamp) never.0).1, later v vs ms never.1)
+      later v vs (m ∷ ms) never = ((or_parts (is_current m.stamp v && not (test v.what)) (fails alone vs m.stamp) never.0).1, later v vs ms never.1)
 
       back : (vs : List (Version Y)) → list_all (is_interval moments) vs ≡ true → NeverFails alone vs moments
           → list_all (λ v. test v.what) vs ≡ true
@@ -177,8 +177,8 @@ module _ {Y : Type 0} (test : Y → Bool) where
           (λ s e h. subst (λ (u : ℤ). fails alone (v ∷ vs) u ≡ false) ((Decides-int_eq s v.since).0 e) h)
           moments (ends_of moments v parts.0).begins never in
           and_from (test v.what) (list_all (λ w. test w.what) vs)
-          (passed (stands v.since v) (test v.what)
-          (or_parts (stands v.since v && not (test v.what)) (fails alone vs v.since) at_first).0 (at_its_beginning v.since v.until (nonempty moments v parts.0)))
+          (passed (is_current v.since v) (test v.what)
+          (or_parts (is_current v.since v && not (test v.what)) (fails alone vs v.since) at_first).0 (at_its_beginning v.since v.until (nonempty moments v parts.0)))
           (back vs parts.1 (later v vs moments never))
 
 -- ---- results

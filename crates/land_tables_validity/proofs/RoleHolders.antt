@@ -13,7 +13,7 @@ use Rattle.land_tables_history.proofs.NamingTests.{any_standing}
 use Rattle.land_tables_history.proofs.Proper.{AllProper, all_proper}
 use Rattle.land_tables_history.specs.History.{register_at}
 use Rattle.land_tables_history.specs.Intervals.{AreApart, has_intervals, is_interval, is_same_grant}
-use Rattle.land_tables_history.specs.Standing.{roles_at, standing, stands}
+use Rattle.land_tables_history.specs.Standing.{roles_at, current_values, is_current}
 use Rattle.land_tables_history.specs.declared.history.History.{History}
 use Rattle.land_tables_history.specs.declared.moment.Moment.{Moment}
 use Rattle.land_tables_history.specs.declared.version.Version.{Version}
@@ -28,10 +28,10 @@ use Rattle.land_tables_history.specs.declared.sweeps.cover.CoverageSpan.{Coverag
 
 -- some current role passes a test
 pub some_role : (p : Grant → Bool) (t : ℤ) (vs : List (Version Grant)) → AreApart is_same_grant vs
-    → list_any p (grants_in (roles_at t vs)) ≡ list_any (λ v. stands t v && p v.what) vs
+    → list_any p (grants_in (roles_at t vs)) ≡ list_any (λ v. is_current t v && p v.what) vs
 some_role p t vs apart =
-    let entered = made_roles (standing t vs) (distinct_standing is_same_grant t vs apart) in
-    sym (list_any-IsPermutation p (standing t vs) (grants_in (roles_at t vs)) entered) ∙ sym (any_standing t p vs)
+    let entered = made_roles (current_values t vs) (distinct_standing is_same_grant t vs apart) in
+    sym (list_any-IsPermutation p (current_values t vs) (grants_in (roles_at t vs)) entered) ∙ sym (any_standing t p vs)
 
 -- the party that holds a role
 abbrev holder_of : Grant → ℕ
@@ -56,9 +56,9 @@ module _ (moments : List Moment) (h : History) (p : AllProper moments h) where
   loose_at : (m : Moment) → has_dangling_grant (register_at m.stamp h m.next) ≡ fails is_single_there h.roles m.stamp
   loose_at m =
       some_role (λ grant. not (has_single_party (register_at m.stamp h m.next) grant.party)) m.stamp h.roles p.roles.apart
-      ∙ any_alike (λ v. stands m.stamp v && not (has_single_party (register_at m.stamp h m.next) v.what.party))
-      (λ v. stands m.stamp v && not (is_single_there m.stamp v.what))
-      (λ v. ap (λ b. stands m.stamp v && not b) (single_at m v.what.party)) h.roles
+      ∙ any_alike (λ v. is_current m.stamp v && not (has_single_party (register_at m.stamp h m.next) v.what.party))
+      (λ v. is_current m.stamp v && not (is_single_there m.stamp v.what))
+      (λ v. ap (λ b. is_current m.stamp v && not b) (single_at m v.what.party)) h.roles
 
   refer : are_in_range moments ≡ true → IsCovered (role_pieces h) ↔ Never has_dangling_grant moments h
   refer in_time =

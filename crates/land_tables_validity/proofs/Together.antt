@@ -15,7 +15,7 @@ use Rattle.land_tables_history.proofs.Distinct.{distinct_standing}
 use Rattle.land_tables_history.proofs.Entered.{made_part}
 use Rattle.land_tables_history.specs.History.{register_at}
 use Rattle.land_tables_history.specs.Intervals.{AreApart, is_interval, is_same_number}
-use Rattle.land_tables_history.specs.Standing.{part_at, standing as standing_at, stands}
+use Rattle.land_tables_history.specs.Standing.{part_at, current_values, is_current}
 use Rattle.land_tables_history.specs.declared.history.History.{History}
 use Rattle.land_tables_history.specs.declared.moment.Moment.{Moment}
 use Rattle.land_tables_history.specs.declared.version.Version.{Version}
@@ -23,7 +23,7 @@ use Rattle.land_tables_validity.specs.LiveSpan.{live_spans_of, live_span, span_v
 use Rattle.land_tables_validity.specs.Never.{Never}
 use Rattle.land_tables_validity.specs.CoverageSpans.{are_in_range}
 use Rattle.land_tables_validity.proofs.Latest.{Empty, Matched, matched}
-use Rattle.land_tables_history.specs.Sweeps.Sweep.{AreSound, is_at, standing}
+use Rattle.land_tables_history.specs.Sweeps.Sweep.{AreSound, is_at, values_under_key}
 use Rattle.land_tables_history.specs.declared.sweeps.sweep.LiveSpan.{LiveSpan}
 
 moved : (a b c : Bool) → (a && b && c) ≡ ((b && c) && a)
@@ -42,10 +42,10 @@ module _ {T : Type 0} where
   abbrev pub AreLives : List Moment → List (LiveSpan T) → Type 0
   AreLives moments xs = list_all (is_life moments) xs ≡ true
 
-  by_key : (key : ℕ) (t : ℤ) (x : LiveSpan T) → is_at key t x ≡ (stands t (version_of x) && (x.key == key))
+  by_key : (key : ℕ) (t : ℤ) (x : LiveSpan T) → is_at key t x ≡ (is_current t (version_of x) && (x.key == key))
   by_key key t x = moved (x.key == key) (int_le x.since t) (int_lt t x.until)
 
-  same_there : (moments : List Moment) (key : ℕ) (s t : ℤ) → ((v : Version T) → is_interval moments v ≡ true → stands t v ≡ stands s v)
+  same_there : (moments : List Moment) (key : ℕ) (s t : ℤ) → ((v : Version T) → is_interval moments v ≡ true → is_current t v ≡ is_current s v)
       → (xs : List (LiveSpan T)) → AreLives moments xs → filter (is_at key t) xs ≡ filter (is_at key s) xs
   same_there moments key s t same [] all = refl
   same_there moments key s t same (x ∷ xs) all =
@@ -54,7 +54,7 @@ module _ {T : Type 0} where
       (by_key key t x ∙ ap (λ b. b && (x.key == key)) (same (version_of x) parts.0) ∙ sym (by_key key s x))
       (same_there moments key s t same xs parts.1)
 
-  none_there : (moments : List Moment) (key : ℕ) (t : ℤ) → ((v : Version T) → is_interval moments v ≡ true → stands t v ≡ false)
+  none_there : (moments : List Moment) (key : ℕ) (t : ℤ) → ((v : Version T) → is_interval moments v ≡ true → is_current t v ≡ false)
       → (xs : List (LiveSpan T)) → AreLives moments xs → filter (is_at key t) xs ≡ []
   none_there moments key t none [] all = refl
   none_there moments key t none (x ∷ xs) all =
@@ -65,19 +65,19 @@ module _ {T : Type 0} where
 
   -- the values that are current together at a moment are so at one of the stamps, or there are none
   at_any_time : (moments : List Moment) → are_in_range moments ≡ true → (xs : List (LiveSpan T)) → AreLives moments xs
-      → (P : List T → Bool) → P [] ≡ true → (key : ℕ) → AllByRecursion (λ m. P (standing xs key m.stamp) ≡ true) moments
-      → (t : ℤ) → P (standing xs key t) ≡ true
+      → (P : List T → Bool) → P [] ≡ true → (key : ℕ) → AllByRecursion (λ m. P (values_under_key xs key m.stamp) ≡ true) moments
+      → (t : ℤ) → P (values_under_key xs key t) ≡ true
   at_any_time moments in_time xs all P empty key stamps t = go (matched moments t in_time)
     where
-      go : Matched moments t ⊎ Empty moments t → P (standing xs key t) ≡ true
+      go : Matched moments t ⊎ Empty moments t → P (values_under_key xs key t) ≡ true
       go (inl m) =
           ap (λ l. P (span_values l)) (same_there moments key m.moment.stamp t (λ v. m.same v) xs all)
-          ∙ m.among (λ m. P (standing xs key m.stamp) ≡ true) stamps
+          ∙ m.among (λ m. P (values_under_key xs key m.stamp) ≡ true) stamps
       go (inr e) = ap (λ l. P (span_values l)) (none_there moments key t (λ v. e.none v) xs all) ∙ empty
 
   -- two lists
-  pub standing-append : (xs ys : List (LiveSpan T)) (key : ℕ) (t : ℤ) → standing (xs ++ ys) key t ≡ standing xs key t ++ standing ys key t
-  standing-append xs ys key t =
+  pub values_under_key-append : (xs ys : List (LiveSpan T)) (key : ℕ) (t : ℤ) → values_under_key (xs ++ ys) key t ≡ values_under_key xs key t ++ values_under_key ys key t
+  values_under_key-append xs ys key t =
       ap span_values (filter-append (is_at key t) xs ys)
       ∙ map-append (λ (x : LiveSpan T). x.what) (filter (is_at key t) xs) (filter (is_at key t) ys)
 
@@ -105,17 +105,17 @@ module _ {X T : Type 0} (key : X → ℕ) (what : X → T) where
     with b x ts = cons_option (cond b (Some (what x)) None) ts
 
     -- the values that are current under a number at a moment are those of the versions that are current then
-    pub stood : (t : ℤ) (vs : List (Version X)) → standing (live_spans_of key what vs) n t ≡ under (standing_at t vs)
+    pub stood : (t : ℤ) (vs : List (Version X)) → values_under_key (live_spans_of key what vs) n t ≡ under (current_values t vs)
     stood t [] = refl
     stood t (v ∷ vs) =
-        go (is_at n t (live_span key what v)) (stands t v) (nat_eq (key v.what) n) refl
+        go (is_at n t (live_span key what v)) (is_current t v) (nat_eq (key v.what) n) refl
         (moved (key v.what == n) (int_le v.since t) (int_lt t v.until)) (stood t vs)
       where
-        go : (b c d : Bool) → nat_eq (key v.what) n ≡ d → b ≡ (c && d) → standing (live_spans_of key what vs) n t ≡ under (standing_at t vs)
+        go : (b c d : Bool) → nat_eq (key v.what) n ≡ d → b ≡ (c && d) → values_under_key (live_spans_of key what vs) n t ≡ under (current_values t vs)
             → span_values (cond b (live_span key what v ∷ filter (is_at n t) (live_spans_of key what vs)) (filter (is_at n t) (live_spans_of key what vs)))
-            ≡ under (map_list (λ (v : Version X). v.what) (cond c (v ∷ filter (stands t) vs) (filter (stands t) vs)))
-        go true true true is e h = ap (λ l. what v.what ∷ l) h ∙ ap (λ k. with k v.what (under (standing_at t vs))) (sym is)
-        go false true false is e h = h ∙ ap (λ k. with k v.what (under (standing_at t vs))) (sym is)
+            ≡ under (map_list (λ (v : Version X). v.what) (cond c (v ∷ filter (is_current t) vs) (filter (is_current t) vs)))
+        go true true true is e h = ap (λ l. what v.what ∷ l) h ∙ ap (λ k. with k v.what (under (current_values t vs))) (sym is)
+        go false true false is e h = h ∙ ap (λ k. with k v.what (under (current_values t vs))) (sym is)
         go false false d is e h = h
         go true true false is e h = absurd (false≢true (sym e))
         go false true true is e h = absurd (false≢true e)
@@ -159,10 +159,10 @@ module _ {X T : Type 0} (key : X → ℕ) (what : X → T) where
 
 -- a test of some record is one of some current version
 pub some_standing : {V : Type 0} (p : ℕ × V → Bool) (t : ℤ) (vs : List (Version (ℕ × V))) → AreApart is_same_number vs
-    → list_any p (map.entries (part_at t vs)) ≡ list_any p (standing_at t vs)
+    → list_any p (map.entries (part_at t vs)) ≡ list_any p (current_values t vs)
 some_standing p t vs apart =
-    let made = made_part (standing_at t vs) (distinct_standing is_same_number t vs apart) in
-    sym (list_any-IsPermutation p (standing_at t vs) (map.entries (part_at t vs)) made)
+    let made = made_part (current_values t vs) (distinct_standing is_same_number t vs apart) in
+    sym (list_any-IsPermutation p (current_values t vs) (map.entries (part_at t vs)) made)
 
 -- a marked record exists under a number
 abbrev pub is_marked : {V : Type 0} → (V → Bool) → ℕ → List (ℕ × V) → Bool
@@ -211,30 +211,30 @@ module _ {T V : Type 0} (moments : List Moment) (h : History) (fault : Register 
   -- The fault is that a marked record fails a test of its number. It is marked if one of the current values
   -- is, and passes if they do.
   pub record Ties : Type 0 where
-    pub faulty : (m : Moment) → fault (register_of m) ≡ list_any (is_at_fault c (W (register_of m))) (standing_at m.stamp vs)
-    pub marked : (n : ℕ) (t : ℤ) → list_any set_entries (standing live_spans n t) ≡ is_marked c n (standing_at t vs)
-    pub tested : (m : Moment) (n : ℕ) → test (standing live_spans n m.stamp) ≡ W (register_of m) n
+    pub faulty : (m : Moment) → fault (register_of m) ≡ list_any (is_at_fault c (W (register_of m))) (current_values m.stamp vs)
+    pub marked : (n : ℕ) (t : ℤ) → list_any set_entries (values_under_key live_spans n t) ≡ is_marked c n (current_values t vs)
+    pub tested : (m : Moment) (n : ℕ) → test (values_under_key live_spans n m.stamp) ≡ W (register_of m) n
 
   abbrev AreFaultless : List Moment → Type 0
   AreFaultless ms = AllByRecursion (λ m. fault (register_of m) ≡ false) ms
 
   module _ (tie : Ties) where
     there : (m : Moment) (n : ℕ)
-        → if_any_marked set_entries test (standing live_spans n m.stamp) ≡ (not (is_marked c n (standing_at m.stamp vs)) || W (register_of m) n)
+        → if_any_marked set_entries test (values_under_key live_spans n m.stamp) ≡ (not (is_marked c n (current_values m.stamp vs)) || W (register_of m) n)
     there m n = ap₂ (λ a b. not a || b) (tie.marked n m.stamp) (tie.tested m n)
 
     at_stamps : AreSound (if_any_marked set_entries test) live_spans → (ms : List Moment) → AreFaultless ms
     at_stamps sound [] = tt
     at_stamps sound (m ∷ ms) = (
-      tie.faulty m ∙ none_at_fault c (W (register_of m)) (standing_at m.stamp vs) (λ n. sym (there m n) ∙ sound n m.stamp),
+      tie.faulty m ∙ none_at_fault c (W (register_of m)) (current_values m.stamp vs) (λ n. sym (there m n) ∙ sound n m.stamp),
       at_stamps sound ms,
     )
 
     from_stamps : (n : ℕ) (ms : List Moment) → AreFaultless ms
-        → AllByRecursion (λ m. if_any_marked set_entries test (standing live_spans n m.stamp) ≡ true) ms
+        → AllByRecursion (λ m. if_any_marked set_entries test (values_under_key live_spans n m.stamp) ≡ true) ms
     from_stamps n [] all = tt
     from_stamps n (m ∷ ms) all = (
-      there m n ∙ each_passes c (W (register_of m)) (standing_at m.stamp vs) (sym (tie.faulty m) ∙ all.0) n,
+      there m n ∙ each_passes c (W (register_of m)) (current_values m.stamp vs) (sym (tie.faulty m) ∙ all.0) n,
       from_stamps n ms all.1,
     )
 
@@ -252,10 +252,10 @@ pub both_sound : {T : Type 0} (p q : List T → Bool) (live_spans : List (LiveSp
     → AreSound (λ xs. p xs && q xs) live_spans ↔ (A × B)
 both_sound p q live_spans one other = (
   λ sound. (
-    one.0 (λ n t. (and_parts (p (standing live_spans n t)) (q (standing live_spans n t)) (sound n t)).0),
-    other.0 (λ n t. (and_parts (p (standing live_spans n t)) (q (standing live_spans n t)) (sound n t)).1),
+    one.0 (λ n t. (and_parts (p (values_under_key live_spans n t)) (q (values_under_key live_spans n t)) (sound n t)).0),
+    other.0 (λ n t. (and_parts (p (values_under_key live_spans n t)) (q (values_under_key live_spans n t)) (sound n t)).1),
   ),
-  λ h n t. and_from (p (standing live_spans n t)) (q (standing live_spans n t)) (one.1 h.0 n t) (other.1 h.1 n t),
+  λ h n t. and_from (p (values_under_key live_spans n t)) (q (values_under_key live_spans n t)) (one.1 h.0 n t) (other.1 h.1 n t),
 )
 
 -- a result for a list that is built is one for its parts

@@ -19,7 +19,7 @@ use Rattle.land_tables_history.proofs.Proper.{Proper, all_proper}
 use Rattle.land_tables_history.specs.History.{register_at}
 use Rattle.land_tables_history.specs.Intervals.{has_intervals, is_interval, is_same_number, is_stamp}
 use Rattle.land_tables_history.specs.ValidHistory.{are_moments}
-use Rattle.land_tables_history.specs.Standing.{part_at, stands}
+use Rattle.land_tables_history.specs.Standing.{part_at, is_current}
 use Rattle.land_tables_history.specs.declared.history.History.{History}
 use Rattle.land_tables_history.specs.declared.moment.Moment.{Moment}
 use Rattle.land_tables_history.specs.declared.version.Version.{Version}
@@ -105,13 +105,13 @@ None_of fault ms = AllByRecursion (λ m. fault m ≡ false) ms
 module _ {X : Type 0} (test : X → ℕ → Bool) (kept : (x : X) (a b : ℕ) → nat_le a b ≡ true → test x a ≡ true → test x b ≡ true)
     (ms : List Moment) where
   abbrev fails : Moment → Version X → Bool
-  fails m v = stands m.stamp v && not (test v.what m.next)
+  fails m v = is_current m.stamp v && not (test v.what m.next)
 
   one_stays : (m : Moment) → AllByRecursion (Grows m) ms → (v : Version X) → is_interval ms v ≡ true → passes_since test ms v ≡ true
       → fails m v ≡ false
-  one_stays m grows v interval passes = go (stands m.stamp v) refl
+  one_stays m grows v interval passes = go (is_current m.stamp v) refl
     where
-      go : (b : Bool) → stands m.stamp v ≡ b → (b && not (test v.what m.next)) ≡ false
+      go : (b : Bool) → is_current m.stamp v ≡ b → (b && not (test v.what m.next)) ≡ false
       go false e = refl
       go true e =
           let it = found (Grows m) v.since ms (ends_of ms v interval).begins grows in
@@ -135,7 +135,7 @@ module _ {X : Type 0} (test : X → ℕ → Bool) (kept : (x : X) (a b : ℕ) �
   one_began v interval none =
       let it = found (λ m. fails m v ≡ false) v.since ms (ends_of ms v interval).begins none in
       subst (λ (n : ℕ). test v.what n ≡ true) (sym it.next)
-      (must (stands it.moment.stamp v) (test v.what it.moment.next)
+      (must (is_current it.moment.stamp v) (test v.what it.moment.next)
       (at_its_own it.moment.stamp v.since v.until (nonempty ms v interval) it.stamp) it.holds)
 
   first_of : (v : Version X) (vs : List (Version X)) (ns : List Moment) → None_of (λ m. list_any (fails m) (v ∷ vs)) ns
@@ -240,9 +240,9 @@ module _ (moments ms : List Moment) (p : IsPermutation moments ms) (up : all_go_
         let same = none_alike (λ m. has_rank_out_of_range (register_at m.stamp h m.next))
         (λ m. list_any (fails has_rank_in_range (λ e. rank_kept (rank_of e.1.class)) ms m) h.rrrs)
         (λ m. some_by (λ e. is_rank_out_of_range (register_at m.stamp h m.next) (rank_of e.1.class)) m.stamp h.rrrs proper.apart
-        ∙ any_alike (λ v. stands m.stamp v && is_rank_out_of_range (register_at m.stamp h m.next) (rank_of v.what.1.class))
-        (λ v. stands m.stamp v && not (has_rank_in_range v.what m.next))
-        (λ v. ap (λ b. stands m.stamp v && b) (loose m (rank_of v.what.1.class))) h.rrrs) ms in
+        ∙ any_alike (λ v. is_current m.stamp v && is_rank_out_of_range (register_at m.stamp h m.next) (rank_of v.what.1.class))
+        (λ v. is_current m.stamp v && not (has_rank_in_range v.what m.next))
+        (λ v. ap (λ b. is_current m.stamp v && b) (loose m (rank_of v.what.1.class))) h.rrrs) ms in
         (λ h. same.1 (law.0 h), λ h. law.1 (same.0 h))
 
     -- at none of the sorted commits, and so at no commit

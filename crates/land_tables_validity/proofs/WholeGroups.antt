@@ -27,7 +27,7 @@ use Rattle.land_tables_history.proofs.Proper.{AllProper, all_proper}
 use Rattle.land_tables_history.specs.Groups.{group_members, groups_at}
 use Rattle.land_tables_history.specs.History.{register_at}
 use Rattle.land_tables_history.specs.Intervals.{has_intervals, is_interval, is_same_member}
-use Rattle.land_tables_history.specs.Standing.{standing as standing_at, stands}
+use Rattle.land_tables_history.specs.Standing.{current_values, is_current}
 use Rattle.land_tables_history.specs.declared.group_member.GroupMember.{GroupMember}
 use Rattle.land_tables_history.specs.declared.history.History.{History}
 use Rattle.land_tables_history.specs.declared.moment.Moment.{Moment}
@@ -37,8 +37,8 @@ use Rattle.land_tables_validity.specs.Memberships.{are_members_sound, are_member
 use Rattle.land_tables_validity.specs.Never.{Never}
 use Rattle.land_tables_validity.specs.CoverageSpans.{are_in_range}
 use Rattle.land_tables_validity.specs.declared.groups.Membership.{Membership}
-use Rattle.land_tables_validity.proofs.Together.{AreLives, Ties, all_live, is_at_fault, is_marked, lives-append, never, none_marked, none_taken, some_standing, standing-append, stood}
-use Rattle.land_tables_history.specs.Sweeps.Sweep.{AreSound, standing}
+use Rattle.land_tables_validity.proofs.Together.{AreLives, Ties, all_live, is_at_fault, is_marked, lives-append, never, none_marked, none_taken, some_standing, values_under_key-append, stood}
+use Rattle.land_tables_history.specs.Sweeps.Sweep.{AreSound, values_under_key}
 
 -- ---- parties that are groups
 
@@ -57,24 +57,24 @@ never_marked false r s h = h
 
 -- a current group is a current party of that kind
 groups_stand : (n : ℕ) (t : ℤ) (vs : List (Version (ℕ × PartyRecord)))
-    → list_any (is_named n) (standing_at t (groups_among vs)) ≡ is_marked is_group_kind n (standing_at t vs)
+    → list_any (is_named n) (current_values t (groups_among vs)) ≡ is_marked is_group_kind n (current_values t vs)
 groups_stand n t [] = refl
-groups_stand n t (v ∷ vs) = go (is_group_kind v.what.1) (stands t v) refl refl (groups_stand n t vs)
+groups_stand n t (v ∷ vs) = go (is_group_kind v.what.1) (is_current t v) refl refl (groups_stand n t vs)
   where
-    with_it : (c : Bool) (ws : List (Version (ℕ × PartyRecord))) → stands t v ≡ c
-        → standing_at t (v ∷ ws) ≡ whats (cond c (v ∷ filter (stands t) ws) (filter (stands t) ws))
-    with_it c ws is = ap (λ k. whats (cond k (v ∷ filter (stands t) ws) (filter (stands t) ws))) is
+    with_it : (c : Bool) (ws : List (Version (ℕ × PartyRecord))) → is_current t v ≡ c
+        → current_values t (v ∷ ws) ≡ whats (cond c (v ∷ filter (is_current t) ws) (filter (is_current t) ws))
+    with_it c ws is = ap (λ k. whats (cond k (v ∷ filter (is_current t) ws) (filter (is_current t) ws))) is
 
-    go : (b c : Bool) → is_group_kind v.what.1 ≡ b → stands t v ≡ c
-        → list_any (is_named n) (standing_at t (groups_among vs)) ≡ is_marked is_group_kind n (standing_at t vs)
-        → list_any (is_named n) (standing_at t (cond b (v ∷ groups_among vs) (groups_among vs)))
-        ≡ is_marked is_group_kind n (whats (cond c (v ∷ filter (stands t) vs) (filter (stands t) vs)))
+    go : (b c : Bool) → is_group_kind v.what.1 ≡ b → is_current t v ≡ c
+        → list_any (is_named n) (current_values t (groups_among vs)) ≡ is_marked is_group_kind n (current_values t vs)
+        → list_any (is_named n) (current_values t (cond b (v ∷ groups_among vs) (groups_among vs)))
+        ≡ is_marked is_group_kind n (whats (cond c (v ∷ filter (is_current t) vs) (filter (is_current t) vs)))
     go true true is now h =
         ap (list_any (is_named n)) (with_it true (groups_among vs) now) ∙ ap₂ (λ a b. a || b) (ap (λ k. nat_eq v.what.0 n && k) (sym is)) h
     go true false is now h = ap (list_any (is_named n)) (with_it false (groups_among vs) now) ∙ h
     go false true is now h =
-        let groups = list_any (is_named n) (standing_at t (groups_among vs)) in
-        let parties = is_marked is_group_kind n (standing_at t vs) in
+        let groups = list_any (is_named n) (current_values t (groups_among vs)) in
+        let parties = is_marked is_group_kind n (current_values t vs) in
         never_marked (nat_eq v.what.0 n) groups parties h ∙ ap (λ k. nat_eq v.what.0 n && k || parties) (sym is)
     go false false is now h = h
 
@@ -168,10 +168,10 @@ module _ (n : ℕ) where
 module _ (h : History) (n : ℕ) (t : ℤ) where
   -- the current groups and members, and their values in the group
   abbrev groups : List (ℕ × PartyRecord)
-  groups = standing_at t (groups_among h.parties)
+  groups = current_values t (groups_among h.parties)
 
   abbrev members : List GroupMember
-  members = standing_at t h.members
+  members = current_values t h.members
 
   abbrev groups_there : List Membership
   groups_there = items_of_unit (λ e. e.0) group_joined n groups
@@ -179,13 +179,13 @@ module _ (h : History) (n : ℕ) (t : ℤ) where
   abbrev members_there : List Membership
   members_there = items_of_unit (λ m. m.group) member_joined n members
 
-  two_parts : standing (memberships_in h) n t ≡ groups_there ++ members_there
+  two_parts : values_under_key (memberships_in h) n t ≡ groups_there ++ members_there
   two_parts =
-      standing-append (group_live_spans h.parties) (member_live_spans h.members) n t
+      values_under_key-append (group_live_spans h.parties) (member_live_spans h.members) n t
       ∙ ap₂ (λ a b. a ++ b) (stood (λ e. e.0) group_joined n t (groups_among h.parties)) (stood (λ m. m.group) member_joined n t h.members)
 
   -- only groups are marked
-  marked_there : list_any is_group (standing (memberships_in h) n t) ≡ is_marked is_group_kind n (standing_at t h.parties)
+  marked_there : list_any is_group (values_under_key (memberships_in h) n t) ≡ is_marked is_group_kind n (current_values t h.parties)
   marked_there =
       ap (list_any is_group) two_parts
       ∙ list_any-append is_group groups_there members_there
@@ -195,7 +195,7 @@ module _ (h : History) (n : ℕ) (t : ℤ) where
       ∙ groups_stand n t h.parties
 
   -- only members have shares
-  shares_there : member_shares (standing (memberships_in h) n t) ≡ shares_taken n members
+  shares_there : member_shares (values_under_key (memberships_in h) n t) ≡ shares_taken n members
   shares_there =
       ap member_shares two_parts
       ∙ filter_map-append member_share groups_there members_there
@@ -220,15 +220,15 @@ module _ (moments : List Moment) (h : History) (p : AllProper moments h) where
       shares_found n (map.entries groups) (T_true (is_sorted nat_cmp (map.entries groups)) (map.entries_sorted groups))
       ∙ ap (λ o. option_map_or shares_in o []) (sym (map.get-entries groups n))
 
-  same_shares : (m : Moment) (n : ℕ) → IsPermutation (shares_taken n (standing_at m.stamp h.members)) (shares_taken n (members_at m))
+  same_shares : (m : Moment) (n : ℕ) → IsPermutation (shares_taken n (current_values m.stamp h.members)) (shares_taken n (members_at m))
   same_shares m n =
-      filter_map_permuted (share_in_group n) (standing_at m.stamp h.members) (members_at m)
-      (made_groups (standing_at m.stamp h.members) (distinct_standing is_same_member m.stamp h.members p.members.apart))
+      filter_map_permuted (share_in_group n) (current_values m.stamp h.members) (members_at m)
+      (made_groups (current_values m.stamp h.members) (distinct_standing is_same_member m.stamp h.members p.members.apart))
 
-  whole_there : (m : Moment) (n : ℕ) → are_members_whole (standing (memberships_in h) n m.stamp) ≡ is_whole_group (register_of m) n
+  whole_there : (m : Moment) (n : ℕ) → are_members_whole (values_under_key (memberships_in h) n m.stamp) ≡ is_whole_group (register_of m) n
   whole_there m n =
       ap are_group_shares (shares_there h n m.stamp)
-      ∙ group_permuted (shares_taken n (standing_at m.stamp h.members)) (shares_taken n (members_at m)) (same_shares m n)
+      ∙ group_permuted (shares_taken n (current_values m.stamp h.members)) (shares_taken n (members_at m)) (same_shares m n)
       ∙ ap are_group_shares (in_register m n)
 
   groups_tied : Ties moments h has_broken_group (memberships_in h) is_group are_members_whole h.parties is_group_kind is_whole_group

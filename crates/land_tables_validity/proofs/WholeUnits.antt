@@ -23,7 +23,7 @@ use Rattle.land_tables_history.proofs.Entered.{made_part}
 use Rattle.land_tables_history.proofs.Proper.{AllProper, all_proper}
 use Rattle.land_tables_history.specs.History.{register_at}
 use Rattle.land_tables_history.specs.Intervals.{has_intervals, is_same_number}
-use Rattle.land_tables_history.specs.Standing.{part_at, standing as standing_at}
+use Rattle.land_tables_history.specs.Standing.{part_at, current_values}
 use Rattle.land_tables_history.specs.declared.history.History.{History}
 use Rattle.land_tables_history.specs.declared.moment.Moment.{Moment}
 use Rattle.land_tables_validity.specs.AnyOrder.{count_permuted, filter_map_permuted, whole_permuted}
@@ -33,8 +33,8 @@ use Rattle.land_tables_validity.specs.Never.{Never}
 use Rattle.land_tables_validity.specs.CoverageSpans.{are_in_range}
 use Rattle.land_tables_validity.specs.declared.share_sums.Holding.{Holding}
 use Rattle.land_tables_validity.specs.declared.share_sums.Holding.TheVariants as held
-use Rattle.land_tables_validity.proofs.Together.{AreLives, Ties, all_live, all_counted, both_sound, is_at_fault, is_marked, lives-append, never, none_counted, none_marked, none_taken, some_standing, standing-append, stood}
-use Rattle.land_tables_history.specs.Sweeps.Sweep.{AreSound, standing}
+use Rattle.land_tables_validity.proofs.Together.{AreLives, Ties, all_live, all_counted, both_sound, is_at_fault, is_marked, lives-append, never, none_counted, none_marked, none_taken, some_standing, values_under_key-append, stood}
+use Rattle.land_tables_history.specs.Sweeps.Sweep.{AreSound, values_under_key}
 
 -- ---- entries
 
@@ -112,13 +112,13 @@ and_nothing (x ∷ xs) = ap (λ l. x ∷ l) (and_nothing xs)
 module _ (h : History) (n : ℕ) (t : ℤ) where
   -- the current records, and their values in the unit
   abbrev units : List (ℕ × UnitRecord)
-  units = standing_at t h.units
+  units = current_values t h.units
 
   abbrev parcels : List (ℕ × ParcelRecord)
-  parcels = standing_at t h.parcels
+  parcels = current_values t h.parcels
 
   abbrev entries : List (ℕ × RrrRecord)
-  entries = standing_at t h.rrrs
+  entries = current_values t h.rrrs
 
   abbrev units_there : List Holding
   units_there = items_of_unit (λ e. e.0) unit_holding n units
@@ -129,16 +129,16 @@ module _ (h : History) (n : ℕ) (t : ℤ) where
   abbrev entries_there : List Holding
   entries_there = items_of_unit (λ e. e.1.unit) entry_holding n entries
 
-  three_parts : standing (holdings_in h) n t ≡ (units_there ++ parcels_there) ++ entries_there
+  three_parts : values_under_key (holdings_in h) n t ≡ (units_there ++ parcels_there) ++ entries_there
   three_parts =
-      standing-append (unit_spans h.units ++ parcel_spans h.parcels) (entry_spans h.rrrs) n t
-      ∙ ap (λ a. a ++ standing (entry_spans h.rrrs) n t) (standing-append (unit_spans h.units) (parcel_spans h.parcels) n t)
-      ∙ ap₂ (λ a b. (a ++ b) ++ standing (entry_spans h.rrrs) n t) (stood (λ e. e.0) unit_holding n t h.units) (stood (λ e. e.1.unit) parcel_holding n t h.parcels)
+      values_under_key-append (unit_spans h.units ++ parcel_spans h.parcels) (entry_spans h.rrrs) n t
+      ∙ ap (λ a. a ++ values_under_key (entry_spans h.rrrs) n t) (values_under_key-append (unit_spans h.units) (parcel_spans h.parcels) n t)
+      ∙ ap₂ (λ a b. (a ++ b) ++ values_under_key (entry_spans h.rrrs) n t) (stood (λ e. e.0) unit_holding n t h.units) (stood (λ e. e.1.unit) parcel_holding n t h.parcels)
       ∙ ap (λ a. (units_there ++ parcels_there) ++ a) (stood (λ e. e.1.unit) entry_holding n t h.rrrs)
 
   -- only units are marked
   marked_there : (p : Holding → Bool) → p held.Parcel ≡ false → ((e : ℕ × RrrRecord) → p (entry_holding e) ≡ false)
-      → list_any p (standing (holdings_in h) n t) ≡ is_marked (λ u. p (held.Unit u.checked)) n units
+      → list_any p (values_under_key (holdings_in h) n t) ≡ is_marked (λ u. p (held.Unit u.checked)) n units
   marked_there p no_parcels no_entries =
       ap (list_any p) three_parts
       ∙ list_any-append p (units_there ++ parcels_there) entries_there
@@ -155,7 +155,7 @@ module _ (h : History) (n : ℕ) (t : ℤ) where
       ∙ filter_map_same (λ (e : ℕ × RrrRecord). cond (nat_eq e.1.unit n) (holding_share type (entry_holding e)) None) (λ e. share_in n type e.1)
       (λ e. ap (λ o. cond (nat_eq e.1.unit n) o None) (same_share type e.1.class)) entries
 
-  shares_there : (type : RightType) → holding_shares type (standing (holdings_in h) n t) ≡ filter_map (λ e. share_in n type e.1) entries
+  shares_there : (type : RightType) → holding_shares type (values_under_key (holdings_in h) n t) ≡ filter_map (λ e. share_in n type e.1) entries
   shares_there type =
       ap (holding_shares type) three_parts
       ∙ filter_map-append (holding_share type) (units_there ++ parcels_there) entries_there
@@ -165,7 +165,7 @@ module _ (h : History) (n : ℕ) (t : ℤ) where
       ∙ entry_shares type
 
   counted_there : (p : Holding → Bool)
-      → filter p (standing (holdings_in h) n t) ≡ (filter p units_there ++ filter p parcels_there) ++ filter p entries_there
+      → filter p (values_under_key (holdings_in h) n t) ≡ (filter p units_there ++ filter p parcels_there) ++ filter p entries_there
   counted_there p =
       ap (filter p) three_parts
       ∙ filter-append p (units_there ++ parcels_there) entries_there
@@ -174,7 +174,7 @@ module _ (h : History) (n : ℕ) (t : ℤ) where
   no_units_counted : (p : Holding → Bool) → ((e : ℕ × UnitRecord) → p (unit_holding e) ≡ false) → filter p units_there ≡ []
   no_units_counted p none = none_counted (λ e. e.0) unit_holding n p none units
 
-  parcels_counted : length (filter is_parcel (standing (holdings_in h) n t)) ≡ length (filter (λ e. nat_eq e.1.unit n) parcels)
+  parcels_counted : length (filter is_parcel (values_under_key (holdings_in h) n t)) ≡ length (filter (λ e. nat_eq e.1.unit n) parcels)
   parcels_counted =
       ap length (counted_there is_parcel
       ∙ ap₂ (λ a b. (a ++ b) ++ filter is_parcel entries_there) (no_units_counted is_parcel (λ e. refl))
@@ -183,7 +183,7 @@ module _ (h : History) (n : ℕ) (t : ℤ) where
       ∙ and_nothing parcels_there)
       ∙ length-items_of_unit (λ e. e.1.unit) parcel_holding n parcels
 
-  entries_counted : length (filter is_entry (standing (holdings_in h) n t)) ≡ length (filter (λ e. nat_eq e.1.unit n) entries)
+  entries_counted : length (filter is_entry (values_under_key (holdings_in h) n t)) ≡ length (filter (λ e. nat_eq e.1.unit n) entries)
   entries_counted =
       ap length (counted_there is_entry
       ∙ ap₂ (λ a b. (a ++ b) ++ filter is_entry entries_there) (no_units_counted is_entry (λ e. refl))
@@ -204,33 +204,33 @@ module _ (moments : List Moment) (h : History) (p : AllProper moments h) where
   abbrev register_of : Moment → Register
   register_of m = register_at m.stamp h m.next
 
-  same_parcels : (t : ℤ) → IsPermutation (standing_at t h.parcels) (map.entries (part_at t h.parcels))
-  same_parcels t = made_part (standing_at t h.parcels) (distinct_standing is_same_number t h.parcels p.parcels.apart)
+  same_parcels : (t : ℤ) → IsPermutation (current_values t h.parcels) (map.entries (part_at t h.parcels))
+  same_parcels t = made_part (current_values t h.parcels) (distinct_standing is_same_number t h.parcels p.parcels.apart)
 
-  same_entries : (t : ℤ) → IsPermutation (standing_at t h.rrrs) (map.entries (part_at t h.rrrs))
-  same_entries t = made_part (standing_at t h.rrrs) (distinct_standing is_same_number t h.rrrs p.rrrs.apart)
+  same_entries : (t : ℤ) → IsPermutation (current_values t h.rrrs) (map.entries (part_at t h.rrrs))
+  same_entries t = made_part (current_values t h.rrrs) (distinct_standing is_same_number t h.rrrs p.rrrs.apart)
 
   same_shares : (m : Moment) (n : ℕ) (type : RightType)
-      → IsPermutation (filter_map (λ e. share_in n type e.1) (standing_at m.stamp h.rrrs)) (type_shares (register_of m) n type)
+      → IsPermutation (filter_map (λ e. share_in n type e.1) (current_values m.stamp h.rrrs)) (type_shares (register_of m) n type)
   same_shares m n type =
-      filter_map_permuted (λ (e : ℕ × RrrRecord). share_in n type e.1) (standing_at m.stamp h.rrrs) (map.entries (part_at m.stamp h.rrrs)) (same_entries m.stamp)
+      filter_map_permuted (λ (e : ℕ × RrrRecord). share_in n type e.1) (current_values m.stamp h.rrrs) (map.entries (part_at m.stamp h.rrrs)) (same_entries m.stamp)
 
   type_whole : (m : Moment) (n : ℕ) (type : RightType)
-      → are_whole_or_none (holding_shares type (standing (holdings_in h) n m.stamp)) ≡ are_whole_or_none (type_shares (register_of m) n type)
+      → are_whole_or_none (holding_shares type (values_under_key (holdings_in h) n m.stamp)) ≡ are_whole_or_none (type_shares (register_of m) n type)
   type_whole m n type =
-      let there = filter_map (λ (e : ℕ × RrrRecord). share_in n type e.1) (standing_at m.stamp h.rrrs) in
+      let there = filter_map (λ (e : ℕ × RrrRecord). share_in n type e.1) (current_values m.stamp h.rrrs) in
       ap are_whole_or_none (shares_there h n m.stamp type)
       ∙ whole_permuted there (type_shares (register_of m) n type) (same_shares m n type)
 
-  parcels_same : (m : Moment) (n : ℕ) → length (filter is_parcel (standing (holdings_in h) n m.stamp)) ≡ parcel_count (register_of m) n
+  parcels_same : (m : Moment) (n : ℕ) → length (filter is_parcel (values_under_key (holdings_in h) n m.stamp)) ≡ parcel_count (register_of m) n
   parcels_same m n =
       parcels_counted h n m.stamp
-      ∙ count_permuted (λ e. nat_eq e.1.unit n) (standing_at m.stamp h.parcels) (map.entries (part_at m.stamp h.parcels)) (same_parcels m.stamp)
+      ∙ count_permuted (λ e. nat_eq e.1.unit n) (current_values m.stamp h.parcels) (map.entries (part_at m.stamp h.parcels)) (same_parcels m.stamp)
 
-  entries_same : (m : Moment) (n : ℕ) → length (filter is_entry (standing (holdings_in h) n m.stamp)) ≡ rrr_count (register_of m) n
+  entries_same : (m : Moment) (n : ℕ) → length (filter is_entry (values_under_key (holdings_in h) n m.stamp)) ≡ rrr_count (register_of m) n
   entries_same m n =
       entries_counted h n m.stamp
-      ∙ count_permuted (λ e. nat_eq e.1.unit n) (standing_at m.stamp h.rrrs) (map.entries (part_at m.stamp h.rrrs)) (same_entries m.stamp)
+      ∙ count_permuted (λ e. nat_eq e.1.unit n) (current_values m.stamp h.rrrs) (map.entries (part_at m.stamp h.rrrs)) (same_entries m.stamp)
 
   shares_tied : Ties moments h has_unit_without_whole_shares (holdings_in h) is_checked are_shares_whole h.units (λ u. u.checked) has_whole_shares
   shares_tied = record {
@@ -244,7 +244,7 @@ module _ (moments : List Moment) (h : History) (p : AllProper moments h) where
     faulty = λ m.
         let is_crowded : ℕ × UnitRecord → Bool = λ e. nat_lt 256 (parcel_count (register_of m) e.0) || nat_lt 256 (rrr_count (register_of m) e.0) in
         some_standing is_crowded m.stamp h.units p.units.apart
-        ∙ list_any_same is_crowded (is_at_fault (λ u. true) (is_uncrowded (register_of m))) (λ e. twice (is_crowded e)) (standing_at m.stamp h.units);
+        ∙ list_any_same is_crowded (is_at_fault (λ u. true) (is_uncrowded (register_of m))) (λ e. twice (is_crowded e)) (current_values m.stamp h.units);
     marked = λ n t. marked_there h n t is_unit refl (λ e. no_unit e.1.class);
     tested = λ m n. ap₂ (λ a b. not (nat_lt 256 a || nat_lt 256 b)) (parcels_same m n) (entries_same m n);
   }

@@ -4,7 +4,7 @@ use Rattle.std.specs.List.{All}
 use Rattle.land_core.specs.declared.mutation.MutationRecord.{MutationRecord}
 use Rattle.land_tables_history.specs.History.{named_units, namings_of, register_at}
 use Rattle.land_tables_history.specs.ValidHistory.{are_same_namings}
-use Rattle.land_tables_history.specs.Standing.{standing}
+use Rattle.land_tables_history.specs.Standing.{current_values}
 use Rattle.land_tables_history.specs.declared.history.History.{History}
 use Rattle.land_tables_history.specs.declared.moment.Moment.{Moment}
 use Rattle.land_tables_history.specs.declared.naming.Naming.{Naming}
@@ -24,5 +24,5 @@ naming_pair n = (n.mutation, n.unit) ∷ []
 -- at each commit, the current rows of `names` are the references of the register's mutations
 abbrev pub NamingsAgree : List Moment → History → Type 0
 NamingsAgree moments h =
-    All (λ m. are_same_namings (standing m.stamp h.namings)
+    All (λ m. are_same_namings (current_values m.stamp h.namings)
     (namings_of (register_at m.stamp h m.next).mutations) ≡ true) moments

@@ -15,7 +15,7 @@ use Rattle.land_keep.specs.declared.reply.Reply.{Reply}
 use Rattle.land_keep.specs.declared.reply.Reply.TheVariants as reply
 use Rattle.land_wire.specs.Fields.{field_map, values_named}
 use Rattle.land_wire.specs.Queries.{at_in}
-use Rattle.land_wire.specs.Reading.{reading, reading_by}
+use Rattle.land_wire.specs.Reading.{request_reading, reading_by}
 use Rattle.land_wire.specs.Replies.{reply_text, short_text, numbers_text, done_text, object_reply_text}
 use Rattle.land_wire.specs.ReplyLimits.{IsReplyWithin}
 use Rattle.land_wire_json.specs.Texts.Objects.{object_text}
@@ -31,7 +31,7 @@ ReadingsAreWellFormed =
 abbrev pub BodiesOfReadsAreIgnored : Type 0
 BodiesOfReadsAreIgnored =
     (target : List ℕ) (fields : Entries FieldValue) (body other : List ℕ)
-    → reading (codes "GET") target fields body ≡ reading (codes "GET") target fields other
+    → request_reading (codes "GET") target fields body ≡ request_reading (codes "GET") target fields other
 
 -- the ask requests an act
 abbrev pub requests_act : Ask → Bool
@@ -44,14 +44,14 @@ requests_act (ask.Do wanted) = true
 abbrev pub GetsDoNothing : Type 0
 GetsDoNothing =
     (target : List ℕ) (fields : Entries FieldValue) (body : List ℕ)
-    → IfOk (reading (codes "GET") target fields body) (λ request. requests_act request.ask ≡ false)
+    → IfOk (request_reading (codes "GET") target fields body) (λ request. requests_act request.ask ≡ false)
 
 -- each other method that is accepted is POST, and requests an act
 abbrev pub OtherMethodsRequestActs : Type 0
 OtherMethodsRequestActs =
     (method target : List ℕ) (fields : Entries FieldValue) (body : List ℕ)
     → bytes_eq method (codes "GET") ≡ false
-    → IfOk (reading method target fields body)
+    → IfOk (request_reading method target fields body)
     (λ request. (requests_act request.ask ≡ true) × (bytes_eq method (codes "POST") ≡ true))
 
 -- the moment of a query, if there is one, is from 0 to the last moment

@@ -58,6 +58,6 @@ abbrev pub reading_by : (method target : List ℕ) → Result Caller WireFault �
 reading_by method target asking body = parts_reading method (path_of target) (query_of target) asking body
 
 -- likewise for the fields of a head, which contain the caller
-abbrev pub reading : (method target : List ℕ) → Entries FieldValue → (body : List ℕ)
+abbrev pub request_reading : (method target : List ℕ) → Entries FieldValue → (body : List ℕ)
     → Result Request WireFault
-reading method target fields body = reading_by method target (caller_in fields) body
+request_reading method target fields body = reading_by method target (caller_in fields) body

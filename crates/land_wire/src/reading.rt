@@ -3,7 +3,7 @@ ghost use Rattle.std.specs.Prelude.{◌≡◌, [], IfOk, true};
 ghost use Rattle.land_core.specs.Acts.{is_well_formed_request};
 ghost use Rattle.land_keep.specs.Machine.{at_of};
 ghost use Rattle.land_wire.specs.Laws.{IsExplicitMoment};
-ghost use Rattle.land_wire.specs.Reading.{require_method, ask_of, parts_reading, reading, reading_by};
+ghost use Rattle.land_wire.specs.Reading.{require_method, ask_of, parts_reading, request_reading, reading_by};
 ghost use Rattle.land_wire.specs.Reading.{require_resource};
 ghost use Rattle.land_wire.specs.Routes.{act, list, resource, sheet, view};
 ghost use Rattle.land_wire.specs.Routes.Table.{RoutesCorrectly};
@@ -34,7 +34,7 @@ pub fn read_request(
     fields: &HeaderMap,
     body: &[u8],
 ) -> Result<Request, WireFault>
-    ensures reads { Returns (λ it. it) result (reading method.now target.now fields.now body.now) }
+    ensures reads { Returns (λ it. it) result (request_reading method.now target.now fields.now body.now) }
     ensures well_formed { IfOk result (λ request. is_well_formed_request request ≡ true) }
     ensures moment { IfOk result (λ request. IsExplicitMoment (at_of request.ask)) }
 {

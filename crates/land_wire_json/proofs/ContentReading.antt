@@ -24,7 +24,7 @@ use Rattle.land_shape.specs.Faults.{IsOutlineAnswer}
 use Rattle.land_shape.specs.Laws.{PrintedLaw, OneAnswerLaw}
 use Rattle.land_shape.specs.Outline.{IsOutline}
 use Rattle.land_shape.specs.Place.{Place}
-use Rattle.land_shape.specs.Printed.{printed}
+use Rattle.land_shape.specs.Printed.{polygon_text}
 use Rattle.land_shape.specs.declared.faults.ShapeFault.{ShapeFault}
 use Rattle.land_wire_json.proofs.ShareReading.{share_is_read}
 use Rattle.land_wire_json.specs.Bodies.Fields.{each_of, field_at, item_count, items_at, number_at, number_in, object_with, text_at}
@@ -183,14 +183,14 @@ none_or_more n = grind (arith, nat_tests)
 
 -- ---- contents
 
-answered : PrintedLaw → OneAnswerLaw → (ring : List Place) → IsOutline ring → (answer : Result (List Place) ShapeFault) → IsOutlineAnswer (printed ring) answer → ring_or_fault answer ≡ Ok ring
+answered : PrintedLaw → OneAnswerLaw → (ring : List Place) → IsOutline ring → (answer : Result (List Place) ShapeFault) → IsOutlineAnswer (polygon_text ring) answer → ring_or_fault answer ≡ Ok ring
 answered printing one ring h (Ok other) right = ap Ok (printing.alone ring other h right)
-answered printing one ring h (Err f) right = absurd (one.not_both (printed ring) ring f (printing.stands ring h) right)
+answered printing one ring h (Err f) right = absurd (one.not_both (polygon_text ring) ring f (printing.stands ring h) right)
 
 module _ (shares : SameFractionLaw) (printing : PrintedLaw) (one : OneAnswerLaw) (answers : OutlinesAreAnswered) where
-  pub outline_is_read : (ring : List Place) → IsOutline ring → outline_of (printed ring) ≡ Ok ring
+  pub outline_is_read : (ring : List Place) → IsOutline ring → outline_of (polygon_text ring) ≡ Ok ring
   unfolding outline_of
-  outline_is_read ring h = answered printing one ring h (outline_answer (printed ring)) (answers (printed ring))
+  outline_is_read ring h = answered printing one ring h (outline_answer (polygon_text ring)) (answers (polygon_text ring))
 
   transfer_is_read : (it : Transfer) → is_transfer it ≡ true → IsFraction it.share → transfer_of (transfer_data it) ≡ Ok it
   unfolding transfer_of number_at field_at number_in share_at text_at
@@ -206,7 +206,7 @@ module _ (shares : SameFractionLaw) (printing : PrintedLaw) (one : OneAnswerLaw)
       let p = and_parts (is_label part.label) (is_new_name part.unit) e in
       by part.unit part.label part.outline p.0 (outline_is_read part.outline h) p.1
     where
-      by : (unit : Option (List ℕ)) (label : List ℕ) (outline : List Place) → is_label label ≡ true → outline_of (printed outline) ≡ Ok outline → is_new_name unit ≡ true
+      by : (unit : Option (List ℕ)) (label : List ℕ) (outline : List Place) → is_label label ≡ true → outline_of (polygon_text outline) ≡ Ok outline → is_new_name unit ≡ true
           → (let it : Part = record { label = label; outline = outline; unit = unit } in part_of (part_data it) ≡ Ok it)
       by None label outline l r u = rw (l, r) refl
       by (Some name) label outline l r u = rw (l, r, u) refl

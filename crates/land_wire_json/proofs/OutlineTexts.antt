@@ -9,7 +9,7 @@ use Rattle.json.specs.Print.{escape, escape_byte}
 use Rattle.land_shape.specs.Coordinate.{IsCoordinate}
 use Rattle.land_shape.specs.Outline.{IsOutline, IsNear}
 use Rattle.land_shape.specs.Place.{Place}
-use Rattle.land_shape.specs.Printed.{point_text, points_text, printed}
+use Rattle.land_shape.specs.Printed.{point_text, points_text, polygon_text}
 use Rattle.land_wire_json.proofs.ShareTexts.{digits_are_plain}
 use Rattle.land_wire_json.specs.Texts.Values.{outline_text, quoted_word}
 use Rattle.serde_json.proofs.OnLiterals.{serde_json_on_literals}
@@ -44,13 +44,13 @@ near_closed : (ring : List Place) → AllByRecursion IsNear ring → AllByRecurs
 near_closed [] h = tt
 near_closed (p ∷ ps) h = (h.0, near_then ps p h.1 h.0)
 
-printed_is_plain : (ring : List Place) → IsOutline ring → escape (printed ring) ≡ printed ring
+printed_is_plain : (ring : List Place) → IsOutline ring → escape (polygon_text ring) ≡ polygon_text ring
 unfolding escape_byte
 printed_is_plain ring is =
     ap (λ (t : List ℕ). codes "POLYGON ((" ++ t)
     (flat_map-append escape_byte (points_text (ring ++ take 1 ring)) (41 ∷ 41 ∷ [])
     ∙ ap (λ (t : List ℕ). t ++ (41 ∷ 41 ∷ [])) (points_are_plain (ring ++ take 1 ring) (near_closed ring is.near)))
 
-pub outline-text : (ring : List Place) → IsOutline ring → outline_text ring ≡ quoted_word (printed ring)
+pub outline-text : (ring : List Place) → IsOutline ring → outline_text ring ≡ quoted_word (polygon_text ring)
 unfolding serde_json_on_literals
 outline-text ring is = ap (λ (t : List ℕ). 34 ∷ (t ++ codes "\"")) (printed_is_plain ring is)

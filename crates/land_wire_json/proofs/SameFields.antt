@@ -12,7 +12,7 @@ use Rattle.land_shape.specs.Faults.{Denotes}
 use Rattle.land_shape.specs.Laws.{PrintedLaw}
 use Rattle.land_shape.specs.Outline.{IsOutline}
 use Rattle.land_shape.specs.Place.{Place}
-use Rattle.land_shape.specs.Printed.{printed}
+use Rattle.land_shape.specs.Printed.{polygon_text}
 use Rattle.land_wire_json.specs.Texts.Limits.{FitsU64, FitsU64Moment}
 use Rattle.land_wire_json.specs.Texts.Values.{number_data}
 use Rattle.serde_json.specs.Data.{Data, Num, unsigned, negative, float, null, boolean, number, string, array, object, Items, no_items, item, Members, no_members, member}
@@ -177,6 +177,6 @@ same_share f g h k e =
 stands_too : (s t : List ℕ) (ring : List Place) → s ≡ t → Denotes s ring → Denotes t ring
 stands_too s t ring e h = rw (sym e) h
 
-pub same_outline : PrintedLaw → (ring other : List Place) → IsOutline ring → IsOutline other → printed ring ≡ printed other → ring ≡ other
+pub same_outline : PrintedLaw → (ring other : List Place) → IsOutline ring → IsOutline other → polygon_text ring ≡ polygon_text other → ring ≡ other
 same_outline printing ring other h k e =
-    printing.alone other ring k (stands_too (printed ring) (printed other) ring e (printing.stands ring h))
+    printing.alone other ring k (stands_too (polygon_text ring) (polygon_text other) ring e (printing.stands ring h))

@@ -47,7 +47,7 @@ pub fn change(
     match content {
         Content::Transfer(it) => match transfer::right_at(slice, it.unit, it.right) {
             Some(from) => transfer::change(alloc, slice, source, it, &from),
-            None => Ok(Change::nothing(alloc, slice.next)),
+            None => Ok(Change::empty(alloc, slice.next)),
         },
         Content::Subdivision(it) => subdivide::change(alloc, slice, source, it),
         Content::Merger(it) => merge::change(alloc, slice, source, it),
@@ -58,13 +58,17 @@ pub fn change(
 
 /// Returns the numbers of the objects that a content creates, if no refusal applies. The only error is out of
 /// memory.
-pub fn made(alloc: Global, slice: &Slice, content: &Content) -> Result<NumberList, AllocError>
+pub fn created_numbers(
+    alloc: Global,
+    slice: &Slice,
+    content: &Content,
+) -> Result<NumberList, AllocError>
     requires { StaysInRange slice.now content.now }
     ensures { IfOk result (λ made. made ≡ content_made slice.now content.now) }
 {
     match content {
         Content::Transfer(it) => match transfer::right_at(slice, it.unit, it.right) {
-            Some(from) => transfer::made(alloc, slice, it, &from),
+            Some(from) => transfer::created_numbers(alloc, slice, it, &from),
             None => Ok(Sequence::new(alloc)),
         },
         Content::Subdivision(it) => {

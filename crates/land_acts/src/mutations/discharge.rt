@@ -54,7 +54,7 @@ pub(crate) fn change(alloc: Global, slice: &Slice, it: &Discharge) -> Result<Cha
     ensures { IfOk result (λ change. change ≡ discharge_change slice.now it.now) }
 {
     let rrrs = Sequence::of_one(alloc, it.mortgage)?;
-    let mut change = Change::nothing(alloc, slice.next);
+    let mut change = Change::empty(alloc, slice.next);
     change.ended.rrrs = rrrs;
     Ok(change)
 }

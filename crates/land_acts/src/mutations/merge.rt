@@ -249,7 +249,7 @@ pub(crate) fn change(
     let ended_units = it.others.copy(alloc)?;
     let ended_parcels = it.parcels.copy(alloc)?;
     let ended_rrrs = entries_of_others(alloc, slice, it)?;
-    let mut change = Change::nothing(alloc, slice.next + 1);
+    let mut change = Change::empty(alloc, slice.next + 1);
     change.put.parcels = parcels;
     change.ended.units = ended_units;
     change.ended.parcels = ended_parcels;

@@ -56,7 +56,7 @@ pub(crate) fn change(
         source,
     };
     let rrrs = Sequence::of_one(alloc, (slice.next, entry))?;
-    let mut change = Change::nothing(alloc, slice.next + 1);
+    let mut change = Change::empty(alloc, slice.next + 1);
     change.put.rrrs = rrrs;
     Ok(change)
 }

@@ -143,7 +143,7 @@ pub(crate) fn change(
     let parcels = parcels_made(alloc, slice, source, it)?;
     let rrrs = copies_made(alloc, slice, it)?;
     let ended = Sequence::of_one(alloc, it.parcel)?;
-    let mut change = Change::nothing(alloc, slice.next + count(slice, it) as u64);
+    let mut change = Change::empty(alloc, slice.next + count(slice, it) as u64);
     change.put.units = units;
     change.put.parcels = parcels;
     change.put.rrrs = rrrs;

@@ -362,7 +362,7 @@ fn change_of_entries(
     let ended = ended_rights(alloc, it, from)?;
     let mut rrrs = remaining_entry(alloc, source, it, from)?;
     receive(&mut rrrs, slice, source, it, from)?;
-    let mut change = Change::nothing(alloc, slice.next);
+    let mut change = Change::empty(alloc, slice.next);
     change.put.rrrs = rrrs;
     change.ended.rrrs = ended;
     Ok(change)
@@ -439,7 +439,7 @@ fn right_entry(
 }
 
 /// Returns the number of the new right, if the receiver has none of the type.
-pub(crate) fn made(
+pub(crate) fn created_numbers(
     alloc: Global,
     slice: &Slice,
     it: &Transfer,

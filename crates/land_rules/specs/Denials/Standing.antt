@@ -5,7 +5,7 @@ use Rattle.std.specs.FinMap.{FinMap}
 use Rattle.std.specs.Ordering.{nat_cmp}
 use Rattle.land_core.specs.Entries.{entries_where}
 use Rattle.land_core.specs.Grants.{Grants}
-use Rattle.land_core.specs.Register.{nothing, stands, holds}
+use Rattle.land_core.specs.Register.{empty_register, stands, holds}
 use Rattle.land_core.specs.declared.act.Act.{Act}
 use Rattle.land_core.specs.declared.act.Act.TheVariants as act
 use Rattle.land_core.specs.declared.ask.Ask.{Ask}
@@ -97,7 +97,7 @@ at_most_one (Some n) (Some value) = map.insert map.empty n value
 -- the evidence that consists of exactly these records
 abbrev pub evidence_of : Caller → Ask → Option PartyRecord → Grants → Option RrrRecord → Option MutationRecord
     → Register
-evidence_of caller a party roles entry mutation = record nothing {
+evidence_of caller a party roles entry mutation = record empty_register {
   parties = at_most_one (Some caller.party) party;
   roles = roles;
   rrrs = at_most_one (entry_of_ask a) entry;

@@ -47,6 +47,6 @@ pub fn evidence_of(
         roles,
         rrrs: at_most_one(alloc, entry_of_ask(ask), entry)?,
         mutations: at_most_one(alloc, mutation_of_ask(ask), mutation)?,
-        ..Register::nothing(alloc)
+        ..Register::empty(alloc)
     })
 }

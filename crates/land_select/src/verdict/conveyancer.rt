@@ -19,7 +19,7 @@ use land_core::rrr::RrrRecord;
 use land_select_queries::lookups::by_number;
 use land_select_queries::lookups::existence::unit_exists;
 use land_select_queries::lookups::lodgers::has_pending_mutation_on;
-use land_select_queries::lookups::shown::Shown;
+use land_select_queries::lookups::object_record::ObjectRecord;
 use land_tables_rows::listing::fault::ReadFault;
 use sqlite::{Alter, Connection};
 use std::alloc::Global;
@@ -92,7 +92,7 @@ fn read_pending_entry<S: Alter>(
             let is_pending = has_pending_mutation_on(alloc, conn, caller.party, entry.unit, at)?;
             Ok((
                 is_pending,
-                cached_object(RrrRecord::shown(number, Some(entry))),
+                cached_object(RrrRecord::build_object(number, Some(entry))),
             ))
         }
         None => Ok((false, CachedValue::Nothing)),

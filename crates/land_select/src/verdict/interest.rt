@@ -26,8 +26,8 @@ use land_core::sequence::{NumberList, Sequence};
 use land_rules::denials::interests::{Interest, interest_of};
 use land_rules::denials::laws::{interests_decide_sight, names_decide_interests};
 use land_select_queries::joins::running::run_union_for;
+use land_select_queries::lookups::object_record::ObjectRecord;
 use land_select_queries::lookups::of_agent::circle;
-use land_select_queries::lookups::shown::Shown;
 use land_select_queries::lookups::{by_number, of_unit};
 use land_select_queries::sights::selection::Selection;
 use land_tables_rows::listing::fault::ReadFault;
@@ -229,7 +229,10 @@ pub(crate) fn read_shown_entry<S: Alter>(
     match found {
         Some(entry) => {
             let shown = is_found_entry_shown(alloc, conn, caller, &entry, at)?;
-            Ok((shown, cached_object(RrrRecord::shown(number, Some(entry)))))
+            Ok((
+                shown,
+                cached_object(RrrRecord::build_object(number, Some(entry))),
+            ))
         }
         None => Ok((false, CachedValue::Nothing)),
     }

@@ -17,7 +17,7 @@ use land_core::laws::soundness_by_number;
 use land_core::merger::Merger;
 use land_core::mutation::MutationRecord;
 use land_select_queries::lookups::by_number;
-use land_select_queries::lookups::shown::Shown;
+use land_select_queries::lookups::object_record::ObjectRecord;
 use land_tables_rows::listing::fault::ReadFault;
 use sqlite::{Alter, Connection};
 use std::alloc::Global;
@@ -114,7 +114,7 @@ pub(crate) fn read_shown_mutation<S: Alter>(
             let shown = names_visible_unit(alloc, conn, caller, &mutation, at)?;
             Ok((
                 shown,
-                cached_object(MutationRecord::shown(number, Some(mutation))),
+                cached_object(MutationRecord::build_object(number, Some(mutation))),
             ))
         }
         None => Ok((false, CachedValue::Nothing)),

@@ -25,8 +25,8 @@ command_in (Ok c) = c.command
 command_in (Err e) = Nothing
 
 -- the parameters of each statement: the caller and the time
-abbrev pub given : (caller : ℕ) → (t : ℤ) → Row
-given caller t = Int (pos caller) ∷ Int t ∷ []
+abbrev pub query_parameters : (caller : ℕ) → (t : ℤ) → Row
+query_parameters caller t = Int (pos caller) ∷ Int t ∷ []
 
 -- Each row is one number; the numbers of the rows are exactly the wanted ones.
 pub record AreNumberRows (rows : List Row) (Wanted : ℕ → Type 0) : Type 0 where
@@ -38,11 +38,11 @@ pub record AreNumberRows (rows : List Row) (Wanted : ℕ → Type 0) : Type 0 wh
 pub record GivesNumbers (text : List ℕ) (indexes : List Index) (db : Trees) (caller : ℕ) (t : ℤ)
     (Wanted : ℕ → Type 0) : Type 0 where
   pub each : (rows : List Row) → Reads (command_in (understood (schema_v2_with indexes) text))
-      (record { schema = schema_v2_with indexes; trees = db }) (given caller t) rows
+      (record { schema = schema_v2_with indexes; trees = db }) (query_parameters caller t) rows
       → AreNumberRows rows Wanted
   pub rows : List Row
   pub answer : Reads (command_in (understood (schema_v2_with indexes) text))
-      (record { schema = schema_v2_with indexes; trees = db }) (given caller t) rows
+      (record { schema = schema_v2_with indexes; trees = db }) (query_parameters caller t) rows
 
 -- If the tables hold a history, then with any indexes the statement of a selection returns exactly the
 -- numbers of the selection.

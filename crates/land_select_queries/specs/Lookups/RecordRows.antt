@@ -15,7 +15,7 @@ use Rattle.land_core.specs.declared.source.SourceRecord.{SourceRecord}
 use Rattle.land_core.specs.declared.unit.UnitRecord.{UnitRecord}
 use Rattle.land_select_queries.specs.declared.lookups.record_lookup.RecordLookup.{RecordLookup}
 use Rattle.land_select_queries.specs.declared.lookups.record_lookup.RecordLookup.TheVariants as record_lookup
-use Rattle.land_tables_history.specs.Standing.{stands}
+use Rattle.land_tables_history.specs.Standing.{is_current}
 use Rattle.land_tables_history.specs.declared.group_member.GroupMember.{GroupMember}
 use Rattle.land_tables_history.specs.declared.version.Version.{Version}
 use Rattle.land_tables_rows.specs.Listing.Reading.{Listing, Says, mandates, members, mutations, parcels}
@@ -74,7 +74,7 @@ is_meant record_lookup.Administrators number grant = is_role grant.role StateAdm
 
 -- the versions that are valid at time t and match
 abbrev pub matching_versions : {X : Type 0} → (X → Bool) → (t : ℤ) → List (Version X) → List (Version X)
-matching_versions meant t versions = filter (λ v. stands t v && meant v.what) versions
+matching_versions meant t versions = filter (λ v. is_current t v && meant v.what) versions
 
 -- If the rows of a table decode to some versions, these rows decode to those of them that are valid at time t
 -- and match, in any order.

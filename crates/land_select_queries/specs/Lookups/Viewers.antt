@@ -15,7 +15,7 @@ use Rattle.land_select_queries.specs.declared.sights.selection.Selection.{Select
 use Rattle.land_select_queries.specs.declared.sights.selection.Selection.TheVariants.{HeldParties}
 use Rattle.land_select_queries.specs.declared.sights.selection.Selection.TheVariants.{CreditParties}
 use Rattle.land_select_queries.specs.declared.sights.selection.Selection.TheVariants.{LodgedParties}
-use Rattle.land_tables_history.specs.Standing.{standing}
+use Rattle.land_tables_history.specs.Standing.{current_values}
 use Rattle.land_tables_history.specs.declared.history.History.{History}
 use Rattle.land_tables_history.specs.declared.naming.Naming.{Naming}
 use Rattle.sqlite_trees.specs.Tree.{Trees}
@@ -53,13 +53,14 @@ is_told_to_lodger party seen naming mutation =
 -- entry visible: an upper bound of the number of viewers.
 abbrev pub count_ways : Relation → (t : ℤ) → History → (party : ℕ) → ℕ
 count_ways relation.Holding t h party = sum_by
-    (λ seen. count_by (is_visible_to_holder party seen) (standing t h.rrrs))
-    (standing t h.rrrs)
+    (λ seen. count_by (is_visible_to_holder party seen) (current_values t h.rrrs))
+    (current_values t h.rrrs)
 count_ways relation.Crediting t h party =
-    sum_by (λ seen. count_by (is_visible_to_creditor party seen) (standing t h.rrrs)) (standing t h.rrrs)
+    sum_by (λ seen. count_by (is_visible_to_creditor party seen) (current_values t h.rrrs))
+    (current_values t h.rrrs)
 count_ways relation.Awaiting t h party =
-    sum_by (λ seen. sum_by (λ naming. count_by (is_told_to_lodger party seen naming) (standing t h.mutations))
-    (standing t h.namings)) (standing t h.rrrs)
+    sum_by (λ seen. sum_by (λ naming. count_by (is_told_to_lodger party seen naming)
+    (current_values t h.mutations)) (current_values t h.namings)) (current_values t h.rrrs)
 
 -- These rows are the viewers, if they are at most sixteen; if there are more rows, there are more than
 -- sixteen pairs.

@@ -13,7 +13,7 @@ use Rattle.land_core.specs.declared.unit.UnitRecord.{UnitRecord}
 use Rattle.land_rules.specs.Relations.{is_mortgage, is_right}
 use Rattle.land_select_queries.specs.declared.sights.selection.Selection.{Selection}
 use Rattle.land_select_queries.specs.declared.sights.selection.Selection.TheVariants as selection
-use Rattle.land_tables_history.specs.Standing.{standing}
+use Rattle.land_tables_history.specs.Standing.{current_values}
 use Rattle.land_tables_history.specs.declared.group_member.GroupMember.{GroupMember}
 use Rattle.land_tables_history.specs.declared.history.History.{History}
 use Rattle.land_tables_history.specs.declared.naming.Naming.{Naming}
@@ -23,7 +23,7 @@ use Rattle.land_tables_history.specs.declared.version.Version.{Version}
 
 -- x is the value of a version that is valid at time t
 abbrev pub IsCurrent : {X : Type 0} → ℤ → List (Version X) → X → Type 0
-IsCurrent t versions x = Contains (standing t versions) x
+IsCurrent t versions x = Contains (current_values t versions) x
 
 -- a current record has this number
 abbrev pub IsCurrentUnder : {V : Type 0} → ℤ → List (Version (ℕ × V)) → (number : ℕ) → Type 0

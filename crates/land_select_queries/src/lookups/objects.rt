@@ -6,7 +6,7 @@ ghost use Rattle.land_select_queries.specs.Lookups.Parts.{ReadsPart};
 ghost use Rattle.land_select_queries.specs.TableReads.{FailsOnlyWithoutHistory, ReadsTables};
 ghost use Rattle.land_tables_schema.specs.Connections.{HasRegisterTables, LeavesAutocommit};
 
-use crate::lookups::shown::{Shown, party_object};
+use crate::lookups::object_record::{ObjectRecord, party_object};
 use crate::lookups::{by_number, of_group, of_party};
 use land_core::kind::Kind;
 use land_core::mutation::MutationRecord;
@@ -65,7 +65,7 @@ fn party<S: Alter>(
 }
 
 /// Reads the object of a kind that has a table of its own.
-fn shown<V: Shown, S: Alter>(
+fn object_from_table<V: ObjectRecord, S: Alter>(
     alloc: Global,
     conn: &mut Connection<S>,
     number: u64,
@@ -80,7 +80,7 @@ where
     ensures autocommit { LeavesAutocommit conn.old conn.new }
 {
     let found = by_number::record::<V, S>(alloc, conn, number, at)?;
-    Ok(V::shown(number, found))
+    Ok(V::build_object(number, found))
 }
 
 /// Reads the object of a kind and a number at a time, in Unix milliseconds; `None` if it does not exist.
@@ -100,10 +100,10 @@ pub fn object<S: Alter>(
 {
     match kind {
         Kind::Party => party(alloc, conn, number, at),
-        Kind::Unit => shown::<UnitRecord, S>(alloc, conn, number, at),
-        Kind::Parcel => shown::<ParcelRecord, S>(alloc, conn, number, at),
-        Kind::Rrr => shown::<RrrRecord, S>(alloc, conn, number, at),
-        Kind::Source => shown::<SourceRecord, S>(alloc, conn, number, at),
-        Kind::Mutation => shown::<MutationRecord, S>(alloc, conn, number, at),
+        Kind::Unit => object_from_table::<UnitRecord, S>(alloc, conn, number, at),
+        Kind::Parcel => object_from_table::<ParcelRecord, S>(alloc, conn, number, at),
+        Kind::Rrr => object_from_table::<RrrRecord, S>(alloc, conn, number, at),
+        Kind::Source => object_from_table::<SourceRecord, S>(alloc, conn, number, at),
+        Kind::Mutation => object_from_table::<MutationRecord, S>(alloc, conn, number, at),
     }
 }

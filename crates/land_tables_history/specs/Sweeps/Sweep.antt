@@ -8,9 +8,9 @@ abbrev pub is_at : {T : Type 0} → (key : ℕ) → (t : ℤ) → LiveSpan T →
 is_at key t x = (x.key == key) && int_le x.since t && int_lt t x.until
 
 -- the values that are current under a key at a moment
-abbrev pub standing : {T : Type 0} → List (LiveSpan T) → (key : ℕ) → (t : ℤ) → List T
-standing live_spans key t = map_list (λ x. x.what) (filter (is_at key t) live_spans)
+abbrev pub values_under_key : {T : Type 0} → List (LiveSpan T) → (key : ℕ) → (t : ℤ) → List T
+values_under_key live_spans key t = map_list (λ x. x.what) (filter (is_at key t) live_spans)
 
 -- for each key and moment, the values that are current together are sound
 abbrev pub AreSound : {T : Type 0} → (List T → Bool) → List (LiveSpan T) → Type 0
-AreSound is_sound live_spans = (key : ℕ) (t : ℤ) → is_sound (standing live_spans key t) ≡ true
+AreSound is_sound live_spans = (key : ℕ) (t : ℤ) → is_sound (values_under_key live_spans key t) ≡ true

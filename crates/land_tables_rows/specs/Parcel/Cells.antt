@@ -4,7 +4,7 @@ use Rattle.land_core.specs.Numbers.{is_number}
 use Rattle.land_core.specs.Texts.{is_label}
 use Rattle.land_core.specs.declared.parcel.ParcelRecord.{ParcelRecord}
 use Rattle.land_shape.specs.Outline.{IsOutline}
-use Rattle.land_shape.specs.Printed.{printed}
+use Rattle.land_shape.specs.Printed.{polygon_text}
 use Rattle.land_tables_rows.specs.Cells.Texts.{is_storable}
 use Rattle.land_tables_rows.specs.declared.parcel.cells.ParcelCells.{ParcelCells}
 use Rattle.land_tables_schema.specs.Rows.Parcel.{ParcelRow}
@@ -16,7 +16,7 @@ parcel_row_of e =
       number = e.0;
       unit = e.1.unit;
       label = e.1.label;
-      outline = printed e.1.outline;
+      outline = polygon_text e.1.outline;
       source = e.1.source;
     }
 

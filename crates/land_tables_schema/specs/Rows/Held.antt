@@ -54,8 +54,9 @@ abbrev pub new_rows : Rows
 new_rows = record {
   editions = v2_edition ∷ [];
   moments = record { stamp = pos 0; next = 2 } ∷ [];
-  parties = opened_version (record { number = 1; name = codes "Land Office"; kind = codes "nonNaturalPerson" }) (pos 0)
-      ∷ [];
+  parties =
+      opened_version (record { number = 1; name = codes "Land Office"; kind = codes "nonNaturalPerson" })
+      (pos 0) ∷ [];
   roles = opened_version (record { party = 1; role = codes "stateAdministrator" }) (pos 0) ∷ [];
   members = [];
   units = [];

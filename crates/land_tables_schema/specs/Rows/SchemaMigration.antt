@@ -1,9 +1,9 @@
 -- The migration from schema version 1 to version 2.
 use Rattle.std.specs.Prelude.{◌≡◌, ◌≢◌, [], ◌∷◌}
 use Rattle.std.specs.List.{AllByRecursion}
-use Rattle.land_tables_schema.specs.Definitions.{made}
+use Rattle.land_tables_schema.specs.Definitions.{schema_after_statements}
 use Rattle.land_tables_schema.specs.Schemas.{IsSchemaV2, with_mandates, without_lookup_indexes}
-use Rattle.land_tables_schema.specs.Laws.{index_statements, raised}
+use Rattle.land_tables_schema.specs.Laws.{index_statements, migrated_schema}
 use Rattle.land_tables_schema.specs.Rows.Edition.{Edition, v2_edition, edition_row, v1_edition}
 use Rattle.land_tables_schema.specs.Rows.Forms.{KeepsOthers, Lists}
 use Rattle.land_tables_schema.specs.Tables as table
@@ -26,7 +26,7 @@ pub record CreatesMandateTable (old new : Database) : Type 0 where
 
 -- the plain indexes are created by their statements
 pub record CreatesLookupIndexes (old new : Database) : Type 0 where
-  pub schema : new.schema ≡ made old.schema index_statements
+  pub schema : new.schema ≡ schema_after_statements old.schema index_statements
   pub has_tables : IsSchemaV2 new.schema
   pub kept : KeepsRows land_tables old.trees new.trees
 
@@ -40,7 +40,7 @@ pub record Rewrites (was is : Edition) (old new : Database) : Type 0 where
 -- Schema version 1 becomes version 2: there are no mandates, `edition` has version 2, and all other rows are
 -- unchanged.
 pub record Migrates (old new : Database) : Type 0 where
-  pub schema : new.schema ≡ raised old.schema
+  pub schema : new.schema ≡ migrated_schema old.schema
   pub has_tables : IsSchemaV2 new.schema
   pub edition : Lists table.edition edition_row old.trees (v1_edition ∷ [])
       → Lists table.edition edition_row new.trees (v2_edition ∷ [])

@@ -5,7 +5,7 @@ use Rattle.json.specs.Token as token
 use Rattle.json.specs.Tree.{json_tokens}
 use Rattle.json.specs.Written.{Written}
 use Rattle.land_shape.specs.Place.{Place}
-use Rattle.land_shape.specs.Printed.{printed}
+use Rattle.land_shape.specs.Printed.{polygon_text}
 use Rattle.land_wire_json.specs.declared.texts.fields.Field.{Field}
 use Rattle.land_wire_json.specs.declared.texts.fields.MemberValue.{MemberValue}
 use Rattle.land_wire_json.specs.declared.texts.fields.MemberValue.TheVariants as shown
@@ -23,7 +23,7 @@ value_data (shown.Moment stamp) = number (of_integer stamp)
 value_data (shown.Truth it) = boolean it
 value_data (shown.Text text) = string text.now
 value_data (shown.Share share) = share_data share
-value_data (shown.Outline ring) = string (printed ring.now)
+value_data (shown.Outline ring) = string (polygon_text ring.now)
 value_data (shown.Numbers numbers) = numbers_data numbers.now
 value_data (shown.Members members) = members_data members.now
 value_data (shown.Roles roles) = roles_data roles.now
@@ -62,7 +62,8 @@ AddsValue r old new value = Adds r old new (json_tokens (outline value))
 -- a label and an outline in canonical form, under their names
 abbrev pub plan_tokens : List ℕ → List Place → List Token
 plan_tokens label ring =
-    member_tokens (codes "label") (string label) ++ member_tokens (codes "outline") (string (printed ring))
+    member_tokens (codes "label") (string label)
+    ++ member_tokens (codes "outline") (string (polygon_text ring))
 
 -- the name of a new unit under its name, if there is one
 abbrev pub unit_tokens : Option (List ℕ) → List Token

@@ -16,7 +16,7 @@ use Rattle.land_fraction.specs.Ratio.{Ratio, IsFraction}
 use Rattle.land_fraction.specs.Text.{text_of}
 use Rattle.land_shape.specs.Outline.{IsOutline}
 use Rattle.land_shape.specs.Place.{Place}
-use Rattle.land_shape.specs.Printed.{printed}
+use Rattle.land_shape.specs.Printed.{polygon_text}
 use Rattle.land_wire_json.specs.Texts.Exact.{is_exact}
 use Rattle.land_wire_json.specs.Texts.Limits.{IsContentWithin, IsObjectWithin}
 use Rattle.land_wire_json.specs.Texts.Mutations.{content_text, content_text_by_kind, mutation_text}
@@ -50,7 +50,7 @@ ShareTexts = (share : Ratio) → IsFraction share → share_text share ≡ quote
 
 -- the text of an outline is its canonical form in quotation marks
 abbrev pub OutlineTexts : Type 0
-OutlineTexts = (ring : List Place) → IsOutline ring → outline_text ring ≡ quoted_word (printed ring)
+OutlineTexts = (ring : List Place) → IsOutline ring → outline_text ring ≡ quoted_word (polygon_text ring)
 
 -- the text of a unit; its name is a JSON string
 abbrev pub UnitTexts : Type 0

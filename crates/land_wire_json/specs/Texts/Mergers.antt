@@ -1,7 +1,7 @@
 -- Contents of mergers in JSON.
 use Rattle.std.specs.Prelude.{ℕ, List, ◌++◌, map, codes, decimal}
 use Rattle.land_core.specs.declared.merger.Merger.{Merger}
-use Rattle.land_shape.specs.Printed.{printed}
+use Rattle.land_shape.specs.Printed.{polygon_text}
 use Rattle.land_wire_json.specs.Texts.Values.{number_data, numbers_data, outline_text, string_text}
 use Rattle.land_wire_json.specs.Texts.Values.{with_commas}
 use Rattle.serde_json.specs.Data.{Data, string, object, no_members, member}
@@ -12,7 +12,7 @@ abbrev pub merger_data : Merger → Data
 merger_data it =
     object (member (codes "label") (string it.label)
     (member (codes "others") (numbers_data it.others)
-    (member (codes "outline") (string (printed it.outline))
+    (member (codes "outline") (string (polygon_text it.outline))
     (member (codes "parcels") (numbers_data it.parcels)
     (member (codes "unit") (number_data it.unit) no_members)))))
 

@@ -2,7 +2,7 @@
 use Rattle.std.specs.Prelude.{ℕ, List, ◌++◌, codes, decimal}
 use Rattle.land_core.specs.declared.parcel.Parcel.{Parcel}
 use Rattle.land_shape.specs.Outline.{doubled_area}
-use Rattle.land_shape.specs.Printed.{printed}
+use Rattle.land_shape.specs.Printed.{polygon_text}
 use Rattle.land_wire_json.specs.Texts.Values.{number_data, outline_text, string_text}
 use Rattle.serde_json.specs.Data.{Data, string, object, no_members, member}
 
@@ -12,7 +12,7 @@ parcel_data parcel =
     object (member (codes "doubled") (number_data (doubled_area parcel.outline))
     (member (codes "label") (string parcel.label)
     (member (codes "number") (number_data parcel.number)
-    (member (codes "outline") (string (printed parcel.outline))
+    (member (codes "outline") (string (polygon_text parcel.outline))
     (member (codes "source") (number_data parcel.source)
     (member (codes "unit") (number_data parcel.unit) no_members))))))
 

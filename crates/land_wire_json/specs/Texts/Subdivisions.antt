@@ -3,7 +3,7 @@ use Rattle.std.specs.Prelude.{ℕ, List, [], ◌++◌, map, codes, decimal, Opti
 use Rattle.land_core.specs.declared.act.NewParcel.{NewParcel}
 use Rattle.land_core.specs.declared.subdivision.Part.{Part}
 use Rattle.land_core.specs.declared.subdivision.Subdivision.{Subdivision}
-use Rattle.land_shape.specs.Printed.{printed}
+use Rattle.land_shape.specs.Printed.{polygon_text}
 use Rattle.land_wire_json.specs.Texts.Values.{number_data, outline_text, string_text, with_commas}
 use Rattle.serde_json.specs.Data.{Data, string, array, object, Members, no_members, member}
 use Rattle.serde_json.specs.View.{items_of}
@@ -12,7 +12,7 @@ use Rattle.serde_json.specs.View.{items_of}
 abbrev pub first_data : NewParcel → Data
 first_data it =
     object (member (codes "label") (string it.label)
-    (member (codes "outline") (string (printed it.outline)) no_members))
+    (member (codes "outline") (string (polygon_text it.outline)) no_members))
 
 -- the name of a new unit; a part that remains in the unit has no such member
 abbrev pub name_members : Option (List ℕ) → Members
@@ -22,7 +22,7 @@ name_members (Some name) = member (codes "unit") (string name) no_members
 abbrev pub part_data : Part → Data
 part_data part =
     object (member (codes "label") (string part.label)
-    (member (codes "outline") (string (printed part.outline)) (name_members part.unit)))
+    (member (codes "outline") (string (polygon_text part.outline)) (name_members part.unit)))
 
 abbrev pub parts_data : List Part → Data
 parts_data parts = array (items_of (map part_data parts))

@@ -3,7 +3,7 @@ use Rattle.std.specs.Prelude.{ℕ, Bool, true, false, List, [], ◌∷◌, ◌++
 use Rattle.land_fraction.specs.Ratio.{Ratio}
 use Rattle.land_fraction.specs.Text.{text_of}
 use Rattle.land_shape.specs.Place.{Place}
-use Rattle.land_shape.specs.Printed.{printed}
+use Rattle.land_shape.specs.Printed.{polygon_text}
 use Rattle.serde_json.specs.Data.{Data, unsigned, number, string, array, object, no_members, member}
 use Rattle.serde_json.specs.View.{items_of}
 use Rattle.serde_json.specs.Written.{compact_text}
@@ -42,7 +42,7 @@ share_text share = compact_text (share_data share)
 
 -- an outline as a JSON string
 abbrev pub outline_text : List Place → List ℕ
-outline_text ring = compact_text (string (printed ring))
+outline_text ring = compact_text (string (polygon_text ring))
 
 -- a text of the register as a JSON string, with its quotation marks
 abbrev pub string_text : List ℕ → List ℕ

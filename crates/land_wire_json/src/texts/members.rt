@@ -1,5 +1,5 @@
 //! Writes members of objects, each a name and a value, and lists, with the kit's JSON writer.
-ghost use Rattle.land_shape.specs.Printed.{printed};
+ghost use Rattle.land_shape.specs.Printed.{polygon_text};
 ghost use Rattle.land_wire_json.specs.Texts.Fields.{Adds, AddsValue, member_tokens, plan_tokens, unit_tokens};
 ghost use Rattle.land_wire_json.specs.Texts.Parties.{member_data, members_data, roles_data};
 ghost use Rattle.land_wire_json.specs.Texts.Subdivisions.{first_data, part_data, parts_data};
@@ -39,7 +39,7 @@ pub(crate) fn write_share(
 
 /// Writes an outline in canonical form.
 pub(crate) fn write_outline(out: &mut Writer, outline: &Ring) -> Result<(), AllocError>
-    ensures { AddsValue result out.old out.new (string (printed outline.now)) }
+    ensures { AddsValue result out.old out.new (string (polygon_text outline.now)) }
 {
     let text = outline.write_wkt()?;
     out.string(text.as_str())

@@ -125,7 +125,7 @@ const NOTHING: &[Row] = &[
 
 /// Returns the number of rows before the first with an unexpected list, for the empty register.
 fn rows_of_nothing(alloc: Global, rows: &[Row]) -> Result<usize, Stop> {
-    let at = Register::nothing(alloc);
+    let at = Register::empty(alloc);
     shown_rows(alloc, &at, rows)
 }
 

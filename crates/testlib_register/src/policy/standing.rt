@@ -125,7 +125,7 @@ fn are_read_apart(register: &Register, nothing: &Register) -> bool {
 }
 
 fn is_apart_from_nothing(alloc: Global, register: &Register) -> bool {
-    let nothing = Register::nothing(alloc);
+    let nothing = Register::empty(alloc);
     are_read_apart(register, &nothing)
 }
 

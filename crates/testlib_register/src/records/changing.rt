@@ -124,7 +124,7 @@ fn make_by(
 }
 
 fn change(alloc: Global, register: &mut Register, it: &Changing) -> Result<Made, Stop> {
-    let mut change = Change::nothing(alloc, it.next);
+    let mut change = Change::empty(alloc, it.next);
     make_by(alloc, register, &mut change, it.facts)
 }
 

@@ -58,7 +58,7 @@ fn held_after(alloc: Global, register: &mut Register, change: &Change) -> Result
 
 /// Does the same with the change of these facts.
 fn change_by(alloc: Global, register: &mut Register, facts: &[Fact]) -> Result<Held, Stop> {
-    let mut change = Change::nothing(alloc, 6);
+    let mut change = Change::empty(alloc, 6);
     change_all(alloc, &mut change, facts)?;
     held_after(alloc, register, &change)
 }

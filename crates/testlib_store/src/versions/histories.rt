@@ -17,7 +17,7 @@ pub const OPEN: i64 = 4_102_444_800_000;
 pub struct Span(pub Table, pub &'static [(usize, Cell)], pub i64, pub i64);
 
 /// Returns an empty history.
-pub fn nothing(alloc: Global) -> History {
+pub fn empty_history(alloc: Global) -> History {
     History {
         parties: Sequence::new(alloc),
         roles: Sequence::new(alloc),
@@ -86,7 +86,7 @@ pub fn history_of<S: Alter>(
     conn: &mut Connection<S>,
     spans: &[Span],
 ) -> Result<History, Error> {
-    let mut history = nothing(alloc);
+    let mut history = empty_history(alloc);
     for span in spans {
         add(alloc, conn, &mut history, span)?;
     }

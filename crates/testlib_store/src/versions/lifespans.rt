@@ -1,6 +1,6 @@
 //! The register at a moment, and valid lifespans.
 use crate::versions::cell::Cell;
-use crate::versions::histories::{OPEN, Span, add, history_of, nothing};
+use crate::versions::histories::{OPEN, Span, add, empty_history, history_of};
 use crate::versions::table::Table;
 use land_core::mandates::Mandate;
 use land_core::member::Members;
@@ -173,7 +173,7 @@ fn may_have_lifespans<S: Alter>(
     table: Table,
     lives: &[(i64, i64)],
 ) -> Result<bool, Error> {
-    let mut history = nothing(alloc);
+    let mut history = empty_history(alloc);
     for (since, until) in lives {
         add(alloc, conn, &mut history, &Span(table, &[], *since, *until))?;
     }

@@ -5,7 +5,7 @@ use Rattle.land_keep.specs.Machine.{now_of}
 use Rattle.land_keep.specs.Timeline.{register_at}
 use Rattle.land_sheet.specs.Extracts.{extract_of, list_reply}
 use Rattle.land_sheet.specs.Extracts.Writing.{IsExtracted}
-use Rattle.land_tables.specs.TablesState.{held}
+use Rattle.land_tables.specs.TablesState.{held_timeline}
 use Rattle.land_commands.proofs.extract_command.extract_tables.Goals as goal
 
 -- the tables returned are those of the keeper
@@ -16,7 +16,7 @@ returns g c =
     let wanted = c.args.wanted in
     let old = g.O.Write.contents c.args.output.now in
     let new = g.O.Write.contents call.new.writer in
-    let tl = held S c.new-keeper.result in
+    let tl = held_timeline S c.new-keeper.result in
     let alike : to_z w64 (of_z w64 wanted.clock) ≡ wanted.clock = search rules in
     subst₂ (λ from to. ExtractsTables S from wanted to old new call.result) c.new-keeper.ensures (sym c.into_tables.ensures) (record {
       was = call.ensures.was;

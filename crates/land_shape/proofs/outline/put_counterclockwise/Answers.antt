@@ -2,10 +2,10 @@ use Rattle.std.proofs.Common.{◌≡◌, ◌-◌, length, sym, ap, ◌∙◌, re
 use Rattle.std.proofs.lemmas.Int.{ints}
 use lib.IntN.{pos, ◌-ℤ◌}
 use lib.Signed.{◌<ℤ◌}
-use Rattle.land_shape.specs.Outline.{turned}
+use Rattle.land_shape.specs.Outline.{reversed_ring}
 use Rattle.land_shape.specs.Place.{Place, area_of, ring_edges}
 use Rattle.land_shape.specs.Simple.{places}
-use Rattle.land_shape.proofs.OutlineLemmas.{turned_part, area-turned, put_left}
+use Rattle.land_shape.proofs.OutlineLemmas.{turned_part, area-reversed_ring, put_left}
 use Rattle.land_shape.proofs.outline.put_counterclockwise.Goals as goal
 
 pub overflow_sub-result : goal.overflow_sub-result
@@ -22,7 +22,7 @@ pub returns-then-area-lt0-clause-area : goal.returns-then-area-lt0-clause-area
 returns-then-area-lt0-clause-area c =
     let ps = c.args.points.now in
     let e = c.signed_area-area.ensures.value in let b = c.signed_area-area.ensures.bounded in let f = c.if-area-lt0.true in
-    let turn : area_of (ring_edges (turned (places ps))) ≡ pos 0 -ℤ area_of (ring_edges (places ps)) = area-turned (places ps) in
+    let turn : area_of (ring_edges (reversed_ring (places ps))) ≡ pos 0 -ℤ area_of (ring_edges (places ps)) = area-reversed_ring (places ps) in
     let same = ap (λ (s : List Place). area_of (ring_edges s))
     (turned_part ps c.reverse.new.self (length ps - 1) c.requires.some refl c.reverse.ensures.after) in
     omega (arith, ints, e, turn, same)

@@ -13,7 +13,7 @@ pub returns-then-at-lt0-clause-safe : goal.returns-then-at-lt0-clause-safe
 returns-then-at-lt0-clause-safe g c =
     let t : to_z w64 (of_z w64 c.args.at) ≡ c.args.at = search rules in
     let less : c.args.at <ℤ pos 0 = grind (arith, ints) in
-    read_nothing (state g.S.Store c.args.conn.now) c.args.at c.requires less c.nothing.result c.nothing.ensures
+    read_nothing (state g.S.Store c.args.conn.now) c.args.at c.requires less c.empty.result c.empty.ensures
 
 pub returns-clause-safe : goal.returns-clause-safe
 returns-clause-safe g c =

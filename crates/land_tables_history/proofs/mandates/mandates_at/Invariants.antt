@@ -2,9 +2,9 @@ use Rattle.std.proofs.Common.{◌≡◌, drop}
 use Rattle.std.specs.FinMap as map
 use Rattle.land_core.specs.Entries.{with_entries}
 use Rattle.land_core.specs.Grants.{set_entries}
-use Rattle.land_tables_history.specs.Standing.{standing}
+use Rattle.land_tables_history.specs.Standing.{current_values}
 use Rattle.land_tables_history.proofs.mandates.mandates_at.Given as goal
 
 -- the remaining mandates build the same result
 abbrev pub invariant-loop-version : goal.invariant-loop-version
-invariant-loop-version l = with_entries l.mandates (set_entries (standing l.fn.at (drop l.version-index l.versions))) ≡ with_entries map.empty (set_entries (standing l.fn.at l.versions))
+invariant-loop-version l = with_entries l.mandates (set_entries (current_values l.fn.at (drop l.version-index l.versions))) ≡ with_entries map.empty (set_entries (current_values l.fn.at l.versions))

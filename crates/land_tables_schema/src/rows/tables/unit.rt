@@ -34,7 +34,9 @@ pub fn begin<S: Alter>(
     requires has_tables { HasRegisterTables S.Store tx.old.conn.now }
     ensures same_reference { SameReference tx.old tx.new }
     ensures step { InTransaction S.Store result (InsertsVersion units
-        (opened_version (record { number = number; name = name.now; checked = checked }) since)) tx.old tx.new }
+        (opened_version (record { number = number; name = name.now; checked = checked }) since))
+        tx.old
+        tx.new }
 {
     tx.execute(
         BEGIN,

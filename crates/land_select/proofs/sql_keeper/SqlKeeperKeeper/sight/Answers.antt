@@ -11,15 +11,15 @@ use Rattle.land_select.specs.Cache.{IsCacheOf}
 use Rattle.land_select.specs.KnownRoles.{AreKnownIn}
 use Rattle.land_select_queries.specs.Joins.Sight.{HoldsNoMandateIf}
 use Rattle.land_tables.proofs.LookedAt.{look_moment}
-use Rattle.land_tables.specs.TablesState.{IsHonest, held}
+use Rattle.land_tables.specs.TablesState.{IsHonest, held_timeline}
 use Rattle.sqlite.specs.Held.{state}
 use Rattle.land_select.proofs.sql_keeper.SqlKeeperKeeper.sight.Goals as goal
 
 pub invariant_of-self : goal.invariant_of-self
 invariant_of-self g c live = (
-  subst (IsCacheOf (held g.S.Store c.execute.new.tables)) (sym c.forget.ensures) tt,
+  subst (IsCacheOf (held_timeline g.S.Store c.execute.new.tables)) (sym c.forget.ensures) tt,
   still_known (IsHonest g.S.Store c.self.inside.tables) (IsHonest g.S.Store c.execute.new.tables) c.self.inside.tables.is_closed c.execute.new.tables.is_closed c.execute.result
-      (held g.S.Store c.self.inside.tables) (held g.S.Store c.execute.new.tables) c.self.inside.known c.execute.ensures.closes c.execute.ensures.was c.execute.ensures.same (λ was. (c.self.invariant was).1) live,
+      (held_timeline g.S.Store c.self.inside.tables) (held_timeline g.S.Store c.execute.new.tables) c.self.inside.known c.execute.ensures.closes c.execute.ensures.was c.execute.ensures.same (λ was. (c.self.invariant was).1) live,
 )
 
 pub invariant_of-self-2 : goal.invariant_of-self-2
@@ -28,7 +28,7 @@ invariant_of-self-2 g c live =
     let caller = c.args.caller in
     let at = c.args.at in
     let it = c.in_ok-told.told in
-    let tl = held g.S.Store c.args.self.now in
+    let tl = held_timeline g.S.Store c.args.self.now in
     let is_latest = c.is_latest-latest.result in
     let holds_none = c.holds_no_mandate-holds_none.result in
     let t : to_z w64 (of_z w64 at) ≡ at = search rules in
@@ -38,15 +38,15 @@ invariant_of-self-2 g c live =
     let was : IsHonestAndOpen (IsHonest g.S.Store c.self.inside.tables) c.self.inside.tables.is_closed = (c.in_ok-told.ensures.was live.0, (opens c.self.inside.tables.is_closed c.execute.new.tables.is_closed it c.in_ok-told.ensures.closes).0) in
     let rising = rw c.self.view_is at (c.last.ensures.sound was).rising in
     let latest : is_latest ≡ int_le (last_stamp tl) at = rw (t, l, c.last.ensures.last was, c.self.view_is) at c.is_latest-latest.ensures in
-    let known = rw c.self.view_is at (c.holds_no_mandate-holds_none.ensures.known (last_register (held g.S.Store c.self.inside.tables)) (c.self.invariant was).1) in
+    let known = rw c.self.view_is at (c.holds_no_mandate-holds_none.ensures.known (last_register (held_timeline g.S.Store c.self.inside.tables)) (c.self.invariant was).1) in
     let given = none_then tl at is_latest holds_none caller.party rising (λ is. reaches (last_stamp tl) at (sym latest ∙ is)) c.holds_no_mandate-holds_none.ensures.latest known in
     let answer = rw (c.self.view_is, u) at (c.in_ok-told.ensures.value live.0) in
     let seen = sight_seen s caller holds_none c.args.kind at c.min.result (look_moment at c.min.result least) it answer given in
     let none = none_now tl at is_latest it.1 caller.party rising (λ is. reaches (last_stamp tl) at (sym latest ∙ is)) seen.1 in
     let same = rw c.self.view_is at (c.in_ok-told.ensures.same live) in
     let still = subst (λ (tl : Timeline). AreKnownIn (last_register tl) c.self.inside.known) (sym (c.in_ok-told.ensures.same live)) (c.self.invariant was).1 in (
-      subst (IsCacheOf (held g.S.Store c.execute.new.tables)) (sym c.forget.ensures) tt,
-      c.remember_no_mandate.ensures (last_register (held g.S.Store c.execute.new.tables)) still
+      subst (IsCacheOf (held_timeline g.S.Store c.execute.new.tables)) (sym c.forget.ensures) tt,
+      c.remember_no_mandate.ensures (last_register (held_timeline g.S.Store c.execute.new.tables)) still
           (subst (λ (tl : Timeline). is_latest ≡ true → HoldsNoMandateIf it.1 (last_register tl) caller.party) (sym same) none),
     )
 
@@ -56,7 +56,7 @@ returns-clause-value g c clean =
     let caller = c.args.caller in
     let at = c.args.at in
     let it = c.in_ok-told.told in
-    let tl = held g.S.Store c.args.self.now in
+    let tl = held_timeline g.S.Store c.args.self.now in
     let is_latest = c.is_latest-latest.result in
     let holds_none = c.holds_no_mandate-holds_none.result in
     let t : to_z w64 (of_z w64 at) ≡ at = search rules in
@@ -66,7 +66,7 @@ returns-clause-value g c clean =
     let was : IsHonestAndOpen (IsHonest g.S.Store c.self.inside.tables) c.self.inside.tables.is_closed = (c.in_ok-told.ensures.was clean, (opens c.self.inside.tables.is_closed c.execute.new.tables.is_closed it c.in_ok-told.ensures.closes).0) in
     let rising = rw c.self.view_is at (c.last.ensures.sound was).rising in
     let latest : is_latest ≡ int_le (last_stamp tl) at = rw (t, l, c.last.ensures.last was, c.self.view_is) at c.is_latest-latest.ensures in
-    let known = rw c.self.view_is at (c.holds_no_mandate-holds_none.ensures.known (last_register (held g.S.Store c.self.inside.tables)) (c.self.invariant was).1) in
+    let known = rw c.self.view_is at (c.holds_no_mandate-holds_none.ensures.known (last_register (held_timeline g.S.Store c.self.inside.tables)) (c.self.invariant was).1) in
     let given = none_then tl at is_latest holds_none caller.party rising (λ is. reaches (last_stamp tl) at (sym latest ∙ is)) c.holds_no_mandate-holds_none.ensures.latest known in
     let answer = rw (c.self.view_is, u) at (c.in_ok-told.ensures.value clean) in
     let seen = sight_seen s caller holds_none c.args.kind at c.min.result (look_moment at c.min.result least) it answer given in

@@ -2,7 +2,7 @@ use Rattle.std.proofs.Common.{false, subst, sym}
 use Rattle.land_select.proofs.KnownRoles.{still_known}
 use Rattle.land_select.proofs.Seen.{slice_stands}
 use Rattle.land_select.specs.Cache.{IsCacheOf}
-use Rattle.land_tables.specs.TablesState.{IsHonest, held}
+use Rattle.land_tables.specs.TablesState.{IsHonest, held_timeline}
 use Rattle.sqlite.specs.Held.{state}
 use Rattle.land_select.proofs.sql_keeper.SqlKeeperKeeper.slice.Goals as goal
 
@@ -13,7 +13,7 @@ returns-clause-value g c clean =
 
 pub invariant_of-self : goal.invariant_of-self
 invariant_of-self g c live = (
-  subst (IsCacheOf (held g.S.Store c.execute.new.tables)) (sym c.forget.ensures) tt,
+  subst (IsCacheOf (held_timeline g.S.Store c.execute.new.tables)) (sym c.forget.ensures) tt,
   still_known (IsHonest g.S.Store c.self.inside.tables) (IsHonest g.S.Store c.execute.new.tables) c.self.inside.tables.is_closed c.execute.new.tables.is_closed c.execute.result
-      (held g.S.Store c.self.inside.tables) (held g.S.Store c.execute.new.tables) c.self.inside.known c.execute.ensures.closes c.execute.ensures.was c.execute.ensures.same (λ was. (c.self.invariant was).1) live,
+      (held_timeline g.S.Store c.self.inside.tables) (held_timeline g.S.Store c.execute.new.tables) c.self.inside.known c.execute.ensures.closes c.execute.ensures.was c.execute.ensures.same (λ was. (c.self.invariant was).1) live,
 )

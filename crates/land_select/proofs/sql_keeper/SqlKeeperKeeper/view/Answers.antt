@@ -11,7 +11,7 @@ use Rattle.land_select.proofs.Viewed.{renamed}
 use Rattle.land_select.specs.Cache.{IsValueOf, IsCacheOf}
 use Rattle.land_select.specs.Views.{named_at}
 use Rattle.land_tables.proofs.LookedAt.{look_moment}
-use Rattle.land_tables.specs.TablesState.{IsHonest, held}
+use Rattle.land_tables.specs.TablesState.{IsHonest, held_timeline}
 use Rattle.sqlite.specs.Held.{state}
 use Rattle.land_select.proofs.sql_keeper.SqlKeeperKeeper.view.Goals as goal
 
@@ -25,17 +25,17 @@ returns-clause-value g c clean =
     let least : c.min-moment.result ≡ int_min c.args.at last_moment = search rules in
     let was = c.in_ok-shown.ensures.was clean in
     let closed = (opens c.self.inside.tables.is_closed c.execute.new.tables.is_closed c.in_ok-shown.shown c.in_ok-shown.ensures.closes).0 in
-    let tl = held g.S.Store c.self.inside.tables in
+    let tl = held_timeline g.S.Store c.self.inside.tables in
     let kept = subst (IsCacheOf tl) (sym c.take-cache.ensures.value) (c.self.invariant (was, closed)).0 in
     let given = rw (c.self.view_is, t) at (c.take_unit-found.ensures tl kept) in
     let answer = rw (c.self.view_is, u) at (c.in_ok-shown.ensures.value clean) in
     let found = given_stands (λ r. IsValueOf r caller kind.Unit unit c.take_unit-found.result) (λ r. view_at r caller unit c.min-moment.result) s c.args.at c.min-moment.result (look_moment c.args.at c.min-moment.result least) c.in_ok-shown.shown answer given in
     let named = rw t at c.with_moment.ensures in
-    named ∙ ap (named_at c.args.at) found ∙ renamed (register_at (held g.S.Store c.args.self.now) c.args.at) caller unit c.args.at c.min-moment.result
+    named ∙ ap (named_at c.args.at) found ∙ renamed (register_at (held_timeline g.S.Store c.args.self.now) c.args.at) caller unit c.args.at c.min-moment.result
 
 pub invariant_of-self : goal.invariant_of-self
 invariant_of-self g c live = (
-  subst (IsCacheOf (held g.S.Store c.execute.new.tables)) (sym c.take-cache.ensures.after) tt,
+  subst (IsCacheOf (held_timeline g.S.Store c.execute.new.tables)) (sym c.take-cache.ensures.after) tt,
   still_known (IsHonest g.S.Store c.self.inside.tables) (IsHonest g.S.Store c.execute.new.tables) c.self.inside.tables.is_closed c.execute.new.tables.is_closed c.execute.result
-      (held g.S.Store c.self.inside.tables) (held g.S.Store c.execute.new.tables) c.self.inside.known c.execute.ensures.closes c.execute.ensures.was c.execute.ensures.same (λ was. (c.self.invariant was).1) live,
+      (held_timeline g.S.Store c.self.inside.tables) (held_timeline g.S.Store c.execute.new.tables) c.self.inside.known c.execute.ensures.closes c.execute.ensures.was c.execute.ensures.same (λ was. (c.self.invariant was).1) live,
 )

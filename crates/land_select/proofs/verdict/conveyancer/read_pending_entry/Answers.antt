@@ -30,7 +30,7 @@ returns-in_ok-is_pending-in-Some-clause-reads_only g c =
     let there = sym c.in-Some.is ∙ is moments h held r have stands in (
       subst (λ (now : Database). ReadsPart (λ r. has_pending_mutation_on r caller.party entry.unit) t now.trees c.in_ok-is_pending-in-Some.is_pending) same named moments h held r have stands
           ∙ ap (λ o. option_map_or (λ (e : RrrRecord). has_pending_mutation_on r caller.party e.unit) o false) there,
-      found_told r caller Rrr n _ _ c.cached_object.ensures (c.shown.ensures r there),
+      found_told r caller Rrr n _ _ c.cached_object.ensures (c.build_object.ensures r there),
     ))
 
 pub returns-in-None-clause-reads_only : goal.returns-in-None-clause-reads_only

@@ -30,7 +30,7 @@ returns-in_ok-shown-in-Some-clause-reads_only g c =
     let there = sym c.in-Some.is ∙ is moments h held r have stands in (
       subst (λ (now : Database). IsShownIfFound caller entry t now.trees c.in_ok-shown-in-Some.shown) same shown n (λ moments h held r have stands. sym c.in-Some.is ∙ is moments h held r have stands) moments h held r have stands
           ∙ ap (λ o. option_map_or (λ (e : RrrRecord). shows_entry (interest_at r caller e.unit) caller.party e) o false) there,
-      found_told r caller Rrr n _ _ c.cached_object.ensures (c.shown.ensures r there),
+      found_told r caller Rrr n _ _ c.cached_object.ensures (c.build_object.ensures r there),
     ))
 
 pub returns-in-None-clause-reads_only : goal.returns-in-None-clause-reads_only

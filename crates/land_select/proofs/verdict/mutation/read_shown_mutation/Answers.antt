@@ -28,7 +28,7 @@ returns-in_ok-shown-in-Some-clause-reads_only g c =
     let have = have_members c.soundness_by_number.ensures r premise in
     let there = sym c.in-Some.is ∙ is moments h held r have stands in (
       subst (λ (now : Database). ReadsPart (λ r. names_visible_unit r caller mutation) t now.trees c.in_ok-shown-in-Some.shown) same shown moments h held r have stands ∙ ap (λ o. option_map_or (names_visible_unit r caller) o false) there,
-      found_told r caller Mutation n _ _ c.cached_object.ensures (c.shown.ensures r there),
+      found_told r caller Mutation n _ _ c.cached_object.ensures (c.build_object.ensures r there),
     ))
 
 pub returns-in-None-clause-reads_only : goal.returns-in-None-clause-reads_only

@@ -1,7 +1,7 @@
 use Rattle.std.proofs.Common.{rules, ◌≡◌, to_z, of_z, w64}
 use Rattle.land_select_queries.proofs.Asked.{looks}
 use Rattle.land_select_queries.proofs.NumberQueries.{are_rows_of, join_of, query_of}
-use Rattle.land_select_queries.specs.Joins.Meaning.{given}
+use Rattle.land_select_queries.specs.Joins.Meaning.{query_parameters}
 use Rattle.land_select_queries.specs.Joins.Execution.{known_or_zero}
 use Rattle.land_select_queries.specs.Lookups.Numbers.{AreColumnRows}
 use Rattle.land_select_queries.specs.Lookups.Texts.{column_text_of}
@@ -15,5 +15,5 @@ returns-clause-reads_only g c =
     let l = c.args.record_lookup in
     let when : to_z w64 (of_z w64 c.args.at) ≡ c.args.at = search rules in
     let e = rw (c.text_of.ensures, c.of_number.ensures, c.known_or_zero.ensures, c.of_moment.ensures, when) at c.query_all.ensures in
-    looks (column_text_of l) (query_of l) (join_of l).asks (given (known_or_zero c.args.number) c.args.at) old new (λ rows. rows.items) c.query_all.result
+    looks (column_text_of l) (query_of l) (join_of l).asks (query_parameters (known_or_zero c.args.number) c.args.at) old new (λ rows. rows.items) c.query_all.result
     (AreColumnRows l c.args.number c.args.at old.now.trees) (are_rows_of l c.args.number c.args.at old.now.trees) c.requires.has_tables e.ok e.err e.survives

@@ -5,7 +5,7 @@ use Rattle.land_keep.specs.Machine.{written_timeline}
 use Rattle.land_keep.specs.declared.store_fault.StoreFault.TheVariants.{Store}
 use Rattle.land_tables.proofs.Written.{crash_written, leaves_either, rests, text_written, timeline_written, whole_unwritten, whole_written}
 use Rattle.land_tables.specs.Calls.{IsSafeWrite, MayWriteChange}
-use Rattle.land_tables.specs.TablesState.{IsTablesState, TablesState, held}
+use Rattle.land_tables.specs.TablesState.{IsTablesState, TablesState, held_timeline}
 use Rattle.land_tables_rows.specs.Recording.Whole.{WritesChange}
 use Rattle.sqlite.specs.Held.{state}
 use Rattle.land_tables.proofs.tables.Tables.write.Goals as goal
@@ -82,14 +82,14 @@ pub returns-in-Ok-clause-crash : goal.returns-in-Ok-clause-crash
 returns-in-Ok-clause-crash g c =
     let S = g.S.Store in
     let before = c.args.self.now in
-    leaves_either S before (record before { conn = c.record.new.conn }) (written_timeline (held S before) c.args.change.now c.args.stamp)
+    leaves_either S before (record before { conn = c.record.new.conn }) (written_timeline (held_timeline S before) c.args.change.now c.args.stamp)
     (λ db stays may. g.met.S.Store.settled before.conn.store db stays may) (subst (IsTablesState S) c.self.view_is c.self.invariant) (returns-in-Ok-clause-survives g c)
 
 pub returns-in-Err-clause-crash : goal.returns-in-Err-clause-crash
 returns-in-Err-clause-crash g c =
     let S = g.S.Store in
     let before = c.args.self.now in
-    leaves_either S before (record before { conn = c.record.new.conn }) (written_timeline (held S before) c.args.change.now c.args.stamp)
+    leaves_either S before (record before { conn = c.record.new.conn }) (written_timeline (held_timeline S before) c.args.change.now c.args.stamp)
     (λ db stays may. g.met.S.Store.settled before.conn.store db stays may) (subst (IsTablesState S) c.self.view_is c.self.invariant) (returns-in-Err-clause-survives g c)
 
 pub returns-in-Ok-clause-rests : goal.returns-in-Ok-clause-rests

@@ -1,7 +1,7 @@
 use Rattle.std.proofs.Common.{◌≡◌, ◌++◌}
 use Rattle.std.specs.Prelude.{map as map_list}
 use Rattle.land_core.specs.Members.{member_of, members_in}
-use Rattle.land_core.proofs.member.listed.Given as goal
+use Rattle.land_core.proofs.member.members_in.Given as goal
 
 -- the items collected, followed by the remaining ones, are the result
 abbrev pub invariant-loop-party : goal.invariant-loop-party

@@ -1,7 +1,7 @@
 //! Records as objects of replies.
 ghost use Rattle.std.specs.FinMap as map;
 ghost use Rattle.std.specs.Prelude.{◌≡◌, IfOk};
-ghost use Rattle.land_core.specs.Register.{nothing, object_at};
+ghost use Rattle.land_core.specs.Register.{empty_register, object_at};
 ghost use Rattle.land_core.specs.declared.kind.Kind.{Kind as Which};
 ghost use Rattle.land_core.specs.declared.kind.Kind.TheVariants as kinds;
 ghost use Rattle.land_core.specs.declared.register.Register.{Register as Whole};
@@ -24,7 +24,7 @@ use land_tables_rows::reading::from_row::FromRow;
 use std::alloc::{AllocError, Global};
 
 /// A record type whose table has all fields of the object.
-pub trait Shown: Numbered
+pub trait ObjectRecord: Numbered
 where
     Version<(u64, Self)>: FromRow,
 {
@@ -32,7 +32,7 @@ where
     ghost kind: { Which };
 
     /// Builds the object of a number from its record, if it exists.
-    fn shown(number: u64, found: Option<Self>) -> Option<Object>
+    fn build_object(number: u64, found: Option<Self>) -> Option<Object>
         ensures { (r : Whole) → found ≡ map.get (Self.part r) number → result ≡ object_at r kind number };
 }
 
@@ -45,22 +45,26 @@ pub(crate) fn party_object(
     members: Records<Members>,
 ) -> Result<Option<Object>, AllocError>
     ensures { IfOk result (λ it. it ≡ object_at
-        (record nothing { parties = map.insert map.empty number shown; roles = roles; members = members })
+        (record empty_register {
+          parties = map.insert map.empty number shown;
+          roles = roles;
+          members = members;
+        })
         kinds.Party number) }
 {
     let mut parties = Records::new(alloc);
     parties.insert(number, shown)?;
-    let mut register = Register::nothing(alloc);
+    let mut register = Register::empty(alloc);
     register.parties = parties;
     register.roles = roles;
     register.members = members;
     register.object(alloc, Kind::Party, number)
 }
 
-impl Shown for UnitRecord {
+impl ObjectRecord for UnitRecord {
     ghost kind = { kinds.Unit };
 
-    fn shown(number: u64, found: Option<UnitRecord>) -> Option<Object>
+    fn build_object(number: u64, found: Option<UnitRecord>) -> Option<Object>
         ensures { (r : Whole) → found ≡ map.get r.units number → result ≡ object_at r kinds.Unit number }
     {
         match found {
@@ -74,10 +78,10 @@ impl Shown for UnitRecord {
     }
 }
 
-impl Shown for ParcelRecord {
+impl ObjectRecord for ParcelRecord {
     ghost kind = { kinds.Parcel };
 
-    fn shown(number: u64, found: Option<ParcelRecord>) -> Option<Object>
+    fn build_object(number: u64, found: Option<ParcelRecord>) -> Option<Object>
         ensures { (r : Whole) → found ≡ map.get r.parcels number → result ≡ object_at r kinds.Parcel number }
     {
         match found {
@@ -100,10 +104,10 @@ impl Shown for ParcelRecord {
     }
 }
 
-impl Shown for RrrRecord {
+impl ObjectRecord for RrrRecord {
     ghost kind = { kinds.Rrr };
 
-    fn shown(number: u64, found: Option<RrrRecord>) -> Option<Object>
+    fn build_object(number: u64, found: Option<RrrRecord>) -> Option<Object>
         ensures { (r : Whole) → found ≡ map.get r.rrrs number → result ≡ object_at r kinds.Rrr number }
     {
         match found {
@@ -126,10 +130,10 @@ impl Shown for RrrRecord {
     }
 }
 
-impl Shown for SourceRecord {
+impl ObjectRecord for SourceRecord {
     ghost kind = { kinds.Source };
 
-    fn shown(number: u64, found: Option<SourceRecord>) -> Option<Object>
+    fn build_object(number: u64, found: Option<SourceRecord>) -> Option<Object>
         ensures { (r : Whole) → found ≡ map.get r.sources number → result ≡ object_at r kinds.Source number }
     {
         match found {
@@ -143,10 +147,10 @@ impl Shown for SourceRecord {
     }
 }
 
-impl Shown for MutationRecord {
+impl ObjectRecord for MutationRecord {
     ghost kind = { kinds.Mutation };
 
-    fn shown(number: u64, found: Option<MutationRecord>) -> Option<Object>
+    fn build_object(number: u64, found: Option<MutationRecord>) -> Option<Object>
         ensures { (r : Whole) → found ≡ map.get r.mutations number
             → result ≡ object_at r kinds.Mutation number }
     {
