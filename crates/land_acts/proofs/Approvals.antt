@@ -28,7 +28,7 @@ use Rattle.land_core.proofs.SoundRegisters.{refers, single_from, stands_from}
 use Rattle.land_core.specs.Changes.{NamesKeysOnce, after, no_change}
 use Rattle.land_core.specs.Contents.{is_well_formed_content}
 use Rattle.land_core.specs.Entries.{has}
-use Rattle.land_core.specs.Grants.{grant_of}
+use Rattle.land_core.specs.Grants.{grant_to}
 use Rattle.land_core.specs.Register.{has_single_party, holds}
 use Rattle.land_core.specs.Soundness.{IsSound, is_dangling_mutation}
 use Rattle.land_core.specs.declared.act.Decision.{Decision}
@@ -44,7 +44,7 @@ use Rattle.land_fraction.specs.Laws.{WholenessLaw}
 -- a party that holds a role exists
 pub caller_is_single : (r : Register) (caller : Caller) → IsSound r → holds r caller.party caller.role ≡ true → has_single_party r caller.party ≡ true
 caller_is_single r caller sound held =
-    single_from r (refers r (sound Reference)).grants (grant_of caller.party caller.role) (granted (map.get r.roles (grant_of caller.party caller.role)) held)
+    single_from r (refers r (sound Reference)).grants (grant_to caller.party caller.role) (granted (map.get r.roles (grant_to caller.party caller.role)) held)
   where
     granted : (o : Option (Unit {0})) → is_some o ≡ true → o ≡ Some tt
     granted None h = absurd (false≢true h)

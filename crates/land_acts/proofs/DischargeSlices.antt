@@ -6,7 +6,7 @@ use Rattle.std.specs.FinMap as map
 use Rattle.std.proofs.lemmas.Bool.{and_parts}
 use Rattle.land_acts.proofs.MortgageSlices.{AgreeOnUnit}
 use Rattle.land_acts.proofs.NumberTests.{at_kept}
-use Rattle.land_acts.specs.Mutations.Discharging.{discharge_change, discharge_refusals, has_entry_in, is_mortgage_at}
+use Rattle.land_acts.specs.Mutations.Discharging.{discharge_change, discharge_refusals, is_entry_of_unit, is_mortgage_at}
 use Rattle.land_acts.specs.Mutations.Planning.{first_refusal_of}
 use Rattle.land_acts.specs.declared.mutations.refusal.Refusal.{Refusal}
 use Rattle.land_acts.specs.declared.mutations.refusal.Refusal.TheVariants.{NoSuchUnit, NoSuchRight, NotMortgage, ClockOut}
@@ -20,7 +20,7 @@ use Rattle.land_core.specs.declared.rrr.RrrRecord.{RrrRecord}
 abbrev has_mortgage_in : Register → (unit number : ℕ) → Bool
 has_mortgage_in r unit n = option_map_or (λ e. nat_eq e.unit unit && is_some (rank_of e.class)) (map.get r.rrrs n) false
 
-mortgage_in : (r : Register) (unit n : ℕ) → has_mortgage_in r unit n ≡ (has_entry_in r unit n && is_mortgage_at r n)
+mortgage_in : (r : Register) (unit n : ℕ) → has_mortgage_in r unit n ≡ (is_entry_of_unit r unit n && is_mortgage_at r n)
 mortgage_in r unit n = of (map.get r.rrrs n)
   where
     of : (o : Option RrrRecord) → option_map_or (λ e. nat_eq e.unit unit && is_some (rank_of e.class)) o false ≡ (option_map_or (λ e. nat_eq e.unit unit) o false && option_map_or (λ e. is_some (rank_of e.class)) o false)
@@ -34,7 +34,7 @@ second_line first second lines true c d same = ap (λ x. first_refusal_of ((seco
 second_line first second lines false c d same = refl
 
 module _ (s r : Register) (it : Discharge) (agree : AgreeOnUnit s r it.unit) where
-  entry_agrees : has_entry_in s it.unit it.mortgage ≡ has_entry_in r it.unit it.mortgage
+  entry_agrees : is_entry_of_unit s it.unit it.mortgage ≡ is_entry_of_unit r it.unit it.mortgage
   entry_agrees =
       ap (λ m. option_map_or (λ e. nat_eq e.unit it.unit) (map.get m it.mortgage) false) agree.entries
       ∙ at_kept r.rrrs agree.kept (λ e. nat_eq e.unit it.unit) it.mortgage (λ e here. agree.keeps it.mortgage e here)
@@ -49,15 +49,15 @@ module _ (s r : Register) (it : Discharge) (agree : AgreeOnUnit s r it.unit) whe
   -- applies then
   pub discharge_refusal_agrees : (stamp : Option ℤ) → first_refusal_of (discharge_refusals s it stamp) ≡ first_refusal_of (discharge_refusals r it stamp)
   discharge_refusal_agrees stamp =
-      ap (λ b. first_refusal_of ((NoSuchUnit, not b) ∷ (NoSuchRight, not (has_entry_in s it.unit it.mortgage)) ∷ (NotMortgage, not (is_mortgage_at s it.mortgage)) ∷ last)) agree.stands
+      ap (λ b. first_refusal_of ((NoSuchUnit, not b) ∷ (NoSuchRight, not (is_entry_of_unit s it.unit it.mortgage)) ∷ (NotMortgage, not (is_mortgage_at s it.mortgage)) ∷ last)) agree.stands
       ∙ ap (λ b. first_refusal_of ((NoSuchUnit, not (has r.units it.unit)) ∷ (NoSuchRight, not b) ∷ (NotMortgage, not (is_mortgage_at s it.mortgage)) ∷ last)) entry_agrees
       ∙ ap (cond (not (has r.units it.unit)) (Some NoSuchUnit))
-      (second_line NoSuchRight NotMortgage last (has_entry_in r it.unit it.mortgage) (is_mortgage_at s it.mortgage) (is_mortgage_at r it.mortgage) same)
+      (second_line NoSuchRight NotMortgage last (is_entry_of_unit r it.unit it.mortgage) (is_mortgage_at s it.mortgage) (is_mortgage_at r it.mortgage) same)
     where
       last : List (Refusal × Bool)
       last = (ClockOut, is_none stamp) ∷ []
 
-      same : (has_entry_in r it.unit it.mortgage && is_mortgage_at s it.mortgage) ≡ (has_entry_in r it.unit it.mortgage && is_mortgage_at r it.mortgage)
+      same : (is_entry_of_unit r it.unit it.mortgage && is_mortgage_at s it.mortgage) ≡ (is_entry_of_unit r it.unit it.mortgage && is_mortgage_at r it.mortgage)
       same =
           ap (λ b. b && is_mortgage_at s it.mortgage) (sym entry_agrees)
           ∙ sym (mortgage_in s it.unit it.mortgage)

@@ -16,7 +16,7 @@ use Rattle.land_core.proofs.FiniteMaps.{none_is_not_some}
 use Rattle.land_core.proofs.Reflection.{each_there, none_passes, none_at, some_passes, some_at}
 use Rattle.land_core.proofs.SoundRegisters.{refers, refers_back, are_used, are_used_back, used_from, unused_from}
 use Rattle.land_core.specs.Soundness.{IsSound, clashes_with_later, is_rank_out_of_range}
-use Rattle.land_core.specs.Units.{share_in, share_of, is_right_in, is_right_of, do_clash, rank_of, type_of, type_shares, are_whole_or_none, has_parcel, has_owner, parcel_count, rrr_count, has_whole_shares}
+use Rattle.land_core.specs.Units.{share_in_unit, share_of, is_right_in, is_right_of, do_clash, rank_of, type_of, type_shares, are_whole_or_none, has_parcel, has_owner, parcel_count, rrr_count, has_whole_shares}
 use Rattle.land_core.specs.declared.register.Register.{Register}
 use Rattle.land_core.specs.declared.rrr.Class.{Class}
 use Rattle.land_core.specs.declared.rrr.Class.TheVariants.{Right, Restriction, Responsibility, Mortgage}
@@ -113,13 +113,13 @@ module _ (r : Register) (number : ℕ) (no_type : (e : RrrRecord) → map.get r.
 
   shares_stay : (unit : ℕ) (type : RightType) → type_shares left unit type ≡ type_shares r unit type
   shares_stay unit type =
-      ap (filter_map (λ e. share_in unit type e.1)) (entries_removed r.rrrs number)
-      ∙ filter_map-kept (λ e. share_in unit type e.1) (λ e. not (eq_by_cmp nat_cmp number e.0)) (map.entries r.rrrs) (none_given (map.entries r.rrrs) (each_there nat_cmp_total nat_cmp-IsAntisymmetric r.rrrs))
+      ap (filter_map (λ e. share_in_unit unit type e.1)) (entries_removed r.rrrs number)
+      ∙ filter_map-kept (λ e. share_in_unit unit type e.1) (λ e. not (eq_by_cmp nat_cmp number e.0)) (map.entries r.rrrs) (none_given (map.entries r.rrrs) (each_there nat_cmp_total nat_cmp-IsAntisymmetric r.rrrs))
     where
-      nothing : (e : RrrRecord) → type_of e.class ≡ None → share_in unit type e ≡ None
+      nothing : (e : RrrRecord) → type_of e.class ≡ None → share_in_unit unit type e ≡ None
       nothing e h = elim (nat_eq e.unit unit) as (λ b. cond b (share_of type e.class) None ≡ None) [ true ↦ no_share type e.class h | false ↦ refl ]
 
-      none_given : (es : List (ℕ × RrrRecord)) → AllByRecursion (λ e. map.get r.rrrs e.0 ≡ Some e.1) es → AllByRecursion (λ e. not (eq_by_cmp nat_cmp number e.0) ≡ false → share_in unit type e.1 ≡ None) es
+      none_given : (es : List (ℕ × RrrRecord)) → AllByRecursion (λ e. map.get r.rrrs e.0 ≡ Some e.1) es → AllByRecursion (λ e. not (eq_by_cmp nat_cmp number e.0) ≡ false → share_in_unit unit type e.1 ≡ None) es
       none_given [] h = tt
       none_given (e ∷ es) h = (λ at. nothing e.1 (ends_none e.0 e.1 ((eq_by_cmp_equiv nat_cmp_total).symm e.0 number ∙ not-false _ at) h.0), none_given es h.1)
 

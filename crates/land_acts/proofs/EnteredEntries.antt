@@ -19,7 +19,7 @@ use Rattle.land_core.proofs.Reflection.{none_passes, none_at, some_passes, some_
 use Rattle.land_core.proofs.SoundRegisters.{refers, refers_back, are_used, are_used_back, used_from, unused_from, used_bounds, next_above_zero}
 use Rattle.land_core.specs.Entries.{has}
 use Rattle.land_core.specs.Soundness.{IsSound, has_unused, exceeds_last_number, is_used, clashes_with_later, is_rank_out_of_range}
-use Rattle.land_core.specs.Units.{share_in, share_of, is_right_in, do_clash, are_of_one_type, are_of_one_rank, type_of, rank_of, type_shares, are_whole_or_none, has_parcel, has_owner, parcel_count, rrr_count, has_whole_shares}
+use Rattle.land_core.specs.Units.{share_in_unit, share_of, is_right_in, do_clash, are_of_one_type, are_of_one_rank, type_of, rank_of, type_shares, are_whole_or_none, has_parcel, has_owner, parcel_count, rrr_count, has_whole_shares}
 use Rattle.land_core.specs.declared.register.Register.{Register}
 use Rattle.land_core.specs.declared.rrr.RightType.{RightType}
 use Rattle.land_core.specs.declared.rrr.RightType.TheVariants.{Ownership, Lease, Usufruct}
@@ -95,15 +95,15 @@ module _ (r : Register) (sound : IsSound r) (number : ℕ) (entry : RrrRecord) (
   -- no type of right gets a share
   shares_stay : (unit : ℕ) (type : RightType) → type_shares more unit type ≡ type_shares r unit type
   shares_stay unit type =
-      ap (filter_map (λ e. share_in unit type e.1)) entries
-      ∙ filter_map-append (λ e. share_in unit type e.1) (map.entries r.rrrs) ((number, entry) ∷ [])
+      ap (filter_map (λ e. share_in_unit unit type e.1)) entries
+      ∙ filter_map-append (λ e. share_in_unit unit type e.1) (map.entries r.rrrs) ((number, entry) ∷ [])
       ∙ ap (λ it. type_shares r unit type ++ it) nothing
       ∙ append-nil (type_shares r unit type)
     where
-      no_share_in : share_in unit type entry ≡ None
+      no_share_in : share_in_unit unit type entry ≡ None
       no_share_in = elim (nat_eq entry.unit unit) as (λ b. cond b (share_of type entry.class) None ≡ None) [ true ↦ no_share type entry.class h.no_right | false ↦ refl ]
 
-      nothing : filter_map (λ (e : ℕ × RrrRecord). share_in unit type e.1) ((number, entry) ∷ []) ≡ []
+      nothing : filter_map (λ (e : ℕ × RrrRecord). share_in_unit unit type e.1) ((number, entry) ∷ []) ≡ []
       nothing = ap (λ (o : Option Ratio). cons_option o []) no_share_in
 
   whole_stays : (unit : ℕ) → has_whole_shares more unit ≡ has_whole_shares r unit

@@ -20,7 +20,7 @@ use Rattle.land_core.proofs.FiniteSets.{grants_total, exact_grants}
 use Rattle.land_core.proofs.LooseMandates.{mandates_stay}
 use Rattle.land_core.proofs.SoundRegisters.{AreTight, refers, refers_back, loose_from, single_from, loose_members_from, members_from, unbroken_from, whole_from, administrator_from, administrator_at, apart_itself}
 use Rattle.land_core.specs.Changes.{after}
-use Rattle.land_core.specs.Grants.{grant_cmp, grant_of}
+use Rattle.land_core.specs.Grants.{grant_cmp, grant_to}
 use Rattle.land_core.specs.Members.{Members, shares_in, is_group_size, are_group_shares}
 use Rattle.land_core.specs.Register.{has_single_party, has_group, is_single, shares_of}
 use Rattle.land_core.specs.Soundness.{IsSound, has_dangling_members, has_broken_group}
@@ -89,12 +89,12 @@ enrolled_is_sound r it sound single room Reference =
       room = room;
       numbers = all_used r new party refl refl sound refl refl refl refl refl;
       grants = loose_from new (λ g is.
-          elim (eq_by_cmp grant_cmp g (grant_of r.next Citizen)) as (λ b. eq_by_cmp grant_cmp g (grant_of r.next Citizen) ≡ b → cond b (Some tt) (map.get r.roles g) ≡ Some tt → has_single_party new g.party ≡ true) [
+          elim (eq_by_cmp grant_cmp g (grant_to r.next Citizen)) as (λ b. eq_by_cmp grant_cmp g (grant_to r.next Citizen) ≡ b → cond b (Some tt) (map.get r.roles g) ≡ Some tt → has_single_party new g.party ≡ true) [
             | true ↦ λ at e.
-                subst (λ (x : Grant). has_single_party new x.party ≡ true) (sym (exact_grants g (grant_of r.next Citizen) (is_equal _ at)))
+                subst (λ (x : Grant). has_single_party new x.party ≡ true) (sym (exact_grants g (grant_to r.next Citizen) (is_equal _ at)))
                 (ap (λ o. option_map_or (λ (p : PartyRecord). is_single p.kind) o false) (put_there r new party refl refl sound) ∙ single)
             | false ↦ λ apart e. single_stays r new stays g.party (single_from r before.grants g e)
-          ] refl (sym (map.get-insert grants_total r.roles (grant_of r.next Citizen) tt g) ∙ is));
+          ] refl (sym (map.get-insert grants_total r.roles (grant_to r.next Citizen) tt g) ∙ is));
       members = loose_members_from new (λ n others is. tight_stays r new stays n others (members_from r before.members n others is));
       parcels = before.parcels;
       rrrs = no_loose_rrr r new party refl refl sound refl refl refl;
@@ -105,8 +105,8 @@ enrolled_is_sound r it sound single room Administrator =
     let new = after (enrol_change r it) r in
     let one = administrator_from r (not-false _ (sound Administrator)) in
     ap not (administrator_at new one.key
-    (map.get-insert grants_total r.roles (grant_of r.next Citizen) tt one.key
-    ∙ elim (eq_by_cmp grant_cmp one.key (grant_of r.next Citizen)) as (λ b. cond b (Some tt) (map.get r.roles one.key) ≡ Some tt) [ true ↦ refl | false ↦ one.there ])
+    (map.get-insert grants_total r.roles (grant_to r.next Citizen) tt one.key
+    ∙ elim (eq_by_cmp grant_cmp one.key (grant_to r.next Citizen)) as (λ b. cond b (Some tt) (map.get r.roles one.key) ≡ Some tt) [ true ↦ refl | false ↦ one.there ])
     one.passes)
 
 -- ---- grouping

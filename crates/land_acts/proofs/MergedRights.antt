@@ -10,7 +10,7 @@ use Rattle.std.proofs.lemmas.Bool.{false≢true, and_parts}
 use Rattle.land_acts.proofs.EndedEntries.{filter_map-kept, filter_within}
 use Rattle.land_core.proofs.Reflection.{entries-entries_where, list_any-filter}
 use Rattle.land_core.specs.Entries.{entries_where}
-use Rattle.land_core.specs.Units.{are_whole_or_none, has_owner, has_whole_shares, is_right_in, is_right_of, rrr_count, share_in, share_of, type_shares}
+use Rattle.land_core.specs.Units.{are_whole_or_none, has_owner, has_whole_shares, is_right_in, is_right_of, rrr_count, share_in_unit, share_of, type_shares}
 use Rattle.land_core.specs.declared.register.Register.{Register}
 use Rattle.land_core.specs.declared.rrr.RightType.{RightType}
 use Rattle.land_core.specs.declared.rrr.RightType.TheVariants.{Ownership, Lease, Usufruct}
@@ -22,16 +22,16 @@ module _ (r new : Register) (kept : ℕ → RrrRecord → Bool) (left : new.rrrs
 
   pub shares_left : (type : RightType) → type_shares new unit type ≡ type_shares r unit type
   shares_left type =
-      ap (filter_map (λ e. share_in unit type e.1)) entries_left
-      ∙ filter_map-kept (λ e. share_in unit type e.1) (λ e. kept e.0 e.1) (map.entries r.rrrs) (elsewhere (map.entries r.rrrs))
+      ap (filter_map (λ e. share_in_unit unit type e.1)) entries_left
+      ∙ filter_map-kept (λ e. share_in_unit unit type e.1) (λ e. kept e.0 e.1) (map.entries r.rrrs) (elsewhere (map.entries r.rrrs))
     where
-      no_share : (n : ℕ) (e : RrrRecord) → kept n e ≡ false → share_in unit type e ≡ None
+      no_share : (n : ℕ) (e : RrrRecord) → kept n e ≡ false → share_in_unit unit type e ≡ None
       no_share n e lost = elim (nat_eq e.unit unit) as (λ b. nat_eq e.unit unit ≡ b → cond b (share_of type e.class) None ≡ None) [
         | true ↦ λ here. absurd (false≢true (sym lost ∙ keeps n e here))
         | false ↦ λ other. refl
       ] refl
 
-      elsewhere : (es : List (ℕ × RrrRecord)) → AllByRecursion (λ e. kept e.0 e.1 ≡ false → share_in unit type e.1 ≡ None) es
+      elsewhere : (es : List (ℕ × RrrRecord)) → AllByRecursion (λ e. kept e.0 e.1 ≡ false → share_in_unit unit type e.1 ≡ None) es
       elsewhere [] = tt
       elsewhere (e ∷ es) = (λ lost. no_share e.0 e.1 lost, elsewhere es)
 

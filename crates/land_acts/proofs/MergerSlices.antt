@@ -16,7 +16,7 @@ use Rattle.land_acts.specs.Mutations.Transferring.{is_checked}
 use Rattle.land_acts.specs.declared.mutations.refusal.Refusal.{Refusal}
 use Rattle.land_acts.specs.declared.mutations.refusal.Refusal.TheVariants.{NoSuchUnit, NoSuchParcel, UnitsUnlike, TooMany, ClockOut, NotMatched}
 use Rattle.land_core.proofs.Pairs.{list_any_same}
-use Rattle.land_core.specs.Contents.{names_unit as content_names_unit}
+use Rattle.land_core.specs.Contents.{content_names_unit}
 use Rattle.land_core.specs.Entries.{has}
 use Rattle.land_core.specs.Mergers.{lists_number}
 use Rattle.land_core.specs.declared.content.Content.TheVariants as content

@@ -28,7 +28,7 @@ use Rattle.land_core.specs.Changes.{after}
 use Rattle.land_core.specs.Entries.{has, are_distinct}
 use Rattle.land_core.specs.Soundness.{IsSound, is_used, clashes_with_later, is_rank_out_of_range}
 use Rattle.land_core.specs.Texts.{is_name, is_title}
-use Rattle.land_core.specs.Units.{share_in, share_of, is_type, is_right_in, do_clash, rank_of, type_shares, are_whole_or_none, has_parcel, has_owner, parcel_count, rrr_count, has_whole_shares}
+use Rattle.land_core.specs.Units.{share_in_unit, share_of, is_type, is_right_in, do_clash, rank_of, type_shares, are_whole_or_none, has_parcel, has_owner, parcel_count, rrr_count, has_whole_shares}
 use Rattle.land_core.specs.declared.act.NewParcel.{NewParcel}
 use Rattle.land_core.specs.declared.act.NewRight.{NewRight}
 use Rattle.land_core.specs.declared.act.NewUnit.{NewUnit}
@@ -180,30 +180,30 @@ module _ (r : Register) (it : NewUnit) (sound : IsSound r) where
 
   -- ---- shares
 
-  nothing_from : (n : ℕ) (type : RightType) (es : List (ℕ × RrrRecord)) → list_any (λ e. nat_eq e.1.unit n) es ≡ false → filter_map (λ e. share_in n type e.1) es ≡ []
+  nothing_from : (n : ℕ) (type : RightType) (es : List (ℕ × RrrRecord)) → list_any (λ e. nat_eq e.1.unit n) es ≡ false → filter_map (λ e. share_in_unit n type e.1) es ≡ []
   nothing_from n type [] none = refl
   nothing_from n type (e ∷ es) none =
       let parts = or_parts (nat_eq e.1.unit n) (list_any (λ e. nat_eq e.1.unit n) es) none in
-      ap (λ b. cons_option (cond b (share_of type e.1.class) None) (filter_map (λ (x : ℕ × RrrRecord). share_in n type x.1) es)) parts.0 ∙ nothing_from n type es parts.1
+      ap (λ b. cons_option (cond b (share_of type e.1.class) None) (filter_map (λ (x : ℕ × RrrRecord). share_in_unit n type x.1) es)) parts.0 ∙ nothing_from n type es parts.1
 
   shares_stay : (n : ℕ) (type : RightType) → nat_eq unit n ≡ false → type_shares more n type ≡ type_shares r n type
   shares_stay n type other =
-      ap (filter_map (λ (e : ℕ × RrrRecord). share_in n type e.1)) rrr_entries
-      ∙ filter_map-append (λ (e : ℕ × RrrRecord). share_in n type e.1) (map.entries r.rrrs) new_rights
+      ap (filter_map (λ (e : ℕ × RrrRecord). share_in_unit n type e.1)) rrr_entries
+      ∙ filter_map-append (λ (e : ℕ × RrrRecord). share_in_unit n type e.1) (map.entries r.rrrs) new_rights
       ∙ ap (λ it. type_shares r n type ++ it) (nothing_from n type new_rights (no_new_rrr n other))
       ∙ append-nil (type_shares r n type)
 
-  listed_shares : (type : RightType) (first : ℕ) (rights : List NewRight) → filter_map (λ (e : ℕ × RrrRecord). share_in unit type e.1) (with_numbers_from first (map_list (new_right_record unit r.next) rights)) ≡ listed_of_type type rights
+  listed_shares : (type : RightType) (first : ℕ) (rights : List NewRight) → filter_map (λ (e : ℕ × RrrRecord). share_in_unit unit type e.1) (with_numbers_from first (map_list (new_right_record unit r.next) rights)) ≡ listed_of_type type rights
   listed_shares type first [] = refl
   listed_shares type first (x ∷ xs) =
-      ap (λ b. cons_option (cond b (share_listed type x) None) (filter_map (λ (e : ℕ × RrrRecord). share_in unit type e.1) (with_numbers_from (first + 1) (map_list (new_right_record unit r.next) xs)))) (nat_eq_equiv.refl unit)
+      ap (λ b. cons_option (cond b (share_listed type x) None) (filter_map (λ (e : ℕ × RrrRecord). share_in_unit unit type e.1) (with_numbers_from (first + 1) (map_list (new_right_record unit r.next) xs)))) (nat_eq_equiv.refl unit)
       ∙ ap (cons_option (share_listed type x)) (listed_shares type (first + 1) xs)
 
   new_shares : (type : RightType) → type_shares more unit type ≡ listed_of_type type it.rights
   new_shares type =
-      ap (filter_map (λ (e : ℕ × RrrRecord). share_in unit type e.1)) rrr_entries
-      ∙ filter_map-append (λ (e : ℕ × RrrRecord). share_in unit type e.1) (map.entries r.rrrs) new_rights
-      ∙ ap (λ (it : List Ratio). it ++ filter_map (λ (e : ℕ × RrrRecord). share_in unit type e.1) new_rights) (nothing_from unit type (map.entries r.rrrs) no_old_rrr)
+      ap (filter_map (λ (e : ℕ × RrrRecord). share_in_unit unit type e.1)) rrr_entries
+      ∙ filter_map-append (λ (e : ℕ × RrrRecord). share_in_unit unit type e.1) (map.entries r.rrrs) new_rights
+      ∙ ap (λ (it : List Ratio). it ++ filter_map (λ (e : ℕ × RrrRecord). share_in_unit unit type e.1) new_rights) (nothing_from unit type (map.entries r.rrrs) no_old_rrr)
       ∙ listed_shares type (r.next + 2 + length it.parcels) it.rights
 
   -- ---- counts

@@ -26,7 +26,7 @@ use Rattle.land_acts.specs.declared.mutations.refusal.Refusal.{Refusal}
 use Rattle.land_acts.specs.declared.mutations.refusal.Refusal.TheVariants.{ClockOut, NotLodged}
 use Rattle.land_core.proofs.Reflection.{get-entries_where}
 use Rattle.land_core.specs.Changes.{no_change}
-use Rattle.land_core.specs.Contents.{names_unit as content_names_unit}
+use Rattle.land_core.specs.Contents.{content_names_unit}
 use Rattle.land_core.specs.Mutations.{is_undecided}
 use Rattle.land_core.specs.declared.act.Act.{Act}
 use Rattle.land_core.specs.declared.act.Act.TheVariants as act

@@ -10,7 +10,7 @@ use Rattle.std.proofs.lemmas.Bool.{false≢true, and_parts, eqb-true, or_left, o
 use Rattle.std.proofs.lemmas.Cmp.{nat_eq_equiv}
 use Rattle.land_acts.proofs.EndedEntries.{filter_within}
 use Rattle.land_acts.specs.FirstRights.{rights_list_party, lists_absent_party}
-use Rattle.land_acts.specs.Lifting.{has_burden, is_burden}
+use Rattle.land_acts.specs.Lifting.{has_burden, is_burden_class}
 use Rattle.land_acts.specs.Revoking.{has_other_administrator}
 use Rattle.land_acts.specs.Sharing.{lists_party, lists_no_single_party}
 use Rattle.land_acts.specs.Slices.{includes_party, includes_rrr, includes_unit, is_same_mandate, names_mandate, names_party, names_rrr, names_unit, slice_with}
@@ -18,7 +18,7 @@ use Rattle.land_acts.specs.declared.slice_parts.SliceParts.{SliceParts}
 use Rattle.land_core.proofs.FiniteSets.{grants_total, exact_grants, mandates_total, exact_mandates}
 use Rattle.land_core.proofs.Reflection.{get-entries_where, entries-entries_where, each_there, list_any-filter, list_any-map}
 use Rattle.land_core.specs.Entries.{entries_where, has}
-use Rattle.land_core.specs.Grants.{grants_in, has_grant, grant_of}
+use Rattle.land_core.specs.Grants.{grants_in, has_grant, grant_to}
 use Rattle.land_core.specs.Mandates.{has_mandate}
 use Rattle.land_core.specs.Register.{has_single_party, has_group, holds, is_single}
 use Rattle.land_core.specs.Role.{is_role}
@@ -74,7 +74,7 @@ module _ (parts : SliceParts) (r : Register) (caller : Caller) (a : Act) (partie
 
   pub holds_same : parts.roles ≡ true → (n : ℕ) (role : Role) → names_party r a n ≡ true → holds (slice_with parts r caller a) n role ≡ holds r n role
   holds_same roles n role named =
-      ap is_some (get-entries_where grants_total exact_grants _ r.roles (grant_of n role) (λ v. ap (λ b. b && includes_party parts r a n) roles ∙ party_included parts r a n parties named))
+      ap is_some (get-entries_where grants_total exact_grants _ r.roles (grant_to n role) (λ v. ap (λ b. b && includes_party parts r a n) roles ∙ party_included parts r a n parties named))
 
   pub stranger_same : (members : List Member) → ((n : ℕ) → lists_party members n ≡ true → names_party r a n ≡ true)
       → lists_no_single_party (slice_with parts r caller a) members ≡ lists_no_single_party r members
@@ -100,7 +100,7 @@ module _ (parts : SliceParts) (r : Register) (caller : Caller) (a : Act) (admini
       kept [] h = tt
       kept (e ∷ es) h = (
         λ passes. ap (λ b. b && includes_party parts r a e.0.party) roles ∙ administrator_included parts r a e.0.party administrators
-            (subst (λ (role : Role). has_grant r.roles (grant_of e.0.party role) ≡ true) (administrator_is e.0.role (and_parts _ _ passes).0) (ap is_some h.0)),
+            (subst (λ (role : Role). has_grant r.roles (grant_to e.0.party role) ≡ true) (administrator_is e.0.role (and_parts _ _ passes).0) (ap is_some h.0)),
         kept es h.1,
       )
 
@@ -151,5 +151,5 @@ module _ (parts : SliceParts) (r : Register) (caller : Caller) (a : Act) where
 
   pub burden_same : (n : ℕ) → names_rrr r a n ≡ true → has_burden (slice_with parts r caller a) n ≡ has_burden r n
   burden_same n named =
-      ap (λ o. option_map_or (λ e. is_burden e.class) o false)
+      ap (λ o. option_map_or (λ e. is_burden_class e.class) o false)
       (get-entries_where nat_cmp_total nat_cmp-IsAntisymmetric (λ k e. includes_rrr parts r a k e) r.rrrs n (λ e. or_right (includes_unit parts r a e.unit) (names_rrr r a n) named))

@@ -15,7 +15,7 @@ use Rattle.land_acts.specs.Mutations.Numbering.{with_numbers_from}
 use Rattle.land_acts.specs.Mutations.Subdividing.{list_entries_of, in_unit}
 use Rattle.land_core.proofs.Pairs.{some_pair}
 use Rattle.land_core.proofs.Reflection.{each_there}
-use Rattle.land_core.specs.Units.{share_in, share_of, is_right_in, is_right_of, do_clash, are_of_one_type, are_of_one_rank, type_of, rank_of, type_shares, are_whole_or_none, has_owner, rrr_count, has_whole_shares}
+use Rattle.land_core.specs.Units.{share_in_unit, share_of, is_right_in, is_right_of, do_clash, are_of_one_type, are_of_one_rank, type_of, rank_of, type_shares, are_whole_or_none, has_owner, rrr_count, has_whole_shares}
 use Rattle.land_core.specs.declared.register.Register.{Register}
 use Rattle.land_core.specs.declared.rrr.RightType.{RightType}
 use Rattle.land_core.specs.declared.rrr.RightType.TheVariants.{Ownership, Lease, Usufruct}
@@ -38,11 +38,11 @@ are_shares_whole es = are_whole_or_none (shares_among Ownership es) && are_whole
 abbrev pub has_right_among : RightType → List RrrRecord → Bool
 has_right_among type es = list_any (λ e. is_right_of type e.class) es
 
-shares_listed : (unit : ℕ) (type : RightType) (es : List (ℕ × RrrRecord)) → filter_map (λ (e : ℕ × RrrRecord). share_in unit type e.1) es ≡ shares_among type (listed_in unit es)
+shares_listed : (unit : ℕ) (type : RightType) (es : List (ℕ × RrrRecord)) → filter_map (λ (e : ℕ × RrrRecord). share_in_unit unit type e.1) es ≡ shares_among type (listed_in unit es)
 shares_listed unit type [] = refl
 shares_listed unit type (e ∷ es) =
     let rest = shares_listed unit type es in
-    elim (nat_eq e.1.unit unit) as (λ b. cons_option (cond b (share_of type e.1.class) None) (filter_map (λ (x : ℕ × RrrRecord). share_in unit type x.1) es)
+    elim (nat_eq e.1.unit unit) as (λ b. cons_option (cond b (share_of type e.1.class) None) (filter_map (λ (x : ℕ × RrrRecord). share_in_unit unit type x.1) es)
     ≡ shares_among type (map_list (λ (x : ℕ × RrrRecord). x.1) (cond b (e ∷ filter (λ (x : ℕ × RrrRecord). nat_eq x.1.unit unit) es) (filter (λ (x : ℕ × RrrRecord). nat_eq x.1.unit unit) es)))) [
       | true ↦ ap (cons_option (share_of type e.1.class)) rest
       | false ↦ rest

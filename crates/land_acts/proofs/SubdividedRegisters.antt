@@ -10,7 +10,7 @@ use Rattle.land_acts.proofs.SubdividedParcels.{AreLeft, all_left, left_beside, o
 use Rattle.land_acts.proofs.SubdividedUnits.{IsCopy, copied, copied_is_sound, count_stays, entries_stay, stands_apart, unit_stays}
 use Rattle.land_acts.specs.Mutations.Numbering.{with_numbers_from}
 use Rattle.land_acts.specs.Mutations.Planning.{runs_out_of_numbers}
-use Rattle.land_acts.specs.Mutations.Subdividing.{Origin, all_parts, copies_made, count_for, entries_made, list_entries_of, has_parcel_in, in_unit, next_after, numbers_for, origin_of, parcel_in, parcel_made, count_other_parcels, parcels_made, count_staying, subdivision_change, subdivision_count, unit_made, units_made, would_have_many_parcels}
+use Rattle.land_acts.specs.Mutations.Subdividing.{Origin, all_parts, copies_made, count_for, entries_made, list_entries_of, has_parcel_in, in_unit, next_after, numbers_for, origin_of, parcel_of_part, parcel_made, count_other_parcels, parcels_made, count_staying, subdivision_change, subdivision_count, unit_made, units_made, would_have_many_parcels}
 use Rattle.land_core.specs.Changes.{after}
 use Rattle.land_core.specs.Entries.{has, with_entries}
 use Rattle.land_core.specs.Soundness.{IsSound}
@@ -61,8 +61,8 @@ parted origin parts r = record r {
 
 -- and with the objects of one part
 abbrev with_part : Origin → Part → (new_unit : Option (List ℕ)) → Register → Register
-with_part origin part None r = parcelled r r.parcels (parcel_in origin origin.unit part)
-with_part origin part (Some name) r = copied r origin.unit (record { name = name; checked = origin.checked }) (parcel_in origin r.next part)
+with_part origin part None r = parcelled r r.parcels (parcel_of_part origin origin.unit part)
+with_part origin part (Some name) r = copied r origin.unit (record { name = name; checked = origin.checked }) (parcel_of_part origin r.next part)
 
 -- writing a concatenation is writing one list after the other
 with_entries-append : {V : Type 0} (m : FinMap nat_cmp V) (xs ys : List (ℕ × V)) → with_entries m (xs ++ ys) ≡ with_entries (with_entries m xs) ys
@@ -89,7 +89,7 @@ parted_first origin part parts r entries = by_unit part.unit
         }) (with_entries-append r.rrrs (with_numbers_from (r.next + 2) (map_list (in_unit r.next) origin.entries)) (copies_made origin (r.next + (2 + length origin.entries)) parts))
         ∙ ap (λ (es : List RrrRecord). parted origin parts (record r {
           units = map.insert r.units r.next (record { name = name; checked = origin.checked });
-          parcels = map.insert r.parcels (r.next + 1) (parcel_in origin r.next part);
+          parcels = map.insert r.parcels (r.next + 1) (parcel_of_part origin r.next part);
           rrrs = with_entries r.rrrs (with_numbers_from (r.next + 2) (map_list (in_unit r.next) es));
           next = r.next + (2 + length es);
         })) (sym entries)
@@ -113,9 +113,9 @@ ready_next origin part parts r ready = by_unit part.unit ready.few ready.room
         → next_after origin (r.next + numbers_for origin o) parts ≤ 1000000001 → IsReady origin parts (with_part origin part o r)
     by_unit None few room =
         let after_this = next_grows origin (r.next + 1) parts in
-        let more = one_more r ready.sound r.parcels (parcel_in origin origin.unit part) (all_left r origin.unit) in
+        let more = one_more r ready.sound r.parcels (parcel_of_part origin origin.unit part) (all_left r origin.unit) in
         record {
-          sound = parcelled_is_sound r ready.sound r.parcels (parcel_in origin origin.unit part) (all_left r origin.unit) (ap is_some ready.stands) ready.source
+          sound = parcelled_is_sound r ready.sound r.parcels (parcel_of_part origin origin.unit part) (all_left r origin.unit) (ap is_some ready.stands) ready.source
               (le-ltb 1000000001 (r.next + 1) (omega (arith, after_this, room))) (omega (arith, few));
           original = ready.original;
           stands = ready.stands;
@@ -127,7 +127,7 @@ ready_next origin part parts r ready = by_unit part.unit ready.few ready.room
         }
     by_unit (Some name) few room =
         let new : UnitRecord = record { name = name; checked = origin.checked } in
-        let parcel = parcel_in origin r.next part in
+        let parcel = parcel_of_part origin r.next part in
         let after_this = next_grows origin (r.next + (2 + length origin.entries)) parts in
         let long : length (list_entries_of r origin.unit) ≡ length origin.entries = ap length ready.entries in
         let copy : IsCopy r origin.unit new parcel = record {
@@ -167,7 +167,7 @@ subdivided_is_sound r source it sound from unit parcel numbers few = found (map.
     origin = origin_of r source it
 
     first : ParcelRecord
-    first = parcel_in origin it.unit (record { label = it.first.label; outline = it.first.outline; unit = None })
+    first = parcel_of_part origin it.unit (record { label = it.first.label; outline = it.first.outline; unit = None })
 
     left : FinMap nat_cmp ParcelRecord
     left = map.remove r.parcels it.parcel

@@ -12,7 +12,7 @@ use Rattle.land_acts.proofs.TransferSums.{DifferAt, apart_from, length-weighed, 
 use Rattle.land_acts.specs.Mutations.Transferring.{right_entry}
 use Rattle.land_acts.specs.declared.mutations.transfer.HeldRight.{HeldRight}
 use Rattle.land_core.proofs.FiniteMaps.{none_is_not_some, nothing_from_length}
-use Rattle.land_core.specs.Units.{is_type, share_in, share_of, type_of}
+use Rattle.land_core.specs.Units.{is_type, share_in_unit, share_of, type_of}
 use Rattle.land_core.specs.declared.register.Register.{Register}
 use Rattle.land_core.specs.declared.rrr.Class.{Class}
 use Rattle.land_core.specs.declared.rrr.Class.TheVariants as class
@@ -47,7 +47,7 @@ nested true b x = refl
 nested false b x = refl
 
 pub share_at : (n : ℕ) (t : RightType) (e : RrrRecord) (unit : ℕ) (type : RightType) (share : Ratio) → e.unit ≡ unit → e.class ≡ class.Right type share
-    → share_in n t e ≡ cond (nat_eq unit n && is_type type t) (Some share) None
+    → share_in_unit n t e ≡ cond (nat_eq unit n && is_type type t) (Some share) None
 share_at n t e unit type share in_unit is =
     ap (λ (u : ℕ). cond (nat_eq u n) (share_of t e.class) None) in_unit ∙ ap (λ (c : Class). cond (nat_eq unit n) (share_of t c) None) is
     ∙ nested (nat_eq unit n) (is_type type t) (Some share)
@@ -109,18 +109,18 @@ module _ (r : Register) (rrrs : FinMap nat_cmp RrrRecord) (unit receiver source 
 
   -- sums over the shares of a type in a unit
   abbrev shares_in : FinMap nat_cmp RrrRecord → (n : ℕ) → RightType → List Ratio
-  shares_in m n t = filter_map (λ e. share_in n t e.1) (map.entries m)
+  shares_in m n t = filter_map (λ e. share_in_unit n t e.1) (map.entries m)
 
   pub moved_sum : (value : Ratio → ℕ) (n : ℕ) (t : RightType) (b : Bool) → (nat_eq unit n && is_type from.right_type t) ≡ b
       → weigh value (shares_in rrrs n t) + (cond b (value from.share) 0 + weight_of (λ (held : HeldRight). cond b (value held.share) 0) to)
       ≡ weigh value (shares_in r.rrrs n t) + (weight_of (λ s. cond b (value s) 0) left + cond b (value share) 0)
   moved_sum value n t b test =
-      let all = measured (λ e. weight_of value (share_in n t e)) (λ s. cond b (value s) 0) says in
-      let new_list = weigh-filter_map value (λ (e : ℕ × RrrRecord). share_in n t e.1) (map.entries rrrs) in
-      let old_list = weigh-filter_map value (λ (e : ℕ × RrrRecord). share_in n t e.1) (map.entries r.rrrs) in
+      let all = measured (λ e. weight_of value (share_in_unit n t e)) (λ s. cond b (value s) 0) says in
+      let new_list = weigh-filter_map value (λ (e : ℕ × RrrRecord). share_in_unit n t e.1) (map.entries rrrs) in
+      let old_list = weigh-filter_map value (λ (e : ℕ × RrrRecord). share_in_unit n t e.1) (map.entries r.rrrs) in
       omega (arith, all, new_list, old_list)
     where
-      says : (e : RrrRecord) (s : Ratio) → e.unit ≡ unit → e.class ≡ class.Right from.right_type s → weight_of value (share_in n t e) ≡ cond b (value s) 0
+      says : (e : RrrRecord) (s : Ratio) → e.unit ≡ unit → e.class ≡ class.Right from.right_type s → weight_of value (share_in_unit n t e) ≡ cond b (value s) 0
       says e s in_unit is =
           ap (weight_of value) (share_at n t e unit from.right_type s in_unit is) ∙ ap (λ c. weight_of value (cond c (Some s) None)) test ∙ weight_by value b s
 
@@ -140,13 +140,13 @@ module _ (r : Register) (rrrs : FinMap nat_cmp RrrRecord) (unit receiver source 
         let none_after = no_weight left in
         omega (arith, sum, none_before, none_after)
 
-    no_share : (party : ℕ) (s got : Ratio) → share_in n t (right_entry unit party from.right_type s source) ≡ Some got → ⊥
+    no_share : (party : ℕ) (s got : Ratio) → share_in_unit n t (right_entry unit party from.right_type s source) ≡ Some got → ⊥
     no_share party s got is =
         none_is_not_some (sym (share_at n t (right_entry unit party from.right_type s source) unit from.right_type s refl refl ∙ ap (λ b. cond b (Some s) None) other) ∙ is)
 
     same_multiple : (m : ℕ) → IsCommonMultiple m (shares_in r.rrrs n t) → IsCommonMultiple m (shares_in rrrs n t)
     same_multiple m h =
-        let each = each_entry (λ k e. (got : Ratio) → share_in n t e ≡ Some got → got.denominator ∣ m)
+        let each = each_entry (λ k e. (got : Ratio) → share_in_unit n t e ≡ Some got → got.denominator ∣ m)
         (λ s at got is. absurd (no_share from.party s got is))
         (λ got is. absurd (no_share receiver share got is))
         (λ k e off away is got taken. multiple_at r.rrrs n t m h k e got is taken) in

@@ -17,7 +17,7 @@ use Rattle.land_acts.specs.declared.mutations.transfer.HeldRight.{HeldRight}
 use Rattle.land_core.proofs.FiniteMaps.{none_is_not_some}
 use Rattle.land_core.proofs.RecordLookups.{one_type, type_itself}
 use Rattle.land_core.proofs.Reflection.{each_there}
-use Rattle.land_core.specs.Units.{is_type, share_in, type_of}
+use Rattle.land_core.specs.Units.{is_type, share_in_unit, type_of}
 use Rattle.land_core.specs.declared.register.Register.{Register}
 use Rattle.land_core.specs.declared.rrr.Class.{Class}
 use Rattle.land_core.specs.declared.rrr.Class.TheVariants as class
@@ -52,30 +52,30 @@ all_taken {X} {Y} P take (x ∷ xs) h =
 
 module _ (rrrs : FinMap nat_cmp RrrRecord) (unit : ℕ) (type : RightType) where
   abbrev shares : List Ratio
-  shares = filter_map (λ e. share_in unit type e.1) (map.entries rrrs)
+  shares = filter_map (λ e. share_in_unit unit type e.1) (map.entries rrrs)
 
-  pub multiple_from : (m : ℕ) → 0 < m → ((n : ℕ) (e : RrrRecord) (share : Ratio) → map.get rrrs n ≡ Some e → share_in unit type e ≡ Some share → share.denominator ∣ m) → IsCommonMultiple m shares
+  pub multiple_from : (m : ℕ) → 0 < m → ((n : ℕ) (e : RrrRecord) (share : Ratio) → map.get rrrs n ≡ Some e → share_in_unit unit type e ≡ Some share → share.denominator ∣ m) → IsCommonMultiple m shares
   multiple_from m above h = record {
     positive = above;
     of_all = All-from_recursion (λ (share : Ratio). share.denominator ∣ m) shares
-        (taken_all (λ (share : Ratio). share.denominator ∣ m) (λ (e : ℕ × RrrRecord). share_in unit type e.1) (map.entries rrrs) (each (map.entries rrrs) (each_there nat_cmp_total nat_cmp-IsAntisymmetric rrrs)));
+        (taken_all (λ (share : Ratio). share.denominator ∣ m) (λ (e : ℕ × RrrRecord). share_in_unit unit type e.1) (map.entries rrrs) (each (map.entries rrrs) (each_there nat_cmp_total nat_cmp-IsAntisymmetric rrrs)));
   }
     where
-      each : (es : List (ℕ × RrrRecord)) → AllByRecursion (λ e. map.get rrrs e.0 ≡ Some e.1) es → AllByRecursion (λ e. (share : Ratio) → share_in unit type e.1 ≡ Some share → share.denominator ∣ m) es
+      each : (es : List (ℕ × RrrRecord)) → AllByRecursion (λ e. map.get rrrs e.0 ≡ Some e.1) es → AllByRecursion (λ e. (share : Ratio) → share_in_unit unit type e.1 ≡ Some share → share.denominator ∣ m) es
       each [] all = tt
       each (e ∷ es) all = (λ share is. h e.0 e.1 share all.0 is, each es all.1)
 
   -- a property of each share is one of the share at a number
-  pub each_share : (P : Ratio → Type 0) → AllByRecursion P shares → (n : ℕ) (e : RrrRecord) (share : Ratio) → map.get rrrs n ≡ Some e → share_in unit type e ≡ Some share → P share
+  pub each_share : (P : Ratio → Type 0) → AllByRecursion P shares → (n : ℕ) (e : RrrRecord) (share : Ratio) → map.get rrrs n ≡ Some e → share_in_unit unit type e ≡ Some share → P share
   each_share P all n e share is taken =
-      at_each (λ (e : ℕ × RrrRecord). (share : Ratio) → share_in unit type e.1 ≡ Some share → P share) rrrs
-      (all_taken P (λ (e : ℕ × RrrRecord). share_in unit type e.1) (map.entries rrrs) all) n e is share taken
+      at_each (λ (e : ℕ × RrrRecord). (share : Ratio) → share_in_unit unit type e.1 ≡ Some share → P share) rrrs
+      (all_taken P (λ (e : ℕ × RrrRecord). share_in_unit unit type e.1) (map.entries rrrs) all) n e is share taken
 
-pub multiple_at : (rrrs : FinMap nat_cmp RrrRecord) (unit : ℕ) (type : RightType) (m : ℕ) → IsCommonMultiple m (filter_map (λ e. share_in unit type e.1) (map.entries rrrs))
-    → (n : ℕ) (e : RrrRecord) (share : Ratio) → map.get rrrs n ≡ Some e → share_in unit type e ≡ Some share → share.denominator ∣ m
+pub multiple_at : (rrrs : FinMap nat_cmp RrrRecord) (unit : ℕ) (type : RightType) (m : ℕ) → IsCommonMultiple m (filter_map (λ e. share_in_unit unit type e.1) (map.entries rrrs))
+    → (n : ℕ) (e : RrrRecord) (share : Ratio) → map.get rrrs n ≡ Some e → share_in_unit unit type e ≡ Some share → share.denominator ∣ m
 multiple_at rrrs unit type m h n e share is taken =
     each_share rrrs unit type (λ (share : Ratio). share.denominator ∣ m)
-    (recursion_from_All (λ (share : Ratio). share.denominator ∣ m) (filter_map (λ e. share_in unit type e.1) (map.entries rrrs)) h.of_all) n e share is taken
+    (recursion_from_All (λ (share : Ratio). share.denominator ∣ m) (filter_map (λ e. share_in_unit unit type e.1) (map.entries rrrs)) h.of_all) n e share is taken
 
 -- ---- the right of giver or receiver
 

@@ -18,7 +18,7 @@ use Rattle.land_acts.specs.declared.mutations.transfer.HeldRight.{HeldRight}
 use Rattle.land_core.proofs.Reflection.{entries-entries_where}
 use Rattle.land_core.specs.Changes.{after}
 use Rattle.land_core.specs.Entries.{has, entries_where, with_changes}
-use Rattle.land_core.specs.Units.{rrr_count, share_in, share_of, type_shares}
+use Rattle.land_core.specs.Units.{rrr_count, share_in_unit, share_of, type_shares}
 use Rattle.land_core.specs.declared.content.Transfer.{Transfer}
 use Rattle.land_core.specs.declared.register.Register.{Register}
 use Rattle.land_core.specs.declared.rrr.RightType.{RightType}
@@ -99,8 +99,8 @@ module _ (s r : Register) (it : Transfer) (agree : AgreeOnUnit s r it.unit) wher
 
   shares_after : (source : ℕ) (from : HeldRight) (type : RightType) → type_shares (after (move_change s source it from) s) it.unit type ≡ type_shares (after (move_change r source it from) r) it.unit type
   shares_after source from type =
-      ap (λ m. filter_map (λ e. share_in it.unit type e.1) (map.entries m)) (entries_after source from)
-      ∙ taken_same (λ e. share_in it.unit type e.1) (λ e other. ap (λ b. cond b (share_of type e.1.class) None) other) (after (move_change r source it from) r).rrrs
+      ap (λ m. filter_map (λ e. share_in_unit it.unit type e.1) (map.entries m)) (entries_after source from)
+      ∙ taken_same (λ e. share_in_unit it.unit type e.1) (λ e other. ap (λ b. cond b (share_of type e.1.class) None) other) (after (move_change r source it from) r).rrrs
 
   count_after : (source : ℕ) (from : HeldRight) → rrr_count (after (move_change s source it from) s) it.unit ≡ rrr_count (after (move_change r source it from) r) it.unit
   count_after source from =

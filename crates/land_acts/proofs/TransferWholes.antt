@@ -18,7 +18,7 @@ use Rattle.land_acts.proofs.TransferSums.{part_of, parts-weighed, weigh, weigh-f
 use Rattle.land_acts.specs.Mutations.Transferring.{is_above, is_too_fine, right_entry, increased_share, remaining_share}
 use Rattle.land_acts.specs.declared.mutations.transfer.HeldRight.{HeldRight}
 use Rattle.land_core.proofs.RecordLookups.{type_itself}
-use Rattle.land_core.specs.Units.{is_type, share_in}
+use Rattle.land_core.specs.Units.{is_type, share_in_unit}
 use Rattle.land_core.specs.declared.content.Transfer.{Transfer}
 use Rattle.land_core.specs.declared.register.Register.{Register}
 use Rattle.land_core.specs.declared.rrr.Class.TheVariants as class
@@ -133,14 +133,14 @@ module _ (r : Register) (rrrs : FinMap nat_cmp RrrRecord) (unit receiver source 
   is_here : (nat_eq unit unit && is_type type type) ≡ true
   is_here = ap (λ b. b && is_type type type) (nat_eq_equiv.refl unit) ∙ type_itself type
 
-  share_here : (e : RrrRecord) (s : Ratio) → e.unit ≡ unit → e.class ≡ class.Right type s → share_in unit type e ≡ Some s
+  share_here : (e : RrrRecord) (s : Ratio) → e.unit ≡ unit → e.class ≡ class.Right type s → share_in_unit unit type e ≡ Some s
   share_here e s in_unit is = share_at unit type e unit type s in_unit is ∙ ap (λ b. cond b (Some s) None) is_here
 
   abbrev old_shares : List Ratio
-  old_shares = filter_map (λ e. share_in unit type e.1) (map.entries r.rrrs)
+  old_shares = filter_map (λ e. share_in_unit unit type e.1) (map.entries r.rrrs)
 
   abbrev new_shares : List Ratio
-  new_shares = filter_map (λ e. share_in unit type e.1) (map.entries rrrs)
+  new_shares = filter_map (λ e. share_in_unit unit type e.1) (map.entries rrrs)
 
   -- numbers that divide a common multiple of the earlier shares
   from_divides : (m : ℕ) → IsCommonMultiple m old_shares → from.share.denominator ∣ m
@@ -167,11 +167,11 @@ module _ (r : Register) (rrrs : FinMap nat_cmp RrrRecord) (unit receiver source 
   pub from_at_most_one : IsWhole old_shares → from.share.numerator ≤ from.share.denominator
   from_at_most_one whole =
       let m : ℕ = whole.0 in
-      let all : weigh_map (λ e. weight_of (part_of m) (share_in unit type e)) r.rrrs ≡ m =
-      sym (weigh-filter_map (part_of m) (λ (e : ℕ × RrrRecord). share_in unit type e.1) (map.entries r.rrrs)) ∙ sym (parts-weighed m old_shares) ∙ whole.3 in
-      let one = without_one (λ e. weight_of (part_of m) (share_in unit type e)) r.rrrs from.number in
-      let here : weight_of (λ e. weight_of (part_of m) (share_in unit type e)) (map.get r.rrrs from.number) ≡ part_of m from.share =
-      ap (weight_of (λ e. weight_of (part_of m) (share_in unit type e))) moved.first.there ∙ ap (weight_of (part_of m)) (share_here moved.first.entry from.share moved.first.in_unit moved.first.class) in
+      let all : weigh_map (λ e. weight_of (part_of m) (share_in_unit unit type e)) r.rrrs ≡ m =
+      sym (weigh-filter_map (part_of m) (λ (e : ℕ × RrrRecord). share_in_unit unit type e.1) (map.entries r.rrrs)) ∙ sym (parts-weighed m old_shares) ∙ whole.3 in
+      let one = without_one (λ e. weight_of (part_of m) (share_in_unit unit type e)) r.rrrs from.number in
+      let here : weight_of (λ e. weight_of (part_of m) (share_in_unit unit type e)) (map.get r.rrrs from.number) ≡ part_of m from.share =
+      ap (weight_of (λ e. weight_of (part_of m) (share_in_unit unit type e))) moved.first.there ∙ ap (weight_of (part_of m)) (share_here moved.first.entry from.share moved.first.in_unit moved.first.class) in
       not_above_one m from.share whole.2.positive (from_divides m whole.2) (omega (arith, all, one, here))
 
   -- the right is among the earlier shares
@@ -182,9 +182,9 @@ module _ (r : Register) (rrrs : FinMap nat_cmp RrrRecord) (unit receiver source 
 
   -- whether a number is a common multiple of the shares does not depend on the source
   pub any_source : (entries : FinMap nat_cmp RrrRecord) (other : ℕ) → IsMoved r entries unit receiver other from left number share to → (m : ℕ)
-      → IsCommonMultiple m (filter_map (λ e. share_in unit type e.1) (map.entries entries)) → IsCommonMultiple m new_shares
+      → IsCommonMultiple m (filter_map (λ e. share_in_unit unit type e.1) (map.entries entries)) → IsCommonMultiple m new_shares
   any_source entries other alike m h =
-      let each = each_entry r rrrs unit receiver source from left number share to moved (λ k e. (got : Ratio) → share_in unit type e ≡ Some got → got.denominator ∣ m)
+      let each = each_entry r rrrs unit receiver source from left number share to moved (λ k e. (got : Ratio) → share_in_unit unit type e ≡ Some got → got.denominator ∣ m)
       (λ s at got is. multiple_at entries unit type m h from.number (right_entry unit from.party type s other) got (alike.at_first ∙ ap (right_left unit from.party type other) at) is)
       (λ got is. multiple_at entries unit type m h number (right_entry unit receiver type share other) got alike.at_second is)
       (λ k e off away is got taken. multiple_at entries unit type m h k e got (alike.differ.elsewhere k off away ∙ is) taken) in

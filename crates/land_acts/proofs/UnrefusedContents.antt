@@ -5,7 +5,7 @@ use Rattle.std.specs.Option.{option_map_or}
 use Rattle.std.proofs.lemmas.Bool.{false≢true, not-false, or_parts}
 use Rattle.land_acts.proofs.Refusals.{none_hold}
 use Rattle.land_acts.specs.Mutations.ByContent.{content_refusals}
-use Rattle.land_acts.specs.Mutations.Discharging.{has_entry_in, is_mortgage_at}
+use Rattle.land_acts.specs.Mutations.Discharging.{is_entry_of_unit, is_mortgage_at}
 use Rattle.land_acts.specs.Mutations.Planning.{would_exceed_entries, first_refusal_of, runs_out_of_numbers}
 use Rattle.land_acts.specs.Mutations.Transferring.{are_too_fine, are_too_many, has_right_where, right_at, gives_to_itself, is_too_large}
 use Rattle.land_acts.specs.declared.mutations.refusal.Refusal.TheVariants.{NoSuchUnit, NoSuchRight, NoSuchParty, ShareTooLarge, SharesTooFine, TooMany, NotBank, NotMortgage, ClockOut, SameParty}
@@ -84,6 +84,6 @@ unrefused_mortgage r it stamp none =
 pub unrefused_discharge : (r : Register) (it : Discharge) (stamp : Option ℤ) → first_refusal_of (content_refusals r (content.Discharge it) stamp) ≡ None → is_mortgage_at r it.mortgage ≡ true
 unrefused_discharge r it stamp none =
     let mortgage = not (is_mortgage_at r it.mortgage) in
-    let fails = none_hold ((NoSuchUnit, not (has r.units it.unit)) ∷ (NoSuchRight, not (has_entry_in r it.unit it.mortgage)) ∷ (NotMortgage, mortgage) ∷ (ClockOut, is_none stamp) ∷ []) none in
+    let fails = none_hold ((NoSuchUnit, not (has r.units it.unit)) ∷ (NoSuchRight, not (is_entry_of_unit r it.unit it.mortgage)) ∷ (NotMortgage, mortgage) ∷ (ClockOut, is_none stamp) ∷ []) none in
     let found = fails.1.1.0 in
     not-false _ found

@@ -4,7 +4,7 @@ use Rattle.land_acts.specs.Mutations.Planning.{runs_out_of_numbers}
 use Rattle.land_acts.specs.declared.mutations.refusal.Refusal.{Refusal}
 use Rattle.land_acts.specs.declared.mutations.refusal.Refusal.TheVariants.{TooMany, ClockOut}
 use Rattle.land_core.specs.Changes.{no_put, no_ended}
-use Rattle.land_core.specs.Grants.{grant_of}
+use Rattle.land_core.specs.Grants.{grant_to}
 use Rattle.land_core.specs.declared.act.Enrol.{Enrol}
 use Rattle.land_core.specs.declared.change.Change.{Change}
 use Rattle.land_core.specs.declared.change.Done.{Done}
@@ -20,7 +20,7 @@ abbrev pub enrol_change : Register → Enrol → Change
 enrol_change r it = record {
   put = record no_put {
     parties = (r.next, record { kind = it.kind; name = it.name }) ∷ [];
-    roles = grant_of r.next Citizen ∷ [];
+    roles = grant_to r.next Citizen ∷ [];
   };
   ended = no_ended;
   next = r.next + 1;

@@ -14,15 +14,15 @@ use Rattle.land_core.specs.declared.rrr.Class.{Class}
 use Rattle.land_core.specs.declared.rrr.Class.TheVariants.{Right, Restriction, Responsibility, Mortgage}
 
 -- whether an entry is a restriction or a responsibility
-abbrev pub is_burden : Class → Bool
-is_burden (Right type share) = false
-is_burden (Restriction words) = true
-is_burden (Responsibility words) = true
-is_burden (Mortgage amount currency rank) = false
+abbrev pub is_burden_class : Class → Bool
+is_burden_class (Right type share) = false
+is_burden_class (Restriction words) = true
+is_burden_class (Responsibility words) = true
+is_burden_class (Mortgage amount currency rank) = false
 
 -- whether such an entry exists at a number
 abbrev pub has_burden : Register → ℕ → Bool
-has_burden r n = option_map_or (λ e. is_burden e.class) (map.get r.rrrs n) false
+has_burden r n = option_map_or (λ e. is_burden_class e.class) (map.get r.rrrs n) false
 
 -- the refusals with their conditions, in ascending order
 abbrev pub lift_refusals : Register → Lift → Option ℤ → List (Refusal × Bool)

@@ -5,7 +5,7 @@ use Rattle.land_acts.specs.declared.mutations.refusal.Refusal.{Refusal}
 use Rattle.land_acts.specs.declared.mutations.refusal.Refusal.TheVariants.{NoSuchParty, ClockOut, SameParty}
 use Rattle.land_acts.specs.declared.mutations.refusal.Refusal.TheVariants.{MandateHeld}
 use Rattle.land_core.specs.Changes.{no_put, no_ended}
-use Rattle.land_core.specs.Mandates.{has_mandate, mandate_of}
+use Rattle.land_core.specs.Mandates.{has_mandate, mandate_between}
 use Rattle.land_core.specs.Register.{has_single_party}
 use Rattle.land_core.specs.declared.act.NewMandate.{NewMandate}
 use Rattle.land_core.specs.declared.caller.Caller.{Caller}
@@ -16,7 +16,7 @@ use Rattle.land_core.specs.declared.register.Register.{Register}
 
 -- the mandate from the caller to the agent
 abbrev pub mandate_of_caller : Caller → NewMandate → Mandate
-mandate_of_caller caller it = mandate_of caller.party it.agent
+mandate_of_caller caller it = mandate_between caller.party it.agent
 
 -- the refusals with their conditions, in ascending order
 abbrev pub mandate_refusals : Register → Caller → NewMandate → Option ℤ → List (Refusal × Bool)

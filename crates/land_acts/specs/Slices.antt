@@ -8,10 +8,10 @@ use Rattle.land_acts.specs.FirstRights.{rights_list_party}
 use Rattle.land_acts.specs.Mandating.{mandate_of_caller}
 use Rattle.land_acts.specs.Sharing.{lists_party}
 use Rattle.land_acts.specs.declared.slice_parts.SliceParts.{SliceParts}
-use Rattle.land_core.specs.Contents.{names_unit as content_names_unit}
+use Rattle.land_core.specs.Contents.{content_names_unit}
 use Rattle.land_core.specs.Entries.{entries_where, some}
 use Rattle.land_core.specs.Mutations.{is_lodged_as}
-use Rattle.land_core.specs.Register.{holds}
+use Rattle.land_core.specs.Register.{holds, is_mutation_where}
 use Rattle.land_core.specs.Role.{is_role}
 use Rattle.land_core.specs.Soundness.{IsSound}
 use Rattle.land_core.specs.declared.act.Act.{Act}
@@ -32,10 +32,6 @@ content_names_party n (content.Subdivision it) = false
 content_names_party n (content.Merger it) = false
 content_names_party n (content.Mortgage it) = nat_eq n it.creditor
 content_names_party n (content.Discharge it) = false
-
--- whether a mutation exists at a number and satisfies a condition
-abbrev pub is_mutation_where : (MutationRecord → Bool) → Register → ℕ → Bool
-is_mutation_where passes r n = option_map_or passes (map.get r.mutations n) false
 
 -- whether an act refers to a party, directly or through the mutation that it decides
 abbrev pub names_party : Register → Act → ℕ → Bool

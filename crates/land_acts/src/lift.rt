@@ -1,6 +1,6 @@
 //! The act `lift`: a restriction or a responsibility ends.
 ghost use Rattle.std.specs.Prelude.{◌≡◌, IfOk};
-ghost use Rattle.land_acts.specs.Lifting.{has_burden, is_burden, lift_refusals, lift_change, lift_done};
+ghost use Rattle.land_acts.specs.Lifting.{has_burden, is_burden_class, lift_refusals, lift_change, lift_done};
 ghost use Rattle.land_acts.specs.Mutations.Planning.{IsPlanOf, first_refusal_of};
 
 use crate::mutations::planning::done_on;
@@ -37,7 +37,7 @@ fn has_burden(slice: &Slice, number: u64) -> bool
 
 /// Returns whether an entry is a restriction or a responsibility.
 fn is_burden(class: &Class) -> bool
-    ensures { result ≡ is_burden class.now }
+    ensures { result ≡ is_burden_class class.now }
 {
     match class {
         Class::Restriction { .. } | Class::Responsibility { .. } => true,

@@ -18,7 +18,7 @@ use Rattle.land_commands.proofs.GivenOptions.{Each, HasNoDefault, Keeps, given_p
 use Rattle.land_commands.proofs.NumberRows.{AllPass}
 use Rattle.land_commands.specs.Words.Choices.{AreChoiceWords, Places, kind_word, kind_words, role_word, role_words}
 use Rattle.land_commands.specs.Words.Names.{HasOptionalNumber, IsCommandIn}
-use Rattle.land_commands.specs.Words.Options.{moments, option_rule, parties}
+use Rattle.land_commands.specs.Words.Options.{moment_parser, option_rule, party_parser}
 use Rattle.land_commands.specs.Words.PlainCommands.{PlainCommand, to_extract}
 use Rattle.land_commands.specs.declared.words.choices.Choices.{Choices}
 use Rattle.land_core.specs.declared.kind.Kind.{Kind}
@@ -119,10 +119,10 @@ abbrev pub file_shape : OptionShape
 file_shape = told (codes "file") true parser.String
 
 abbrev clock_shape : OptionShape
-clock_shape = told (codes "clock") true moments
+clock_shape = told (codes "clock") true moment_parser
 
 abbrev party_shape : OptionShape
-party_shape = told (codes "party") true parties
+party_shape = told (codes "party") true party_parser
 
 abbrev role_shape : Places → OptionShape
 role_shape roles = told (codes "role") true (parser.Names roles)
@@ -131,10 +131,10 @@ abbrev kind_shape : Places → OptionShape
 kind_shape kinds = told (codes "kind") true (parser.Names kinds)
 
 abbrev pub at_told : OptionShape
-at_told = told (codes "at") false moments
+at_told = told (codes "at") false moment_parser
 
 -- an optional option has a moment, or is absent
-pub moment_if_any : (rows : List Row) → (first_of (codes "at") rows ≡ None) ⊎ ((text : Text) × (first_of (codes "at") rows ≡ Some text) × Accepts false moments text)
+pub moment_if_any : (rows : List Row) → (first_of (codes "at") rows ≡ None) ⊎ ((text : Text) × (first_of (codes "at") rows ≡ Some text) × Accepts false moment_parser text)
     → (at : Option ℤ) × HasOptionalNumber rows (codes "at") (pos 0) (pos 4102444799999) at
 moment_if_any rows (inl none) = (None, none)
 moment_if_any rows (inr (text, found, accepted)) =
@@ -157,16 +157,16 @@ module _ (choices : Choices) (spelled : AreChoiceWords choices) (words : List Te
       (one_keeps (codes "file") (Accepts false parser.String) [] file_shape (clock_shape ∷ party_shape ∷ role_shape choices.roles ∷ kind_shape choices.kinds ∷ at_told ∷ []) refl refl (λ text h. h))
       ((required_given (extract_built choices) no_defaults words faultless).0 refl)
 
-  clock_given : Given (codes "clock") (Accepts false moments)
+  clock_given : Given (codes "clock") (Accepts false moment_parser)
   clock_given =
-      given_passes (extract_built choices) no_defaults words faultless (codes "clock") (Accepts false moments)
-      (one_keeps (codes "clock") (Accepts false moments) (file_shape ∷ []) clock_shape (party_shape ∷ role_shape choices.roles ∷ kind_shape choices.kinds ∷ at_told ∷ []) refl refl (λ text h. h))
+      given_passes (extract_built choices) no_defaults words faultless (codes "clock") (Accepts false moment_parser)
+      (one_keeps (codes "clock") (Accepts false moment_parser) (file_shape ∷ []) clock_shape (party_shape ∷ role_shape choices.roles ∷ kind_shape choices.kinds ∷ at_told ∷ []) refl refl (λ text h. h))
       ((required_given (extract_built choices) no_defaults words faultless).1.0 refl)
 
-  party_given : Given (codes "party") (Accepts false parties)
+  party_given : Given (codes "party") (Accepts false party_parser)
   party_given =
-      given_passes (extract_built choices) no_defaults words faultless (codes "party") (Accepts false parties)
-      (one_keeps (codes "party") (Accepts false parties) (file_shape ∷ clock_shape ∷ []) party_shape (role_shape choices.roles ∷ kind_shape choices.kinds ∷ at_told ∷ []) refl refl (λ text h. h))
+      given_passes (extract_built choices) no_defaults words faultless (codes "party") (Accepts false party_parser)
+      (one_keeps (codes "party") (Accepts false party_parser) (file_shape ∷ clock_shape ∷ []) party_shape (role_shape choices.roles ∷ kind_shape choices.kinds ∷ at_told ∷ []) refl refl (λ text h. h))
       ((required_given (extract_built choices) no_defaults words faultless).1.1.0 refl)
 
   role_given : Given (codes "role") (Accepts false (parser.Names choices.roles))
@@ -184,8 +184,8 @@ module _ (choices : Choices) (spelled : AreChoiceWords choices) (words : List Te
   at_if_any : (at : Option ℤ) × HasOptionalNumber rows (codes "at") (pos 0) (pos 4102444799999) at
   at_if_any =
       moment_if_any rows
-      (passes_if_any (extract_built choices) no_defaults words faultless (codes "at") (Accepts false moments)
-      (one_keeps (codes "at") (Accepts false moments) (file_shape ∷ clock_shape ∷ party_shape ∷ role_shape choices.roles ∷ kind_shape choices.kinds ∷ []) at_told [] refl refl (λ text h. h)))
+      (passes_if_any (extract_built choices) no_defaults words faultless (codes "at") (Accepts false moment_parser)
+      (one_keeps (codes "at") (Accepts false moment_parser) (file_shape ∷ clock_shape ∷ party_shape ∷ role_shape choices.roles ∷ kind_shape choices.kinds ∷ []) at_told [] refl refl (λ text h. h)))
 
   -- arguments of `extract` without a fault have a file, a clock, a party, a role and a kind, and a moment if `--at` is given
   pub extract_named : (order : PlainCommand) × IsCommandIn (Some (rows_at (extract_built choices) words)) order

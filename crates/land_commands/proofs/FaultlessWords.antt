@@ -14,7 +14,7 @@ use Rattle.land_commands.proofs.WalkKeeps.{both_none}
 use Rattle.land_commands.specs.Words.Choices.{AreChoiceWords}
 use Rattle.land_commands.specs.Words.Commands.{land_app}
 use Rattle.land_commands.specs.Words.Names.{HasNumberOr, IsCommandIn, NamesBy}
-use Rattle.land_commands.specs.Words.Options.{counts, limits, moments, ports}
+use Rattle.land_commands.specs.Words.Options.{count_parser, limit_parser, moment_parser, port_parser}
 use Rattle.land_commands.specs.Words.PlainCommands.{PlainCommand, to_talk, to_make, to_serve, to_check, to_migrate, to_digest}
 use Rattle.land_commands.specs.declared.words.choices.Choices.{Choices}
 
@@ -24,8 +24,8 @@ talk_named : (words : List Text) → level_fault talk_built [] nothing_held word
 talk_named words e =
     let none : Each HasNoDefault talk_built.rules = (refl, (refl, tt)) in
     let given = required_given talk_built none words e in
-    let clock = given_passes talk_built none words e (codes "clock") (Accepts false moments)
-    (option_keeps (codes "clock") (Accepts false moments) (codes "clock") true moments (λ same text h. h), (help_keeps _, tt)) (given.0 refl) in (
+    let clock = given_passes talk_built none words e (codes "clock") (Accepts false moment_parser)
+    (option_keeps (codes "clock") (Accepts false moment_parser) (codes "clock") true moment_parser (λ same text h. h), (help_keeps _, tt)) (given.0 refl) in (
       to_talk (signed_digits_value 10 clock.0),
       (rows_after talk_built.rules [] words, refl, record { text = clock.0; found = clock.1; in_range = clock.2; value = refl }),
     )
@@ -41,16 +41,16 @@ file_named name words e =
     (file.0, file.1)
 
 abbrev port_shape : OptionShape
-port_shape = told (codes "port") true ports
+port_shape = told (codes "port") true port_parser
 
 abbrev count_shape : OptionShape
-count_shape = told (codes "connections") true counts
+count_shape = told (codes "connections") true count_parser
 
 abbrev limit_shape : OptionShape
-limit_shape = told (codes "at-once") false limits
+limit_shape = told (codes "at-once") false limit_parser
 
 -- an optional limit is a number, or absent
-limit_if_any : (rows : List Row) → (first_of (codes "at-once") rows ≡ None) ⊎ ((text : Text) × (first_of (codes "at-once") rows ≡ Some text) × Accepts false limits text)
+limit_if_any : (rows : List Row) → (first_of (codes "at-once") rows ≡ None) ⊎ ((text : Text) × (first_of (codes "at-once") rows ≡ Some text) × Accepts false limit_parser text)
     → (at_once : ℕ) × HasNumberOr rows (codes "at-once") (pos 1) (pos 1024) (pos 1) (pos at_once)
 limit_if_any rows (inl none) = (1, inr (none, refl))
 limit_if_any rows (inr (text, found, accepted)) =
@@ -65,13 +65,13 @@ serve_named words e =
     let given = required_given serve_built none words e in
     let file = given_passes serve_built none words e (codes "file") (Accepts false parser.String)
     (one_keeps (codes "file") (Accepts false parser.String) [] file_shape (port_shape ∷ count_shape ∷ limit_shape ∷ []) refl refl (λ text h. h)) (given.0 refl) in
-    let port = given_passes serve_built none words e (codes "port") (Accepts false ports)
-    (one_keeps (codes "port") (Accepts false ports) (file_shape ∷ []) port_shape (count_shape ∷ limit_shape ∷ []) refl refl (λ text h. h)) (given.1.0 refl) in
-    let count = given_passes serve_built none words e (codes "connections") (Accepts false counts)
-    (one_keeps (codes "connections") (Accepts false counts) (file_shape ∷ port_shape ∷ []) count_shape (limit_shape ∷ []) refl refl (λ text h. h)) (given.1.1.0 refl) in
+    let port = given_passes serve_built none words e (codes "port") (Accepts false port_parser)
+    (one_keeps (codes "port") (Accepts false port_parser) (file_shape ∷ []) port_shape (count_shape ∷ limit_shape ∷ []) refl refl (λ text h. h)) (given.1.0 refl) in
+    let count = given_passes serve_built none words e (codes "connections") (Accepts false count_parser)
+    (one_keeps (codes "connections") (Accepts false count_parser) (file_shape ∷ port_shape ∷ []) count_shape (limit_shape ∷ []) refl refl (λ text h. h)) (given.1.1.0 refl) in
     let limit = limit_if_any (rows_after serve_built.rules [] words)
-    (passes_if_any serve_built none words e (codes "at-once") (Accepts false limits)
-    (one_keeps (codes "at-once") (Accepts false limits) (file_shape ∷ port_shape ∷ count_shape ∷ []) limit_shape [] refl refl (λ text h. h))) in
+    (passes_if_any serve_built none words e (codes "at-once") (Accepts false limit_parser)
+    (one_keeps (codes "at-once") (Accepts false limit_parser) (file_shape ∷ port_shape ∷ count_shape ∷ []) limit_shape [] refl refl (λ text h. h))) in
     let at_port = count_of (signed_digits_value 10 port.0) port.2.2 in
     let in_all = count_of (signed_digits_value 10 count.0) count.2.2 in (
       to_serve file.0 at_port.0 in_all.0 limit.0,
@@ -96,8 +96,8 @@ digest_named words e =
     let file = given_passes digest_built none words e (codes "file") (Accepts false parser.String)
     (one_keeps (codes "file") (Accepts false parser.String) [] file_shape (at_told ∷ []) refl refl (λ text h. h)) (given.0 refl) in
     let at = moment_if_any (rows_after digest_built.rules [] words)
-    (passes_if_any digest_built none words e (codes "at") (Accepts false moments)
-    (one_keeps (codes "at") (Accepts false moments) (file_shape ∷ []) at_told [] refl refl (λ text h. h))) in
+    (passes_if_any digest_built none words e (codes "at") (Accepts false moment_parser)
+    (one_keeps (codes "at") (Accepts false moment_parser) (file_shape ∷ []) at_told [] refl refl (λ text h. h))) in
     (to_digest file.0 at.0, (rows_after digest_built.rules [] words, refl, (file.1, at.1)))
 
 module _ (choices : Choices) (spelled : AreChoiceWords choices) where

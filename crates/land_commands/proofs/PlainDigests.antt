@@ -13,7 +13,7 @@ use Rattle.land_commands.proofs.PlainWords.{EndsWell, IsRead, Leads, empty_walk,
 use Rattle.land_commands.specs.Words.Commands.{land_app}
 use Rattle.land_commands.specs.Words.Laws.{IsNumeralIn, PlainDigestLaw}
 use Rattle.land_commands.specs.Words.Names.{NamesBy}
-use Rattle.land_commands.specs.Words.Options.{moments}
+use Rattle.land_commands.specs.Words.Options.{moment_parser}
 use Rattle.land_commands.specs.Words.PlainCommands.{to_digest}
 use Rattle.land_commands.specs.declared.words.choices.Choices.{Choices}
 
@@ -56,7 +56,7 @@ file_ends : (file : Text) → EndsWell digest_built (with_value [] (codes "file"
 unfolding clap_on_literals
 file_ends file = record { settles = refl; defaults = refl; checks = refl }
 
-at_ends : (file at : Text) → accepts false moments at ≡ true → EndsWell digest_built (with_value (file_row file ∷ []) (codes "at") at).held
+at_ends : (file at : Text) → accepts false moment_parser at ≡ true → EndsWell digest_built (with_value (file_row file ∷ []) (codes "at") at).held
 unfolding clap_on_literals
 at_ends file at accepted = record { settles = rw accepted refl; defaults = refl; checks = refl }
 
@@ -114,7 +114,7 @@ module _ (choices : Choices) (program : Text) (x : ℕ) (xs : Text) (sign : (x =
       to_file x xs (codes "--at" ∷ (y ∷ ys) ∷ []) _ sign
       (on_to digest_built _ _ _ _ _ (at_asked (x ∷ xs)) (at_asked_well (x ∷ xs))
       (on_to digest_built _ _ _ _ _ (at_answered _ y ys at_sign) (at_answered_well _ y ys at_sign) (empty_walk digest_built _))) in
-      let ends = at_ends (x ∷ xs) (y ∷ ys) (Accepts-accepts false moments (y ∷ ys) at_read.1) in
+      let ends = at_ends (x ∷ xs) (y ∷ ys) (Accepts-accepts false moment_parser (y ∷ ys) at_read.1) in
       record {
         faultless = fault_below_at choices program (x ∷ xs) (y ∷ ys) ∙ none_of_both _ _ (level_well digest_built _ _ leads ends) refl;
         found = (

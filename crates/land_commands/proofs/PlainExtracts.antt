@@ -18,7 +18,7 @@ use Rattle.land_commands.specs.Words.Choices.{Places, kind_word, kind_words, rol
 use Rattle.land_commands.specs.Words.Commands.{land_app}
 use Rattle.land_commands.specs.Words.Laws.{IsPlainText, PlainExtractLaw, extract_words}
 use Rattle.land_commands.specs.Words.Names.{NamesBy}
-use Rattle.land_commands.specs.Words.Options.{moments, parties}
+use Rattle.land_commands.specs.Words.Options.{moment_parser, party_parser}
 use Rattle.land_commands.specs.Words.PlainCommands.{to_extract}
 use Rattle.land_commands.specs.declared.words.choices.Choices.{Choices}
 use Rattle.land_core.specs.declared.kind.Kind.{Kind}
@@ -136,7 +136,7 @@ module _ (choices : Choices) where
   unfolding clap_on_literals
   party_asked file clock = refl
 
-  party_asked_well : (file clock : Text) → accepts false moments clock ≡ true
+  party_asked_well : (file clock : Text) → accepts false moment_parser clock ≡ true
       → turn_fault (extract_built choices) [] (with_value (file_row file ∷ []) (codes "clock") clock) (codes "--party") ≡ []
   unfolding clap_on_literals
   party_asked_well file clock accepted = rw accepted refl
@@ -147,7 +147,7 @@ module _ (choices : Choices) where
   unfolding clap_on_literals
   role_asked file clock party = refl
 
-  role_asked_well : (file clock party : Text) → accepts false parties party ≡ true
+  role_asked_well : (file clock party : Text) → accepts false party_parser party ≡ true
       → turn_fault (extract_built choices) [] (with_value (file_row file ∷ clock_row clock ∷ []) (codes "party") party) (codes "--role") ≡ []
   unfolding clap_on_literals
   role_asked_well file clock party accepted = rw accepted refl
@@ -179,7 +179,7 @@ module _ (choices : Choices) where
   unfolding clap_on_literals
   kind_ends file clock party role kind accepted = record { settles = rw accepted refl; defaults = refl; checks = refl }
 
-  at_ends : (file clock party role kind at : Text) → accepts false moments at ≡ true
+  at_ends : (file clock party role kind at : Text) → accepts false moment_parser at ≡ true
       → EndsWell (extract_built choices)
       (with_value (file_row file ∷ clock_row clock ∷ party_row party ∷ role_row role ∷ kind_row kind ∷ []) (codes "at") at).held
   unfolding clap_on_literals
@@ -223,8 +223,8 @@ module _ (choices : Choices) where
     party_plain : IsPlainText party
     role_plain : IsPlainText role
     kind_plain : IsPlainText kind
-    clock_passes : accepts false moments clock ≡ true
-    party_passes : accepts false parties party ≡ true
+    clock_passes : accepts false moment_parser clock ≡ true
+    party_passes : accepts false party_parser party ≡ true
     role_passes : accepts false (parser.Names choices.roles) role ≡ true
     kind_passes : accepts false (parser.Names choices.kinds) kind ≡ true
 
@@ -269,7 +269,7 @@ module _ (choices : Choices) where
           );
         }
 
-    at_moment : (at_digits : Text) (at : ℕ) → IsRead at_digits 0 4102444799999 at → accepts false moments at_digits ≡ true
+    at_moment : (at_digits : Text) (at : ℕ) → IsRead at_digits 0 4102444799999 at → accepts false moment_parser at_digits ≡ true
         → NamesBy choices (program ∷ codes "extract" ∷ (extract_words file clock_digits party_digits role kind ++ codes "--at" ∷ at_digits ∷ []))
         (to_extract file (pos clock) party role kind (Some (pos at)))
     at_moment at_digits at at_read at_passes =
@@ -307,8 +307,8 @@ plain_extract choices program file clock_digits party_digits clock party role ki
       party_plain = party_read.0;
       role_plain = plain_role role;
       kind_plain = plain_kind kind;
-      clock_passes = Accepts-accepts false moments clock_digits clock_read.1;
-      party_passes = Accepts-accepts false parties party_digits party_read.1;
+      clock_passes = Accepts-accepts false moment_parser clock_digits clock_read.1;
+      party_passes = Accepts-accepts false party_parser party_digits party_read.1;
       role_passes = passing_role choices.roles role spelled.roles;
       kind_passes = passing_kind choices.kinds kind spelled.kinds;
     } in (
@@ -316,5 +316,5 @@ plain_extract choices program file clock_digits party_digits clock party role ki
       λ at_digits at at_written.
           let at_read = numeral_reads at_digits 0 4102444799999 at (omega arith) at_written in
           at_moment choices program file clock_digits party_digits clock party role kind taken clock_read party_read at_digits at at_read
-          (Accepts-accepts false moments at_digits at_read.1),
+          (Accepts-accepts false moment_parser at_digits at_read.1),
     )

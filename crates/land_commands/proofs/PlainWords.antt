@@ -20,7 +20,7 @@ use Rattle.land_commands.proofs.BuiltCommands.{file_built, serve_built, talk_bui
 use Rattle.land_commands.specs.Words.Commands.{land_app}
 use Rattle.land_commands.specs.Words.Laws.{IsPlainText, IsNumeralIn, PlainServiceLaw, serve_words}
 use Rattle.land_commands.specs.Words.Names.{NamesBy}
-use Rattle.land_commands.specs.Words.Options.{counts, limits, moments, ports}
+use Rattle.land_commands.specs.Words.Options.{count_parser, limit_parser, moment_parser, port_parser}
 use Rattle.land_commands.specs.Words.PlainCommands.{to_talk, to_make, to_serve, to_check, to_migrate}
 use Rattle.land_commands.specs.declared.words.choices.Choices.{Choices}
 
@@ -175,7 +175,7 @@ talk_leads x xs sign =
     on_to talk_built _ _ _ _ _ talk_asks talk_asks_well
     (on_to talk_built _ _ _ _ _ (talk_answers x xs sign) (talk_answers_well x xs sign) (empty_walk talk_built _))
 
-talk_ends : (digits : Text) → accepts false moments digits ≡ true → EndsWell talk_built (with_value [] (codes "clock") digits).held
+talk_ends : (digits : Text) → accepts false moment_parser digits ≡ true → EndsWell talk_built (with_value [] (codes "clock") digits).held
 unfolding clap_on_literals
 talk_ends digits accepted = record { settles = rw accepted refl; defaults = refl; checks = refl }
 
@@ -196,7 +196,7 @@ plain_talk choices program [] moment writes = absurd (omega arith)
 plain_talk choices program (x ∷ xs) moment writes =
     let read = numeral_reads (x ∷ xs) 0 4102444799999 moment (omega arith) writes in
     let leads = talk_leads x xs (no_hyphen x read.0) in
-    let ends = talk_ends (x ∷ xs) (Accepts-accepts false moments (x ∷ xs) read.1) in
+    let ends = talk_ends (x ∷ xs) (Accepts-accepts false moment_parser (x ∷ xs) read.1) in
     record {
       faultless = talk_fault_below choices program (x ∷ xs) ∙ none_of_both _ _ (level_well talk_built _ _ leads ends) refl;
       found = (
@@ -350,7 +350,7 @@ count_asked : (file digits : Text) → walked serve_built.rules [] (with_value (
 unfolding clap_on_literals
 count_asked file digits = refl
 
-count_asked_well : (file digits : Text) → accepts false ports digits ≡ true
+count_asked_well : (file digits : Text) → accepts false port_parser digits ≡ true
     → turn_fault serve_built [] (with_value (file_row file ∷ []) (codes "port") digits) (codes "--connections") ≡ []
 unfolding clap_on_literals
 count_asked_well file digits accepted = rw accepted refl
@@ -370,7 +370,7 @@ limit_asked : (file port count : Text)
 unfolding clap_on_literals
 limit_asked file port count = refl
 
-limit_asked_well : (file port count : Text) → accepts false counts count ≡ true
+limit_asked_well : (file port count : Text) → accepts false count_parser count ≡ true
     → turn_fault serve_built [] (with_value (file_row file ∷ port_row port ∷ []) (codes "connections") count) (codes "--at-once") ≡ []
 unfolding clap_on_literals
 limit_asked_well file port count accepted = rw accepted refl
@@ -384,12 +384,12 @@ limit_answered_well : (rows : List Row) (x : ℕ) (xs : Text) → (x == 45) ≡ 
 unfolding clap_on_literals
 limit_answered_well rows x xs sign = rw sign (rw sign refl)
 
-count_ends : (file port count : Text) → accepts false counts count ≡ true
+count_ends : (file port count : Text) → accepts false count_parser count ≡ true
     → EndsWell serve_built (with_value (file_row file ∷ port_row port ∷ []) (codes "connections") count).held
 unfolding clap_on_literals
 count_ends file port count accepted = record { settles = rw accepted refl; defaults = refl; checks = refl }
 
-limit_ends : (file port count limit : Text) → accepts false limits limit ≡ true
+limit_ends : (file port count limit : Text) → accepts false limit_parser limit ≡ true
     → EndsWell serve_built (with_value (file_row file ∷ port_row port ∷ count_row count ∷ []) (codes "at-once") limit).held
 unfolding clap_on_literals
 limit_ends file port count limit accepted = record { settles = rw accepted refl; defaults = refl; checks = refl }
@@ -418,8 +418,8 @@ limit_rows_below choices program file port count limit = refl
 
 module _ (choices : Choices) (program : Text) (x y z : ℕ) (xs ys zs : Text) (port connections : ℕ) (plain : IsPlainText (x ∷ xs))
     (port_read : IsRead (y ∷ ys) 1 65535 port) (count_read : IsRead (z ∷ zs) 1 1000000 connections) where
-  count_passes : accepts false counts (z ∷ zs) ≡ true
-  count_passes = Accepts-accepts false counts (z ∷ zs) count_read.1
+  count_passes : accepts false count_parser (z ∷ zs) ≡ true
+  count_passes = Accepts-accepts false count_parser (z ∷ zs) count_read.1
 
   -- the walk until the number of connections
   to_count : (more : List Text) (end : Walk)
@@ -429,7 +429,7 @@ module _ (choices : Choices) (program : Text) (x y z : ℕ) (xs ys zs : Text) (p
       let a = no_hyphen x plain in
       let b = no_hyphen y port_read.0 in
       let c = no_hyphen z count_read.0 in
-      let port_passes = Accepts-accepts false ports (y ∷ ys) port_read.1 in
+      let port_passes = Accepts-accepts false port_parser (y ∷ ys) port_read.1 in
       on_to serve_built _ _ _ _ _ file_asked file_asked_well
       (on_to serve_built _ _ _ _ _ (file_answered x xs a) (file_answered_well x xs a)
       (on_to serve_built _ _ _ _ _ (port_asked (x ∷ xs)) (port_asked_well (x ∷ xs))
@@ -464,7 +464,7 @@ module _ (choices : Choices) (program : Text) (x y z : ℕ) (xs ys zs : Text) (p
       to_count (codes "--at-once" ∷ (w ∷ ws) ∷ []) _
       (on_to serve_built _ _ _ _ _ (limit_asked (x ∷ xs) (y ∷ ys) (z ∷ zs)) (limit_asked_well (x ∷ xs) (y ∷ ys) (z ∷ zs) count_passes)
       (on_to serve_built _ _ _ _ _ (limit_answered _ w ws sign) (limit_answered_well _ w ws sign) (empty_walk serve_built _))) in
-      let ends = limit_ends (x ∷ xs) (y ∷ ys) (z ∷ zs) (w ∷ ws) (Accepts-accepts false limits (w ∷ ws) limit_read.1) in
+      let ends = limit_ends (x ∷ xs) (y ∷ ys) (z ∷ zs) (w ∷ ws) (Accepts-accepts false limit_parser (w ∷ ws) limit_read.1) in
       record {
         faultless = limit_fault_below choices program (x ∷ xs) (y ∷ ys) (z ∷ zs) (w ∷ ws) ∙ none_of_both _ _ (level_well serve_built _ _ leads ends) refl;
         found = (

@@ -14,7 +14,7 @@ use Rattle.land_keep.specs.Keeping.{IsStateOf}
 use Rattle.land_keep.specs.Timeline.{new_timeline}
 use Rattle.land_keep.specs.declared.store_fault.StoreFault.{StoreFault}
 use Rattle.land_pool.specs.Endings.{Ending}
-use Rattle.land_pool.specs.Interleaving.{ReportsClosing, ServesAtOnce}
+use Rattle.land_pool.specs.Interleaving.{ReportsClosedStore, ServesAtOnce}
 use Rattle.land_pool.specs.declared.pool.PoolFault.{PoolFault}
 use Rattle.land_tables.specs.Adopting.{IsAdopted, IsRefused}
 use Rattle.land_tables.specs.Calls.{StaysOpenAndSame}
@@ -147,7 +147,7 @@ pub record ServesTablesAtOnce {S C T : Type 0} (g : Ghosts S) (reads : C → ℤ
     → Type 0) (wanted : ℕ) (coming after : Option (List (Option (List ℕ)))) (endings : Endings)
     (from : TablesState S) (clock : C) (to : TablesState S) (clock_after : C)
     (r : Result T PoolFault) : Type 0 where
-  pub told : ReportsClosing r to.is_closed
+  pub told : ReportsClosedStore r to.is_closed
   pub was : IsHonest g to → IsHonest g from
   pub served : IsHonest g to
       → ServesAtOnce reads wanted

@@ -6,7 +6,7 @@ use Rattle.land_commands.specs.Digesting.{DigestsRegister}
 use Rattle.land_commands.specs.Extracting.{ExtractsRegister, extract_request_of}
 use Rattle.land_commands.specs.Filed.{ChecksRegister, CreatesRegister, ServesRegister}
 use Rattle.land_commands.specs.Migrating.{IsMigrating}
-use Rattle.land_commands.specs.ProgramFaults.{fault_of, line_of, status_of}
+use Rattle.land_commands.specs.ProgramFaults.{fault_of, line_of, exit_status}
 use Rattle.land_commands.specs.CommandErrors.{denied_text}
 use Rattle.land_commands.specs.Words.Names.{IsReading}
 use Rattle.land_commands.specs.Words.PlainCommands.{PlainCommand, to_talk, to_make, to_serve, to_check}
@@ -53,13 +53,13 @@ WritesOrFails text old new = Appends old new text ⊎ ((n : ℕ) × Appends old 
 abbrev pub ReportsServed : Result Served DeskFault → (old new : Option (List ℕ)) → (status : ℕ) → Type 0
 ReportsServed (Ok served) old new status = (status ≡ 0) × Appends old new []
 ReportsServed (Err fault) old new status =
-    (status ≡ status_of (fault_of fault)) × WritesOrFails (line_of (fault_of fault)) old new
+    (status ≡ exit_status (fault_of fault)) × WritesOrFails (line_of (fault_of fault)) old new
 
 -- The same after a command on a file.
 abbrev pub ReportsDone : {T : Type 0} → Result T ProgramFault → (old new : Option (List ℕ)) → (status : ℕ)
     → Type 0
 ReportsDone (Ok done) old new status = (status ≡ 0) × Appends old new []
-ReportsDone (Err fault) old new status = (status ≡ status_of fault) × WritesOrFails (line_of fault) old new
+ReportsDone (Err fault) old new status = (status ≡ exit_status fault) × WritesOrFails (line_of fault) old new
 
 -- A denial is written, and the status is 1. If out of memory for the line, 501 is written.
 abbrev pub ReportsDenial : (rule : ℕ) → (old new : Option (List ℕ)) → (status : ℕ) → Type 0
@@ -72,7 +72,7 @@ abbrev pub ReportsExtracted : {T : Type 0} → Result T CommandError → (old ne
 ReportsExtracted (Ok done) old new status = (status ≡ 0) × Appends old new []
 ReportsExtracted (Err (command_error.Denied rule)) old new status = ReportsDenial rule old new status
 ReportsExtracted (Err (command_error.Fault fault)) old new status =
-    (status ≡ status_of fault) × WritesOrFails (line_of fault) old new
+    (status ≡ exit_status fault) × WritesOrFails (line_of fault) old new
 
 -- A host, as far as a command depends on it: the states that its files may have, when a file is closed, and,
 -- for each port, the pending connections and the recorded endings before the command and after it.
@@ -147,7 +147,7 @@ module _ {S C : Type 0} (g : Ghosts S) (h : Files S) (reads : C → ℤ → C �
   RunsParsed (Err (words.Refused text)) input clock clock_after old new old_errors new_errors status =
       (status ≡ 2) × Appends old new [] × WritesOrFails (string_bytes text) old_errors new_errors
   RunsParsed (Err words.NoMemory) input clock clock_after old new old_errors new_errors status =
-      (status ≡ status_of NoMemory) × Appends old new []
+      (status ≡ exit_status NoMemory) × Appends old new []
       × WritesOrFails (line_of NoMemory) old_errors new_errors
 
   -- The arguments are read, and the command is run.

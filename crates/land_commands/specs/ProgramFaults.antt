@@ -66,18 +66,18 @@ IsFaultOfClosing fault = (fault ≡ program.NoMemory) ⊎ (fault ≡ program.Clo
 
 -- The exit status: 2 for arguments that are not valid UTF-8, as for other invalid arguments, and 1 for a
 -- fault.
-abbrev pub status_of : ProgramFault → ℕ
-status_of program.Words = 2
-status_of program.Stream = 1
-status_of program.NoMemory = 1
-status_of program.Open = 1
-status_of program.Listen = 1
-status_of program.FutureMoment = 1
-status_of program.Closed = 1
-status_of program.NotOurs = 1
-status_of program.Interval = 1
-status_of program.Unsound = 1
-status_of program.Version = 1
+abbrev pub exit_status : ProgramFault → ℕ
+exit_status program.Words = 2
+exit_status program.Stream = 1
+exit_status program.NoMemory = 1
+exit_status program.Open = 1
+exit_status program.Listen = 1
+exit_status program.FutureMoment = 1
+exit_status program.Closed = 1
+exit_status program.NotOurs = 1
+exit_status program.Interval = 1
+exit_status program.Unsound = 1
+exit_status program.Version = 1
 
 -- The line that reports a fault.
 abbrev pub line_of : ProgramFault → List ℕ

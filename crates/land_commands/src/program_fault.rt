@@ -3,7 +3,7 @@ ghost use Rattle.std.specs.Prelude.{◌≡◌};
 ghost use Rattle.std.specs.IoError.{error_kind};
 ghost use Rattle.land_commands.specs.ProgramFaults.{fault_of, fault_of_adopting, fault_of_creating};
 ghost use Rattle.land_commands.specs.ProgramFaults.{fault_of_pool, fault_of_service};
-ghost use Rattle.land_commands.specs.ProgramFaults.{IsFaultOfWords, line_of, status_of};
+ghost use Rattle.land_commands.specs.ProgramFaults.{IsFaultOfWords, line_of, exit_status};
 
 use land_desk::serve::DeskFault;
 use land_desk::service::serving::ServiceFault;
@@ -43,7 +43,7 @@ pub enum ProgramFault {
 impl ProgramFault {
     /// Returns the exit status: 2 for the arguments, 1 for any other fault.
     pub fn status(self) -> u8
-        ensures { result ≡ status_of self }
+        ensures { result ≡ exit_status self }
     {
         match self {
             ProgramFault::Words => 2,

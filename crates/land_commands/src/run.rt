@@ -4,7 +4,7 @@ ghost use Rattle.std.specs.Io.KnownBytes.{Appends};
 ghost use Rattle.land_commands.specs.Program.{ReportsServed, RunsCommand, Talks, ReportsDenial, ReportsDone};
 ghost use Rattle.land_commands.specs.Program.{ReportsExtracted};
 ghost use Rattle.land_commands.specs.Program.{WritesOrFails, files_of};
-ghost use Rattle.land_commands.specs.ProgramFaults.{line_of, status_of};
+ghost use Rattle.land_commands.specs.ProgramFaults.{line_of, exit_status};
 ghost use Rattle.land_commands.specs.CommandErrors.{denied_text};
 ghost use Rattle.land_commands.specs.Words.PlainCommands.{order_of};
 ghost use Rattle.land_tables.specs.TablesState.{IsCreated};
@@ -165,7 +165,7 @@ fn denied_line(alloc: Global, rule: u8) -> Result<String, AllocError>
 
 /// Writes a fault to `errors` and returns its exit status.
 pub fn report_fault<E: Write>(errors: &mut E, fault: ProgramFault) -> u8
-    ensures status { result ≡ status_of fault }
+    ensures status { result ≡ exit_status fault }
     ensures said { WritesOrFails (line_of fault) (E.contents errors.old) (E.contents errors.new) }
 {
     write_stderr(errors, fault.line());

@@ -14,22 +14,22 @@ use Rattle.std.proofs.lemmas.Map.Lookups.{exact_pairs, exact_unsigned}
 use Rattle.land_core.proofs.FiniteMaps.{one_inserted, one_removed}
 use Rattle.land_core.specs.Grants.{grant_cmp, set_entries}
 use Rattle.land_core.specs.Mandates.{mandate_cmp}
-use Rattle.land_core.specs.Role.{place_of, role_at, role_at_place}
+use Rattle.land_core.specs.Role.{role_index, role_at, role_at_place}
 use Rattle.land_core.specs.declared.mandates.Mandate.{Mandate}
 use Rattle.land_core.specs.declared.roles.Grant.{Grant}
 
 pub grants_total : IsTotalOrder grant_cmp
-grants_total = then_total (on_total (λ g. g.party) nat_cmp_total) (on_total (λ g. place_of g.role) nat_cmp_total)
+grants_total = then_total (on_total (λ g. g.party) nat_cmp_total) (on_total (λ g. role_index g.role) nat_cmp_total)
 
 unpacked : ℕ × ℕ → Grant
 unpacked p = record { party = p.0; role = role_at p.1 }
 
-unpacked_packed : (g : Grant) → unpacked (g.party, place_of g.role) ≡ g
+unpacked_packed : (g : Grant) → unpacked (g.party, role_index g.role) ≡ g
 unfolding unpacked
 unpacked_packed g = ap (λ r. let it : Grant = record { party = g.party; role = r } in it) (role_at_place g.role)
 
 pub exact_grants : IsAntisymmetric grant_cmp
-exact_grants a b h = sym (unpacked_packed a) ∙ ap unpacked (exact_pairs nat_cmp nat_cmp exact_unsigned exact_unsigned (a.party, place_of a.role) (b.party, place_of b.role) h) ∙ unpacked_packed b
+exact_grants a b h = sym (unpacked_packed a) ∙ ap unpacked (exact_pairs nat_cmp nat_cmp exact_unsigned exact_unsigned (a.party, role_index a.role) (b.party, role_index b.role) h) ∙ unpacked_packed b
 
 pub mandates_total : IsTotalOrder mandate_cmp
 mandates_total = then_total (on_total (λ m. m.principal) nat_cmp_total) (on_total (λ m. m.agent) nat_cmp_total)

@@ -12,7 +12,7 @@ use Rattle.land_core.proofs.FiniteSets.{grants_total, exact_grants}
 use Rattle.land_core.proofs.LooseMandates.{no_mandates_are_tight}
 use Rattle.land_core.proofs.SoundRegisters.{are_used_back, none_in_empty, refers_back, loose_from, unused_from, loose_members_from, unbroken_from, single_put, apart_itself, administrator_at}
 use Rattle.land_core.specs.Entries.{has}
-use Rattle.land_core.specs.Grants.{grant_cmp, grant_of}
+use Rattle.land_core.specs.Grants.{grant_cmp, grant_to}
 use Rattle.land_core.specs.Register.{empty_register, new_register, has_single_party, is_single}
 use Rattle.land_core.specs.Soundness.{IsSound, is_used, is_rank_out_of_range, is_dangling_mutation, shares_reference_with_later, clashes_with_later}
 use Rattle.land_core.specs.Units.{has_whole_shares, has_parcel, has_owner, parcel_count, rrr_count, rank_of}
@@ -35,10 +35,10 @@ new_is_sound Reference =
       | false ↦ λ apart e. absurd (none_is_not_some (sym (map.get-empty nat_cmp n) ∙ e))
     ] refl (sym (map.get-insert nat_cmp_total empty_register.parties 1 office n) ∙ is)) in
     let loose = loose_from new_register (λ g is.
-    elim (eq_by_cmp grant_cmp g (grant_of 1 StateAdministrator)) as (λ b. eq_by_cmp grant_cmp g (grant_of 1 StateAdministrator) ≡ b → cond b (Some tt) (map.get empty_register.roles g) ≡ Some tt → has_single_party new_register g.party ≡ true) [
-      | true ↦ λ at e. subst (λ (n : ℕ). has_single_party new_register n ≡ true) (sym (ap (λ (x : Grant). x.party) (exact_grants g (grant_of 1 StateAdministrator) (is_equal _ at)))) (single_put empty_register new_register 1 office refl refl 1 (λ apart. absurd (apart_itself 1 apart)))
+    elim (eq_by_cmp grant_cmp g (grant_to 1 StateAdministrator)) as (λ b. eq_by_cmp grant_cmp g (grant_to 1 StateAdministrator) ≡ b → cond b (Some tt) (map.get empty_register.roles g) ≡ Some tt → has_single_party new_register g.party ≡ true) [
+      | true ↦ λ at e. subst (λ (n : ℕ). has_single_party new_register n ≡ true) (sym (ap (λ (x : Grant). x.party) (exact_grants g (grant_to 1 StateAdministrator) (is_equal _ at)))) (single_put empty_register new_register 1 office refl refl 1 (λ apart. absurd (apart_itself 1 apart)))
       | false ↦ λ apart e. absurd (none_is_not_some (sym (map.get-empty grant_cmp g) ∙ e))
-    ] refl (sym (map.get-insert grants_total empty_register.roles (grant_of 1 StateAdministrator) tt g) ∙ is)) in
+    ] refl (sym (map.get-insert grants_total empty_register.roles (grant_to 1 StateAdministrator) tt g) ∙ is)) in
     let members = loose_members_from new_register (λ group members is. absurd (none_is_not_some (sym (map.get-empty nat_cmp group) ∙ is))) in
     let unused = are_used_back new_register (record {
       parties = parties;
@@ -71,6 +71,6 @@ new_is_sound Group =
       | false ↦ λ e. none_is_not_some (sym (map.get-empty nat_cmp n) ∙ e)
     ] (sym (map.get-insert nat_cmp_total empty_register.parties 1 office n) ∙ is)))
 new_is_sound Administrator =
-    ap not (administrator_at new_register (grant_of 1 StateAdministrator)
-    (map.get-insert grants_total empty_register.roles (grant_of 1 StateAdministrator) tt (grant_of 1 StateAdministrator) ∙ ap (λ b. cond b (Some tt) (map.get empty_register.roles (grant_of 1 StateAdministrator))) (ap is_eq (tied_itself grants_total (grant_of 1 StateAdministrator))))
+    ap not (administrator_at new_register (grant_to 1 StateAdministrator)
+    (map.get-insert grants_total empty_register.roles (grant_to 1 StateAdministrator) tt (grant_to 1 StateAdministrator) ∙ ap (λ b. cond b (Some tt) (map.get empty_register.roles (grant_to 1 StateAdministrator))) (ap is_eq (tied_itself grants_total (grant_to 1 StateAdministrator))))
     refl)

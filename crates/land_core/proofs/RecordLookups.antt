@@ -13,14 +13,14 @@ use Rattle.land_core.proofs.Reflection.{none_at, none_passes, some_at, some_pass
 use Rattle.land_core.proofs.SoundRegisters.{are_used, are_used_back, administrator_at, administrator_from, loose_from, loose_members_from, members_from, refers, refers_back, single_from, unbroken_from, unused_from, used_bounds, used_from, whole_from}
 use Rattle.land_core.specs.Contents.{is_well_formed_content}
 use Rattle.land_core.specs.Entries.{has, some}
-use Rattle.land_core.specs.Grants.{grant_of}
+use Rattle.land_core.specs.Grants.{grant_to}
 use Rattle.land_core.specs.Laws.{AreGroupShares, EntryRefers, GoTogether, HasOwner, HasParcel, IsInUse, IsSoundByNumber, IsSoundUnit, MandateRefers, MutationRefers, ParcelRefers, SoundnessByNumber}
-use Rattle.land_core.specs.Mandates.{mandate_of}
+use Rattle.land_core.specs.Mandates.{mandate_between}
 use Rattle.land_core.specs.Members.{are_group_shares, is_group_size, is_yes}
 use Rattle.land_core.specs.Mutations.{have_same_reference}
 use Rattle.land_core.specs.Numbers.{last_next}
 use Rattle.land_core.specs.Register.{has_single_party, holds, shares_of}
-use Rattle.land_core.specs.Role.{is_role, place_of, role_at, role_at_place}
+use Rattle.land_core.specs.Role.{is_role, role_index, role_at, role_at_place}
 use Rattle.land_core.specs.Soundness.{IsSound, clashes_with_later, has_clash, has_reused_reference, is_dangling_mandate, is_dangling_mutation, is_rank_out_of_range, shares_reference_with_later, is_used}
 use Rattle.land_core.specs.Units.{are_of_one_rank, are_of_one_type, are_whole_or_none, do_clash, has_owner, has_parcel, has_whole_shares, is_right_in, is_right_of, is_type, parcel_count, rank_of, rrr_count, type_of, type_shares}
 use Rattle.land_core.specs.declared.mandates.Mandate.{Mandate}
@@ -173,7 +173,7 @@ granted None h = absurd (false≢true h)
 granted (Some u) h = refl
 
 administers : (role : Role) → is_role role StateAdministrator ≡ true → role ≡ StateAdministrator
-administers role h = sym (role_at_place role) ∙ ap role_at (eqb-true (place_of role) 5 h)
+administers role h = sym (role_at_place role) ∙ ap role_at (eqb-true (role_index role) 5 h)
 
 -- the references of a parcel and of an entry exist
 parcel_refers : (r : Register) (p : ParcelRecord) → not (has r.units p.unit && has r.sources p.source) ≡ false → ParcelRefers r p
@@ -346,13 +346,13 @@ module _ (law : WholenessLaw) where
         numbers_of_entries = λ n v is. in_use r n (used_from r r.rrrs numbers.rrrs n v is);
         numbers_of_sources = λ n v is. in_use r n (used_from r r.sources numbers.sources n v is);
         numbers_of_mutations = λ n v is. in_use r n (used_from r r.mutations numbers.mutations n v is);
-        roles = λ party role h. single_from r parts.grants (grant_of party role) (granted (map.get r.roles (grant_of party role)) h);
+        roles = λ party role h. single_from r parts.grants (grant_to party role) (granted (map.get r.roles (grant_to party role)) h);
         members = λ group members is. let it = members_from r parts.members group members is in record { grouped = it.grouped; single = it.single };
         parcels = λ n p is. parcel_refers r p (at (λ n p. not (has r.units p.unit && has r.sources p.source)) r.parcels parts.parcels n p is);
         entries = λ n e is. entry_refers r e (at (λ n e. not (has r.units e.unit && has r.parties e.party && has r.sources e.source)) r.rrrs parts.rrrs n e is);
         mutations = λ n m is. mutation_refers r m (at (λ n m. is_dangling_mutation r m) r.mutations parts.mutations n m is);
         mandates = λ principal agent h.
-            let it = mandate_of principal agent in mandate_refers r it (mandates_from r parts.mandates it (granted (map.get r.mandates it) h));
+            let it = mandate_between principal agent in mandate_refers r it (mandates_from r parts.mandates it (granted (map.get r.mandates it) h));
         groups = λ n p is group. group_from (shares_of r n) (whole_from r (sound Group) n p is group);
         units = unit_from r sound;
         pairs = pairs_from r (sound Twice);
@@ -400,7 +400,7 @@ module _ (law : WholenessLaw) where
       each (λ n e. clashes_with_later r n e) r.rrrs (λ n e is. each (λ m f. nat_lt n m && do_clash e f) r.rrrs (λ m f later. pair_to n m e f (h.pairs n m e f is later)))
   look_ups_to r h Rank = each (λ n e. is_rank_out_of_range r (rank_of e.class)) r.rrrs (λ n e is. rank_to r (rank_of e.class) (λ rank at_rank. h.ranks n e rank is at_rank))
   look_ups_to r h Administrator =
-      ap not (administrator_at r (grant_of h.administrator.0 StateAdministrator) (granted (map.get r.roles (grant_of h.administrator.0 StateAdministrator)) h.administrator.1) refl)
+      ap not (administrator_at r (grant_to h.administrator.0 StateAdministrator) (granted (map.get r.roles (grant_to h.administrator.0 StateAdministrator)) h.administrator.1) refl)
   look_ups_to r h Reused =
       each (λ n m. shares_reference_with_later r n m) r.mutations (λ n m is. each (λ k other. nat_lt n k && have_same_reference m other) r.mutations (λ k other later.
       reference_to n k m other (h.references n k m other is later)))

@@ -15,7 +15,7 @@ use Rattle.land_core.proofs.Reflection.{none_at, some_at, some_passes}
 use Rattle.land_core.specs.ByUnit.{IsByUnit, claim_in, claim_of, claimed_share, claimed_shares, claims_in, do_claims_clash, have_clash, is_bare, is_claim_of, is_crowded, lacks_whole_shares, items_of_unit, under}
 use Rattle.land_core.specs.Entries.{some, has}
 use Rattle.land_core.specs.Soundness.{has_bare_unit, has_clash, has_crowded_unit, has_dangling_rrr, has_unit_without_whole_shares}
-use Rattle.land_core.specs.Units.{are_of_one_rank, are_of_one_type, are_whole_or_none, do_clash, has_owner, has_parcel, has_whole_shares, is_right_in, is_right_of, parcel_count, rrr_count, share_in, is_type, rank_of, share_of, type_of, type_shares}
+use Rattle.land_core.specs.Units.{are_of_one_rank, are_of_one_type, are_whole_or_none, do_clash, has_owner, has_parcel, has_whole_shares, is_right_in, is_right_of, parcel_count, rrr_count, share_in_unit, is_type, rank_of, share_of, type_of, type_shares}
 use Rattle.land_core.specs.declared.register.Register.{Register}
 use Rattle.land_core.specs.declared.rrr.Class.{Class}
 use Rattle.land_core.specs.declared.rrr.Class.TheVariants.{Right, Restriction, Responsibility, Mortgage}
@@ -200,7 +200,7 @@ module _ (b : ByUnit) (r : Register) (listed : IsByUnit b r) where
   shares_listed unit type =
       ap (filter_map (claimed_share type)) (listed.claims unit)
       ∙ filter_map-items_of_unit (λ e. e.1.unit) (λ e. claim_of e.1) unit (claimed_share type) (map.entries r.rrrs)
-      ∙ filter_map_same (λ (e : ℕ × RrrRecord). cond (nat_eq e.1.unit unit) (claimed_share type (claim_of e.1)) None) (λ e. share_in unit type e.1)
+      ∙ filter_map_same (λ (e : ℕ × RrrRecord). cond (nat_eq e.1.unit unit) (claimed_share type (claim_of e.1)) None) (λ e. share_in_unit unit type e.1)
       (λ e. ap (λ o. cond (nat_eq e.1.unit unit) o None) (share_claimed type e.1.party e.1.class)) (map.entries r.rrrs)
 
   whole_listed : (unit : ℕ) → lacks_whole_shares b unit ≡ not (has_whole_shares r unit)

@@ -105,5 +105,5 @@ refers_to_unit_where passes (content.Mortgage it) = passes it.unit
 refers_to_unit_where passes (content.Discharge it) = passes it.unit
 
 -- whether a content refers to a unit
-abbrev pub names_unit : (unit : ℕ) → Content → Bool
-names_unit unit it = refers_to_unit_where (λ n. nat_eq n unit) it
+abbrev pub content_names_unit : (unit : ℕ) → Content → Bool
+content_names_unit unit it = refers_to_unit_where (λ n. nat_eq n unit) it

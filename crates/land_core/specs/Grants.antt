@@ -6,12 +6,12 @@ use Rattle.std.proofs.Common.{ap}
 use Rattle.std.specs.Ordering.{nat_cmp, ordering_then}
 use Rattle.std.specs.declared.cmp.Ordering.{Ordering}
 use Rattle.std.specs.Coded.{Coded, code_by, coded×, coded_ℕ}
-use Rattle.land_core.specs.Role.{place_of, role_cmp, role_at, role_at_place}
+use Rattle.land_core.specs.Role.{role_index, role_cmp, role_at, role_at_place}
 use Rattle.land_core.specs.declared.role.Role.{Role}
 use Rattle.land_core.specs.declared.roles.Grant.{Grant}
 
-abbrev pub grant_of : ℕ → Role → Grant
-grant_of party role = record { party = party; role = role }
+abbrev pub grant_to : ℕ → Role → Grant
+grant_to party role = record { party = party; role = role }
 
 -- by party, and then by role
 abbrev pub grant_cmp : Grant → Grant → Ordering
@@ -19,7 +19,7 @@ grant_cmp a b = ordering_then (nat_cmp a.party b.party) (role_cmp a.role b.role)
 
 -- a grant is determined by its party's number and its role's position
 abbrev pub coded_grant : Coded Grant
-coded_grant = code_by (ℕ × ℕ) (coded× coded_ℕ coded_ℕ) (λ g. (g.party, place_of g.role))
+coded_grant = code_by (ℕ × ℕ) (coded× coded_ℕ coded_ℕ) (λ g. (g.party, role_index g.role))
     (λ p. record { party = p.0; role = role_at p.1 })
     (λ g. ap (λ r. record { party = g.party; role = r }) (role_at_place g.role))
 

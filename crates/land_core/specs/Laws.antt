@@ -5,7 +5,7 @@ use Rattle.std.specs.FinMap.{FinMap}
 use Rattle.std.specs.Option.{IsSome}
 use Rattle.std.specs.Ordering.{nat_cmp}
 use Rattle.land_core.specs.Contents.{is_well_formed_content}
-use Rattle.land_core.specs.Mandates.{has_mandate, mandate_of}
+use Rattle.land_core.specs.Mandates.{has_mandate, mandate_between}
 use Rattle.land_core.specs.Members.{Members}
 use Rattle.land_core.specs.Numbers.{last_next}
 use Rattle.land_core.specs.Register.{has_group, has_single_party, holds, is_single, shares_of}
@@ -116,7 +116,7 @@ pub record IsSoundByNumber (r : Register) : Type 0 where
   pub entries : (n : ℕ) (entry : RrrRecord) → map.get r.rrrs n ≡ Some entry → EntryRefers r entry
   pub mutations : (n : ℕ) (mutation : MutationRecord) → map.get r.mutations n ≡ Some mutation
       → MutationRefers r mutation
-  pub mandates : (principal agent : ℕ) → has_mandate r.mandates (mandate_of principal agent) ≡ true
+  pub mandates : (principal agent : ℕ) → has_mandate r.mandates (mandate_between principal agent) ≡ true
       → MandateRefers r principal agent
   pub groups : (n : ℕ) (party : PartyRecord) → map.get r.parties n ≡ Some party
       → is_single party.kind ≡ false → AreGroupShares (shares_of r n)

@@ -8,8 +8,8 @@ use Rattle.std.specs.declared.cmp.Ordering.{Ordering}
 use Rattle.std.specs.Coded.{Coded, code_by, coded×, coded_ℕ}
 use Rattle.land_core.specs.declared.mandates.Mandate.{Mandate}
 
-abbrev pub mandate_of : (principal agent : ℕ) → Mandate
-mandate_of principal agent = record { principal = principal; agent = agent }
+abbrev pub mandate_between : (principal agent : ℕ) → Mandate
+mandate_between principal agent = record { principal = principal; agent = agent }
 
 -- by principal, and then by agent
 abbrev pub mandate_cmp : Mandate → Mandate → Ordering

@@ -13,12 +13,12 @@ use Rattle.land_fraction.specs.declared.lists.Whole.TheVariants.{Yes, No, TooFin
 abbrev pub Members : Type 0
 Members = FinMap nat_cmp Ratio
 
-abbrev pub member_of : ℕ → Ratio → Member
-member_of party share = record { party = party; share = share }
+abbrev pub member_with_share : ℕ → Ratio → Member
+member_with_share party share = record { party = party; share = share }
 
 -- the members as a list, ordered by number
 abbrev pub members_in : Members → List Member
-members_in members = map_list (λ e. member_of e.0 e.1) (map.entries members)
+members_in members = map_list (λ e. member_with_share e.0 e.1) (map.entries members)
 
 -- their shares, in the same order
 abbrev pub shares_in : Members → List Ratio

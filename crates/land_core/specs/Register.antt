@@ -3,7 +3,7 @@ use Rattle.std.specs.Prelude.{ℕ, Bool, true, false, not, List, [], filter, Opt
 use Rattle.std.specs.Option.{option_map, option_map_or}
 use Rattle.std.specs.FinMap as map
 use Rattle.land_core.specs.Entries.{has}
-use Rattle.land_core.specs.Grants.{has_grant, grant_of}
+use Rattle.land_core.specs.Grants.{has_grant, grant_to}
 use Rattle.land_core.specs.Members.{members_in, shares_in}
 use Rattle.land_core.specs.Role.{all_roles}
 use Rattle.land_core.specs.declared.kind.Kind.{Kind}
@@ -12,6 +12,7 @@ use Rattle.land_core.specs.declared.kind.PartyKind.{PartyKind}
 use Rattle.land_core.specs.declared.kind.PartyKind.TheVariants.{NaturalPerson, NonNaturalPerson, Group}
 use Rattle.land_core.specs.declared.member.Member.{Member}
 use Rattle.land_core.specs.declared.mutation.Mutation.{Mutation}
+use Rattle.land_core.specs.declared.mutation.MutationRecord.{MutationRecord}
 use Rattle.land_core.specs.declared.object.Object.{Object}
 use Rattle.land_core.specs.declared.object.Object.TheVariants as object
 use Rattle.land_core.specs.declared.parcel.Parcel.{Parcel}
@@ -43,7 +44,7 @@ empty_register = record {
 abbrev pub new_register : Register
 new_register = record {
   parties = map.insert map.empty 1 (record { kind = NonNaturalPerson; name = codes "Land Office" });
-  roles = map.insert map.empty (grant_of 1 StateAdministrator) tt;
+  roles = map.insert map.empty (grant_to 1 StateAdministrator) tt;
   members = map.empty;
   units = map.empty;
   parcels = map.empty;
@@ -63,9 +64,13 @@ stands r kind.Rrr n = has r.rrrs n
 stands r kind.Source n = has r.sources n
 stands r kind.Mutation n = has r.mutations n
 
+-- whether a mutation exists at a number and satisfies a condition
+abbrev pub is_mutation_where : (MutationRecord → Bool) → Register → (number : ℕ) → Bool
+is_mutation_where passes r n = option_map_or passes (map.get r.mutations n) false
+
 -- whether a party has a role
 abbrev pub holds : Register → ℕ → Role → Bool
-holds r party role = has_grant r.roles (grant_of party role)
+holds r party role = has_grant r.roles (grant_to party role)
 
 -- a natural or non-natural person is a single party, a group is not (LA_Party, LA_GroupParty)
 abbrev pub is_single : PartyKind → Bool

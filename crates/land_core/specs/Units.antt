@@ -63,12 +63,12 @@ abbrev pub is_right_in : (unit : ℕ) → RightType → RrrRecord → Bool
 is_right_in unit type e = nat_eq e.unit unit && is_right_of type e.class
 
 -- the share of an entry that is a right of a type in a unit
-abbrev pub share_in : (unit : ℕ) → RightType → RrrRecord → Option Ratio
-share_in unit type e = if nat_eq e.unit unit then share_of type e.class else None
+abbrev pub share_in_unit : (unit : ℕ) → RightType → RrrRecord → Option Ratio
+share_in_unit unit type e = if nat_eq e.unit unit then share_of type e.class else None
 
 -- the shares of the rights of a type in a unit, by ascending numbers of the rights
 abbrev pub type_shares : Register → (unit : ℕ) → RightType → List Ratio
-type_shares r unit type = filter_map (λ e. share_in unit type e.1) (map.entries r.rrrs)
+type_shares r unit type = filter_map (λ e. share_in_unit unit type e.1) (map.entries r.rrrs)
 
 -- the shares sum to 1, or there are none
 abbrev pub are_whole_or_none : List Ratio → Bool

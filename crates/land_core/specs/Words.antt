@@ -50,12 +50,12 @@ source_word Administrative = codes "administrative"
 source_word Spatial = codes "spatial"
 
 -- the word of the act that lodges a content
-abbrev pub act_word : Content → List ℕ
-act_word (content.Transfer it) = codes "transfer"
-act_word (content.Subdivision it) = codes "subdivision"
-act_word (content.Merger it) = codes "merger"
-act_word (content.Mortgage it) = codes "mortgage"
-act_word (content.Discharge it) = codes "discharge"
+abbrev pub content_word : Content → List ℕ
+content_word (content.Transfer it) = codes "transfer"
+content_word (content.Subdivision it) = codes "subdivision"
+content_word (content.Merger it) = codes "merger"
+content_word (content.Mortgage it) = codes "mortgage"
+content_word (content.Discharge it) = codes "discharge"
 
 -- the word of the state of a mutation
 abbrev pub state_word : MutationState → List ℕ

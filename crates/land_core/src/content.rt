@@ -63,7 +63,7 @@ pub enum Content {
 }
 
 impl Content {
-    ghost use Rattle.land_core.specs.Contents.{is_same_content, is_well_formed_content, names_unit};
+    ghost use Rattle.land_core.specs.Contents.{is_same_content, is_well_formed_content, content_names_unit};
 
     /// Checks if each field is within its limits.
     pub fn is_well_formed(&self) -> bool
@@ -94,7 +94,7 @@ impl Content {
 
     /// Checks if it refers to the unit.
     pub fn names_unit(&self, unit: u64) -> bool
-        ensures { result ≡ names_unit unit self.now }
+        ensures { result ≡ content_names_unit unit self.now }
     {
         match self {
             Content::Transfer(it) => it.unit == unit,

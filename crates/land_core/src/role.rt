@@ -4,7 +4,7 @@ ghost use Rattle.std.proofs.Common.{rules};
 ghost use Rattle.std.specs.Cmp.{partial_order_from_own_ties};
 ghost use Rattle.std.specs.Cmp.Rules.{comparing};
 ghost use Rattle.std.specs.Ordering.{on, as_partial_cmp};
-ghost use Rattle.land_core.specs.Role.{place_of, role_cmp};
+ghost use Rattle.land_core.specs.Role.{role_index, role_cmp};
 
 use crate::duplicate::Duplicate;
 use std::alloc::{AllocError, Global};
@@ -29,7 +29,7 @@ pub enum Role {
 
 impl Role {
     fn place(self) -> u8
-        ensures { result ≡ place_of self }
+        ensures { result ≡ role_index self }
     {
         self as u8
     }
@@ -42,7 +42,7 @@ impl Duplicate for Role {
 }
 
 impl PartialEq for Role {
-    ghost eq = { on place_of ◌==◌ };
+    ghost eq = { on role_index ◌==◌ };
 
     ghost laws = { Prim.search (comparing, rules) };
 

@@ -1,6 +1,6 @@
 //! Rights, restrictions, responsibilities and mortgages (LA_RRR): the entries of units.
 ghost use Rattle.std.specs.Prelude.{◌≡◌};
-ghost use Rattle.land_core.specs.Units.{is_right_in, is_type, rank_of, share_in, type_of};
+ghost use Rattle.land_core.specs.Units.{is_right_in, is_type, rank_of, share_in_unit, type_of};
 
 use crate::duplicate::Duplicate;
 use crate::text::Text;
@@ -156,7 +156,7 @@ impl RrrRecord {
 
     /// Returns the share of a right of this type in this unit, else `None`.
     pub fn share_in(&self, unit: u64, right_type: RightType) -> Option<Fraction>
-        ensures { result ≡ share_in unit right_type self.now }
+        ensures { result ≡ share_in_unit unit right_type self.now }
     {
         if self.unit == unit {
             self.class.share_of(right_type)

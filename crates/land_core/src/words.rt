@@ -1,7 +1,8 @@
 //! The code words of the register (code lists of ISO 19152), as in requests, replies, sheets, extracts and
 //! tables.
 ghost use Rattle.std.specs.Prelude.{◌≡◌};
-ghost use Rattle.land_core.specs.Words.{act_word, class_word, party_word, right_word, role_word, source_word};
+ghost use Rattle.land_core.specs.Words.{content_word, class_word, party_word, right_word, role_word};
+ghost use Rattle.land_core.specs.Words.{source_word};
 ghost use Rattle.land_core.specs.Words.{state_word};
 
 use crate::content::Content;
@@ -71,7 +72,7 @@ pub fn source_word(kind: SourceKind) -> &'static str
 
 /// Returns the word of the act that lodges a content.
 pub fn act_word(content: &Content) -> &'static str
-    ensures { result.now ≡ act_word content.now }
+    ensures { result.now ≡ content_word content.now }
 {
     match content {
         Content::Transfer(_) => "transfer",

@@ -14,7 +14,7 @@ use Rattle.land_desk.specs.declared.next_item.AfterItem.TheVariants as next_item
 use Rattle.land_keep.specs.Machine.{State}
 use Rattle.land_keep.specs.declared.reply.Reply.{Reply}
 use Rattle.land_wire.specs.Fields.{field_map}
-use Rattle.land_wire.specs.Framing.Frame.{fields_of}
+use Rattle.land_wire.specs.Framing.Frame.{header_fields}
 use Rattle.land_wire.specs.Framing.Items.{Item, request, faulty}
 use Rattle.land_wire.specs.Reading.{request_reading}
 use Rattle.land_wire_json.specs.declared.bodies.wire_fault.WireFault.{WireFault}
@@ -40,7 +40,7 @@ module _ {C : Type 0} (step later : State C → Request → Reply → State C �
   told_later (Ok asked) from r to (inr heard) = inr (weaken from asked r to heard)
 
   answers_later : (from : State C) (item : Item) (r : Reply) (to : State C) → RepliesTo step from item r to → RepliesTo later from item r to
-  answers_later from (request h body) r to is = told_later (request_reading h.method h.target (field_map (fields_of h)) body) from r to is
+  answers_later from (request h body) r to is = told_later (request_reading h.method h.target (field_map (header_fields h)) body) from r to is
   answers_later from (faulty f) r to is = is
 
   one_later : (bytes : List ℕ) (from : State C) (x : Exchange) (rest : List ℕ) (to : State C) → ServesItem step bytes from x rest to → ServesItem later bytes from x rest to

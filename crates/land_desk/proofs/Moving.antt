@@ -5,7 +5,7 @@ use Rattle.land_desk.specs.Serving.{RepliesTo, ForwardSimulation, Exchange, Trac
 use Rattle.land_keep.specs.Machine.{State}
 use Rattle.land_keep.specs.declared.reply.Reply.{Reply}
 use Rattle.land_wire.specs.Fields.{field_map}
-use Rattle.land_wire.specs.Framing.Frame.{fields_of}
+use Rattle.land_wire.specs.Framing.Frame.{header_fields}
 use Rattle.land_wire.specs.Framing.Items.{Item, request, faulty}
 use Rattle.land_wire.specs.Reading.{request_reading}
 use Rattle.land_wire_json.specs.declared.bodies.wire_fault.WireFault.{WireFault}
@@ -18,7 +18,7 @@ module _ {C : Type 0} (step : State C → Request → Reply → State C → Type
   told_heard (Ok asked) from r to (inr heard) = inr (asked, r, heard)
 
   pub reply_steps : (from : State C) (item : Item) (r : Reply) (to : State C) → RepliesTo step from item r to → MayStep step from to
-  reply_steps from (request h body) r to is = told_heard (request_reading h.method h.target (field_map (fields_of h)) body) from r to is
+  reply_steps from (request h body) r to is = told_heard (request_reading h.method h.target (field_map (header_fields h)) body) from r to is
   reply_steps from (faulty f) r to is = inl is.1
 
   -- no transition

@@ -1,6 +1,6 @@
 -- A reply has exactly one response.
 use Rattle.std.proofs.Common.{◌≡◌, List, ℕ, Some, None, sym, ◌∙◌, ap, subst, inl, inr}
-use Rattle.land_desk.specs.Responses.{IsBody, OneResponse, medium_of, response, status_of}
+use Rattle.land_desk.specs.Responses.{IsReplyBody, OneResponse, medium_of, response, reply_status}
 use Rattle.land_keep.specs.declared.reply.Reply.{Reply}
 use Rattle.land_keep.specs.declared.reply.Reply.TheVariants as reply
 use Rattle.land_keep.specs.declared.view.View.{View}
@@ -22,7 +22,7 @@ no_json view a T is = absurd (none_some is)
 same_view : (v w : View) → reply.Sheet v ≡ reply.Sheet w → v ≡ w
 same_view v w same = cc
 
-one_body : SheetsAreUnique → (r : Reply) (a b : List ℕ) → IsBody r a → IsBody r b → a ≡ b
+one_body : SheetsAreUnique → (r : Reply) (a b : List ℕ) → IsReplyBody r a → IsReplyBody r b → a ≡ b
 one_body law r a b (inl x) (inl y) = some_same a b (sym x ∙ y)
 one_body law r a b (inl x) (inr y) = no_json y.0 a (a ≡ b) (subst (λ (q : Reply). reply_text q ≡ Some a) y.1 x)
 one_body law r a b (inr x) (inl y) = no_json x.0 b (a ≡ b) (subst (λ (q : Reply). reply_text q ≡ Some b) x.1 y)
@@ -31,5 +31,5 @@ one_body law r a b (inr x) (inr y) =
 
 pub one_response : SheetsAreUnique → OneResponse
 one_response law r closing head a b x y =
-    x.bytes_are ∙ ap (λ (t : List ℕ). response (status_of r) (medium_of r) t closing head) (one_body law r x.body y.body x.body_is y.body_is)
+    x.bytes_are ∙ ap (λ (t : List ℕ). response (reply_status r) (medium_of r) t closing head) (one_body law r x.body y.body x.body_is y.body_is)
     ∙ sym y.bytes_are

@@ -20,8 +20,8 @@ use Rattle.land_keep.specs.declared.reply.Reply.{Reply}
 use Rattle.land_keep.specs.declared.reply.Reply.TheVariants as reply
 use Rattle.land_wire.proofs.ItemLemmas.{request_of}
 use Rattle.land_wire.specs.Fields.{field_map}
-use Rattle.land_wire.specs.Framing.Frame.{fields_of, wants_close, is_head}
-use Rattle.land_wire.specs.Framing.FrameFaults.{number_of}
+use Rattle.land_wire.specs.Framing.Frame.{header_fields, wants_close, is_head}
+use Rattle.land_wire.specs.Framing.FrameFaults.{frame_fault_number}
 use Rattle.land_wire.specs.Framing.Items.{request, faulty, IsItem, IsNextOf, IsRequestIn}
 use Rattle.land_wire.specs.Reading.{request_reading}
 use Rattle.land_wire.specs.declared.framing.frame_fault.FrameFault.{FrameFault}
@@ -32,7 +32,7 @@ module _ {C : Type 0} (step : State C → Request → Reply → State C → Type
   -- the request at the start of the buffer, with its response
   pub spoken : (bytes more : List ℕ) (headers : List HeaderSpan) (spans : RequestSpans) (n : ℕ) (from to : State C) (a : Response) (r : Reply) (close_after head : Bool)
       → (is : IsRequestIn bytes headers spans n) → close_after ≡ wants_close is.1.0 → head ≡ is_head is.1.0
-      → HandlesOr501 step (request_reading is.1.0.method is.1.0.target (field_map (fields_of is.1.0)) (take n (drop spans.len bytes))) from r to
+      → HandlesOr501 step (request_reading is.1.0.method is.1.0.target (field_map (header_fields is.1.0)) (take n (drop spans.len bytes))) from r to
       → IsResponseTo a r close_after head
       → AnswersFirst step (bytes ++ more) from a (drop (spans.len + n) bytes ++ more) to
   spoken bytes more headers spans n from to a r close_after head is ending heading told given =
@@ -85,7 +85,7 @@ module _ {C : Type 0} (step : State C → Request → Reply → State C → Type
 
   -- the response to a fault of framing
   abbrev IsRejection : FrameFault → Response → Type 0
-  IsRejection f a = (r : Reply) × ((r ≡ reply.Fault (number_of f)) ⊎ (r ≡ reply.Store 501)) × IsResponseTo a r true false
+  IsRejection f a = (r : Reply) × ((r ≡ reply.Fault (frame_fault_number f)) ⊎ (r ≡ reply.Store 501)) × IsResponseTo a r true false
 
   pub serves_framing_fault : (start now left u v : Option (List ℕ)) (fr : NextItem) (f : FrameFault) (a : Response) (from : State C) (result : Result AfterItem DeskFault)
       → fr ≡ front.Fault f → Keeps start now → IfSome now (λ s. IsNextOf s fr) → IsRejection f a → SendsResponse (wire_bytes a.bytes) a.close_after u v result

@@ -22,15 +22,15 @@ status_text Unavailable = codes "503 Service Unavailable"
 
 -- The status of a reply: 200 for an answer, 403 for a denial, 400 for a fault, 409 for a refusal, 503 for a
 -- store fault.
-abbrev pub status_of : Reply → Status
-status_of (reply.Object object) = Ok
-status_of (reply.Numbers numbers) = Ok
-status_of (reply.Sheet view) = Ok
-status_of (reply.Done done) = Ok
-status_of (reply.Denied rule) = Forbidden
-status_of (reply.Fault fault) = BadRequest
-status_of (reply.Refused refusal) = Conflict
-status_of (reply.Store fault) = Unavailable
+abbrev pub reply_status : Reply → Status
+reply_status (reply.Object object) = Ok
+reply_status (reply.Numbers numbers) = Ok
+reply_status (reply.Sheet view) = Ok
+reply_status (reply.Done done) = Ok
+reply_status (reply.Denied rule) = Forbidden
+reply_status (reply.Fault fault) = BadRequest
+reply_status (reply.Refused refusal) = Conflict
+reply_status (reply.Store fault) = Unavailable
 
 -- The media type of a body (RFC 9110, section 8.3).
 abbrev pub medium_text : Medium → List ℕ
@@ -49,8 +49,8 @@ medium_of (reply.Refused refusal) = Json
 medium_of (reply.Store fault) = Json
 
 -- The body of a reply: its JSON, or the title sheet of its view.
-abbrev pub IsBody : Reply → List ℕ → Type 0
-IsBody r body = (reply_text r ≡ Some body) ⊎ ((view : View) × (r ≡ reply.Sheet view) × IsSheet view body)
+abbrev pub IsReplyBody : Reply → List ℕ → Type 0
+IsReplyBody r body = (reply_text r ≡ Some body) ⊎ ((view : View) × (r ≡ reply.Sheet view) × IsSheet view body)
 
 -- Status line, fields, an empty line and the body. `Connection: close` is sent if the connection closes after
 -- the response. The response to a HEAD request has the length of the body, but not the body.
@@ -65,8 +65,8 @@ response status medium body closing head =
 -- These bytes are the response for a reply.
 pub record IsResponse (r : Reply) (closing head : Bool) (bytes : List ℕ) : Type 0 where
   pub body : List ℕ
-  pub body_is : IsBody r body
-  pub bytes_are : bytes ≡ response (status_of r) (medium_of r) body closing head
+  pub body_is : IsReplyBody r body
+  pub bytes_are : bytes ≡ response (reply_status r) (medium_of r) body closing head
 
 -- A title sheet is of a valid moment.
 abbrev pub HasValidMoment : Reply → Type 0

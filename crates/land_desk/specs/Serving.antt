@@ -15,8 +15,8 @@ use Rattle.land_keep.specs.Machine.{State, StepOrFault}
 use Rattle.land_keep.specs.declared.reply.Reply.{Reply}
 use Rattle.land_keep.specs.declared.reply.Reply.TheVariants as reply
 use Rattle.land_wire.specs.Fields.{field_map}
-use Rattle.land_wire.specs.Framing.Frame.{fields_of, is_head}
-use Rattle.land_wire.specs.Framing.FrameFaults.{number_of}
+use Rattle.land_wire.specs.Framing.Frame.{header_fields, is_head}
+use Rattle.land_wire.specs.Framing.FrameFaults.{frame_fault_number}
 use Rattle.land_wire.specs.Framing.Items.{Item, request, faulty, IsItem, AreItems, is_last}
 use Rattle.land_wire.specs.Reading.{request_reading}
 use Rattle.land_wire_json.specs.Bodies.WireFaults.{fault_number}
@@ -93,8 +93,9 @@ HandlesOr501 step q from r to = ((r ≡ reply.Store 501) × (to ≡ from)) ⊎ H
 -- The reply to an item: that of its request, or the fault of framing (or 501), which changes nothing.
 abbrev pub RepliesTo : {C : Type 0} → Transition C → State C → Item → Reply → State C → Type 0
 RepliesTo step from (request h body) r to =
-    HandlesOr501 step (request_reading h.method h.target (field_map (fields_of h)) body) from r to
-RepliesTo step from (faulty f) r to = ((r ≡ reply.Fault (number_of f)) ⊎ (r ≡ reply.Store 501)) × (to ≡ from)
+    HandlesOr501 step (request_reading h.method h.target (field_map (header_fields h)) body) from r to
+RepliesTo step from (faulty f) r to =
+    ((r ≡ reply.Fault (frame_fault_number f)) ⊎ (r ≡ reply.Store 501)) × (to ≡ from)
 
 -- ---- transitions caused by a stream, whether its bytes are known or not
 

@@ -6,11 +6,11 @@ ghost use Rattle.land_desk.specs.Keepers.{RespondsTo, RespondsToRequest};
 ghost use Rattle.land_desk.specs.Responses.{HasValidMoment};
 ghost use Rattle.land_desk.specs.Serving.{closes};
 ghost use Rattle.land_desk.specs.Turns.{IsResponseTo, wire_bytes};
-ghost use Rattle.land_keep.specs.Faults.{number_of as keep_number};
+ghost use Rattle.land_keep.specs.Faults.{store_fault_number};
 ghost use Rattle.land_keep.specs.Keepers.{WasHonest};
 ghost use Rattle.land_keep.specs.Machine.{at_of};
 ghost use Rattle.land_keep.specs.declared.reply.Reply.TheVariants as reply;
-ghost use Rattle.land_wire.specs.Framing.FrameFaults.{number_of};
+ghost use Rattle.land_wire.specs.Framing.FrameFaults.{frame_fault_number};
 ghost use Rattle.land_wire.specs.Laws.{IsExplicitMoment};
 
 use crate::response::{Medium, Status, body_text, response_bytes, store_response};
@@ -110,7 +110,7 @@ fn handle_request<K: Keeper, C: Clock>(
 
 /// Builds the response to bytes that are not a well-framed request. It closes the connection.
 pub fn reject(alloc: Global, fault: FrameFault) -> Response
-    ensures { (r : Reply) × ((r ≡ reply.Fault (number_of fault)) ⊎ (r ≡ reply.Store 501))
+    ensures { (r : Reply) × ((r ≡ reply.Fault (frame_fault_number fault)) ⊎ (r ≡ reply.Store 501))
         × IsResponseTo result r true false }
 {
     respond_or_501(alloc, &Reply::Fault(fault.number()), true, false)
@@ -152,7 +152,7 @@ fn try_respond(alloc: Global, reply: &Reply, wants_close: bool, head: bool) -> O
 
 /// Returns the response to a store fault. Allocates nothing.
 fn store_failure(fault: StoreFault, wants_close: bool, head: bool) -> Response
-    ensures { IsResponseTo result (reply.Store (keep_number fault)) wants_close head }
+    ensures { IsResponseTo result (reply.Store (store_fault_number fault)) wants_close head }
 {
     let close_after = wants_close || fault != StoreFault::NoMemory;
     Response {

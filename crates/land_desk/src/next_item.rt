@@ -10,7 +10,7 @@ ghost use Rattle.land_desk.specs.Turns.{StaysWithinBudget, wire_bytes};
 ghost use Rattle.land_keep.specs.Keepers.{WasHonest};
 ghost use Rattle.land_keep.specs.Machine.{at_of};
 ghost use Rattle.land_wire.specs.Fields.{field_map};
-ghost use Rattle.land_wire.specs.Framing.Frame.{fields_of};
+ghost use Rattle.land_wire.specs.Framing.Frame.{header_fields};
 ghost use Rattle.land_wire.specs.Framing.Items.{IsRequestIn};
 ghost use Rattle.land_wire.specs.Framing.Reads.{StaysWithin, input_limit};
 ghost use Rattle.land_wire.specs.Framing.Stream.{field_room};
@@ -146,7 +146,7 @@ fn parse_first(
     requires routed { RoutesCorrectly router.now }
     requires at_front { IsRequestIn buffer.now headers.now spans.now length }
     ensures reads { (h : RequestHead) → IsRequestAt buffer.now headers.now spans.now h
-        → Returns (λ asked. asked) result (request_reading h.method h.target (field_map (fields_of h))
+        → Returns (λ asked. asked) result (request_reading h.method h.target (field_map (header_fields h))
         (take length (drop spans.now.len buffer.now))) }
     ensures well_formed { IfOk result (λ asked. is_well_formed_request asked ≡ true) }
     ensures moment { IfOk result (λ asked. IsExplicitMoment (at_of asked.ask)) }

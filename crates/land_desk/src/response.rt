@@ -1,8 +1,8 @@
 //! Builds HTTP responses.
 ghost use Rattle.std.specs.Prelude.{◌≡◌, ℕ, IfOk, true, false, string_bytes};
-ghost use Rattle.land_desk.specs.Responses.{HasValidMoment, IsBody, IsResponse, medium_of, medium_text};
+ghost use Rattle.land_desk.specs.Responses.{HasValidMoment, IsReplyBody, IsResponse, medium_of, medium_text};
 ghost use Rattle.land_desk.specs.Responses.{response};
-ghost use Rattle.land_desk.specs.Responses.{status_of, status_text};
+ghost use Rattle.land_desk.specs.Responses.{reply_status, status_text};
 ghost use Rattle.land_keep.specs.declared.reply.Reply.TheVariants as reply;
 ghost use Rattle.land_wire.specs.Replies.{IsStoreFault};
 
@@ -29,7 +29,7 @@ pub enum Status {
 impl Status {
     /// Returns the status for a reply.
     pub fn of(reply: &Reply) -> Status
-        ensures { result ≡ status_of reply.now }
+        ensures { result ≡ reply_status reply.now }
     {
         match reply {
             Reply::Object(_) | Reply::Numbers(_) | Reply::Sheet(_) | Reply::Done(_) => Status::Ok,
@@ -88,7 +88,7 @@ impl Medium {
 /// Builds the body of a reply: JSON, or a title sheet. The error is out of memory.
 pub fn body_text(alloc: Global, reply: &Reply) -> Result<String, AllocError>
     requires { HasValidMoment reply.now }
-    ensures { IfOk result (λ text. IsBody reply.now (string_bytes text)) }
+    ensures { IfOk result (λ text. IsReplyBody reply.now (string_bytes text)) }
 {
     match reply {
         Reply::Sheet(view) => title_sheet(alloc, view),

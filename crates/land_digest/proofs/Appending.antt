@@ -17,7 +17,7 @@ use Rattle.land_digest.specs.Rows.{role_row, rrr_row, source_row, unit_row}
 use Rattle.land_digest.specs.Versions.{Row, end_of, moment_event, moment_events, start_of, table_events}
 use Rattle.land_digest.specs.Versions.{version_events}
 use Rattle.land_tables_history.specs.Changed.{changed_history, changed_part, changed_versions, closed_version}
-use Rattle.land_tables_history.specs.Changed.{is_among, is_changed, listed_members, named_by, new_mutations}
+use Rattle.land_tables_history.specs.Changed.{is_key_among, is_changed, listed_members, named_by, new_mutations}
 use Rattle.land_tables_history.specs.Changed.{opened_version}
 use Rattle.land_tables_history.specs.Open.{never}
 use Rattle.land_tables_history.specs.declared.moment.Moment.{Moment}
@@ -128,7 +128,7 @@ appending_keeps_text moments h next change stamp t less early =
         also (kept_moments t stamp less early moment moments refl)
         (also (part_kept party_row change.put.parties change.ended.parties h.parties)
         (also (kept t stamp less early role_row change.put.roles
-        (λ grant. is_among (eq_by_cmp grant_cmp) (change.put.roles ++ change.ended.roles) grant) h.roles)
+        (λ grant. is_key_among (eq_by_cmp grant_cmp) (change.put.roles ++ change.ended.roles) grant) h.roles)
         (also (kept t stamp less early member_row (listed_members change.put.members)
         (λ e. is_changed change.put.members change.ended.members e.group) h.members)
         (also (part_kept unit_row change.put.units change.ended.units h.units)
@@ -139,5 +139,5 @@ appending_keeps_text moments h next change stamp t less early =
         (also (kept t stamp less early naming_row (named_by (new_mutations next change.put.mutations))
         (λ naming. false) h.namings)
         (also (kept t stamp less early mandate_row change.put.mandates
-        (λ mandate. is_among (eq_by_cmp mandate_cmp) (change.put.mandates ++ change.ended.mandates) mandate)
+        (λ mandate. is_key_among (eq_by_cmp mandate_cmp) (change.put.mandates ++ change.ended.mandates) mandate)
         h.mandates) tt))))))))))

@@ -21,7 +21,7 @@ use Rattle.land_digest.specs.Events.{Event, events_upto, in_order}
 use Rattle.land_digest.specs.Fields.{Absent, Field, Number, Text}
 use Rattle.land_digest.specs.History.{history_events}
 use Rattle.land_digest.specs.Known.{moments_upto, versions_upto}
-use Rattle.land_digest.specs.Laws.{HasContentWithin, HasOutline, TextBindsHistory}
+use Rattle.land_digest.specs.Laws.{HasContentWithin, HasParcelOutline, TextBindsHistory}
 use Rattle.land_digest.specs.Rows.{mandate_row, member_row, mutation_row, naming_row, parcel_row, party_row}
 use Rattle.land_digest.specs.Rows.{role_row, rrr_row, source_row, unit_row}
 use Rattle.land_digest.specs.Versions.{Row, end_of, moment_event, start_of, table_events, version_events}
@@ -263,8 +263,8 @@ text_binds_history printed_law content_law ones others h k s early valid_h valid
     parcels =
         is_same is_same_number parcel_row (by_pairs is_same_number parcel_row numbers_by_pairs) 5 (λ x. refl)
         HasExactOutline (parcels_determined printed_law) s early h.parcels k.parcels
-        (each_in HasOutline h.parcels exact_h.parcels)
-        (each_in HasOutline k.parcels exact_k.parcels) in_h.parcels in_k.parcels (forth 5) (back 5)
+        (each_in HasParcelOutline h.parcels exact_h.parcels)
+        (each_in HasParcelOutline k.parcels exact_k.parcels) in_h.parcels in_k.parcels (forth 5) (back 5)
 
     rrrs : IsSame s h.rrrs k.rrrs
     rrrs =

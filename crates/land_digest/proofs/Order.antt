@@ -15,7 +15,7 @@ use Rattle.land_digest.proofs.Membership.{In, from_in_order, from_insert, in_in_
 use Rattle.land_digest.proofs.NoRepeats.{IsWithin}
 use Rattle.land_digest.proofs.OneTable.{none_in}
 use Rattle.land_digest.specs.Events.{Event, event_cmp, have_distinct_places, in_order, insert_event}
-use Rattle.land_digest.specs.Events.{is_same_place}
+use Rattle.land_digest.specs.Events.{is_same_event_place}
 
 pub total : IsTotalOrder event_cmp
 total =
@@ -71,7 +71,7 @@ less_from x y h g = total.antisymm x y ∙ ap ordering_reverse (go (event_cmp y 
     go Equal h g = absurd (false≢true (sym g))
     go Greater h g = refl
 
-put_up : (x : Event) (ys : List Event) → ((y : Event) → In y ys → is_same_place x y ≡ false) → Up ys
+put_up : (x : Event) (ys : List Event) → ((y : Event) → In y ys → is_same_event_place x y ≡ false) → Up ys
     → Up (insert_event x ys)
 put_up x [] apart up = (λ y i. absurd i, tt)
 put_up x (y ∷ ys) apart up = go (event_cmp x y) refl (put_up x ys (λ z i. apart z (inr i)) up.1)
@@ -93,9 +93,9 @@ put_up x (y ∷ ys) apart up = go (event_cmp x y) refl (put_up x ys (λ z i. apa
 pub up_in_order : (xs : List Event) → have_distinct_places xs ≡ true → Up (in_order xs)
 up_in_order [] h = tt
 up_in_order (x ∷ xs) h =
-    let parts = and_parts (not (list_any (is_same_place x) xs)) (have_distinct_places xs) h in
+    let parts = and_parts (not (list_any (is_same_event_place x) xs)) (have_distinct_places xs) h in
     put_up x (in_order xs)
-    (λ y i. none_in (is_same_place x) y xs (not-true (list_any (is_same_place x) xs) parts.0)
+    (λ y i. none_in (is_same_event_place x) y xs (not-true (list_any (is_same_event_place x) xs) parts.0)
     (from_in_order y xs i)) (up_in_order xs parts.1)
 
 -- ---- permutations
@@ -111,7 +111,7 @@ eq_back Less = refl
 eq_back Equal = refl
 eq_back Greater = refl
 
-flips : (x y : Event) → is_same_place x y ≡ is_same_place y x
+flips : (x y : Event) → is_same_event_place x y ≡ is_same_event_place y x
 flips x y = ap is_eq (total.antisymm x y) ∙ eq_back (event_cmp y x)
 
 module _ {X : Type 0} (R : List X → List X → Type 0) (same : (xs : List X) → R xs xs)
@@ -142,7 +142,7 @@ module _ {X : Type 0} (R : List X → List X → Type 0) (same : (xs : List X) �
       IsPermutation-keeps xs (R xs) (same xs) (λ l i j p q h. chain xs l _ h (swapped l i j p q))
 
 pub record HaveSamePlaces (xs ys : List Event) : Type 0 where
-  pub met : (x : Event) → list_any (is_same_place x) ys ≡ list_any (is_same_place x) xs
+  pub met : (x : Event) → list_any (is_same_event_place x) ys ≡ list_any (is_same_event_place x) xs
   pub apart : have_distinct_places ys ≡ have_distinct_places xs
   pub to : IsWithin xs ys
 
@@ -159,7 +159,7 @@ permuted = along_permutation HaveSamePlaces itself under over chained
     under : (x : Event) (xs ys : List Event) → HaveSamePlaces xs ys → HaveSamePlaces (x ∷ xs) (x ∷ ys)
     under x xs ys h =
         record {
-          met = λ q. ap (λ b. is_same_place q x || b) (h.met q);
+          met = λ q. ap (λ b. is_same_event_place q x || b) (h.met q);
           apart =
               ap₂ (λ a b. not a && b) (h.met x) h.apart;
           to = under_in x xs ys h.to;
@@ -172,11 +172,11 @@ permuted = along_permutation HaveSamePlaces itself under over chained
 
     over : (x y : Event) (xs : List Event) → HaveSamePlaces (x ∷ y ∷ xs) (y ∷ x ∷ xs)
     over x y xs = record {
-      met = λ q. or_turned (is_same_place q y) (is_same_place q x) (list_any (is_same_place q) xs);
+      met = λ q. or_turned (is_same_event_place q y) (is_same_event_place q x) (list_any (is_same_event_place q) xs);
       apart =
-          ap (λ a. not (a || list_any (is_same_place y) xs)
-          && (not (list_any (is_same_place x) xs) && have_distinct_places xs)) (flips y x)
-          ∙ both_turned (is_same_place x y) (list_any (is_same_place x) xs) (list_any (is_same_place y) xs)
+          ap (λ a. not (a || list_any (is_same_event_place y) xs)
+          && (not (list_any (is_same_event_place x) xs) && have_distinct_places xs)) (flips y x)
+          ∙ both_turned (is_same_event_place x y) (list_any (is_same_event_place x) xs) (list_any (is_same_event_place y) xs)
           (have_distinct_places xs);
       to = over_in x y xs;
     }
@@ -203,8 +203,8 @@ NoneBefore (x ∷ xs) = ((y : Event) → In y xs → is_lt (event_cmp y x) ≡ f
 pub up_from : (xs : List Event) → NoneBefore xs → have_distinct_places xs ≡ true → Up xs
 up_from [] h apart = tt
 up_from (x ∷ xs) h apart =
-    let parts = and_parts (not (list_any (is_same_place x) xs)) (have_distinct_places xs) apart in (
+    let parts = and_parts (not (list_any (is_same_event_place x) xs)) (have_distinct_places xs) apart in (
       λ y i. less_from x y (h.0 y i) (flips y x
-          ∙ none_in (is_same_place x) y xs (not-true (list_any (is_same_place x) xs) parts.0) i),
+          ∙ none_in (is_same_event_place x) y xs (not-true (list_any (is_same_event_place x) xs) parts.0) i),
       up_from xs h.1 parts.1,
     )

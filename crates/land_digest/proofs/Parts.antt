@@ -4,7 +4,7 @@ use Rattle.std.proofs.Common.{Option, Some, None, ℕ, refl, ap, arith}
 use Rattle.std.proofs.lemmas.Bool.{and_parts, not-true}
 use Rattle.std.proofs.lemmas.Int.{ints}
 use Rattle.land_digest.proofs.Prefixes.{le_from, lt_from, text_continues}
-use Rattle.land_digest.specs.Events.{Event, events_between, events_text, events_upto, in_order, is_between}
+use Rattle.land_digest.specs.Events.{Event, events_between, events_text, events_upto, in_order, is_stamp_between}
 use Rattle.land_digest.specs.History.{history_events, history_text}
 use Rattle.land_tables_history.specs.declared.history.History.{History}
 use Rattle.land_tables_history.specs.declared.moment.Moment.{Moment}
@@ -37,7 +37,7 @@ part_added moments h None u le = ap (λ es. events_text (in_order es)) (all_upto
 part_added moments h (Some a) u le = text_continues moments h a u le
 
 -- a stamp between two others
-pub between : (after : Option ℤ) (u s : ℤ) → is_between after u s ≡ true → IsUpto after s × (s ≤ℤ u)
+pub between : (after : Option ℤ) (u s : ℤ) → is_stamp_between after u s ≡ true → IsUpto after s × (s ≤ℤ u)
 between None u s h = (tt, le_from s u (and_parts (int_le s u) (not false) h).0)
 between (Some a) u s h =
     let parts = and_parts (int_le s u) (not (int_le s a)) h in

@@ -16,7 +16,7 @@ use Rattle.land_digest.proofs.HistoryTables.{are_numbered, event_lists}
 use Rattle.land_digest.proofs.Lifespans.{AllDisjoint, ComparesKeys, all_disjoint, by_pairs}
 use Rattle.land_digest.proofs.Membership.{In, from_filter, from_flat_map, from_map, in_either}
 use Rattle.land_digest.proofs.OneTable.{AreDisjoint, meets, none_in}
-use Rattle.land_digest.specs.Events.{Event, have_distinct_places, is_same_place}
+use Rattle.land_digest.specs.Events.{Event, have_distinct_places, is_same_event_place}
 use Rattle.land_digest.specs.History.{history_events}
 use Rattle.land_digest.specs.Laws.{EventsHaveDistinctPlaces, HasIntervals}
 use Rattle.land_digest.specs.Rows.{mandate_row, member_row, mutation_row, naming_row, parcel_row, party_row}
@@ -61,7 +61,7 @@ record HaveOnePlace (a b : Event) : Type 0 where
   first : a.first ≡ b.first
   second : a.second ≡ b.second
 
-one_place : (a b : Event) → is_same_place a b ≡ true → HaveOnePlace a b
+one_place : (a b : Event) → is_same_event_place a b ≡ true → HaveOnePlace a b
 one_place a b h =
     let five = eq_then _ (nat_cmp a.second b.second) h in
     let four = eq_then _ (nat_cmp a.first b.first) five.0 in
@@ -84,14 +84,14 @@ either_case (inl a) f g = f a
 either_case (inr b) f g = g b
 
 distinct_append : (xs ys : List Event) → have_distinct_places xs ≡ true → have_distinct_places ys ≡ true
-    → ((x y : Event) → In x xs → In y ys → is_same_place x y ≡ false) → have_distinct_places (xs ++ ys) ≡ true
+    → ((x y : Event) → In x xs → In y ys → is_same_event_place x y ≡ false) → have_distinct_places (xs ++ ys) ≡ true
 distinct_append [] ys a b cross = b
 distinct_append (x ∷ xs) ys a b cross =
-    let parts = and_parts (not (list_any (is_same_place x) xs)) (have_distinct_places xs) a in
+    let parts = and_parts (not (list_any (is_same_event_place x) xs)) (have_distinct_places xs) a in
     ap₂ (λ p q. not p && q)
-    (none_any (is_same_place x) (xs ++ ys)
+    (none_any (is_same_event_place x) (xs ++ ys)
     (λ y i. either_case (in_either y xs ys i)
-    (λ j. none_in (is_same_place x) y xs (not-true (list_any (is_same_place x) xs) parts.0) j)
+    (λ j. none_in (is_same_event_place x) y xs (not-true (list_any (is_same_event_place x) xs) parts.0) j)
     (λ j. cross x y (inl refl) j)))
     (distinct_append xs ys parts.1 b (λ z y i j. cross z y (inr i) j))
 
@@ -99,12 +99,12 @@ distinct_filter : (p : Event → Bool) (xs : List Event) → have_distinct_place
     → have_distinct_places (filter p xs) ≡ true
 distinct_filter p [] h = refl
 distinct_filter p (x ∷ xs) h =
-    let parts = and_parts (not (list_any (is_same_place x) xs)) (have_distinct_places xs) h in
+    let parts = and_parts (not (list_any (is_same_event_place x) xs)) (have_distinct_places xs) h in
     let rest = distinct_filter p xs parts.1 in
     elim (p x) as (λ b. have_distinct_places (cond b (x ∷ filter p xs) (filter p xs)) ≡ true) [
       | true ↦ ap₂ (λ a b. not a && b)
-          (none_any (is_same_place x) (filter p xs)
-          (λ y i. none_in (is_same_place x) y xs (not-true (list_any (is_same_place x) xs) parts.0)
+          (none_any (is_same_event_place x) (filter p xs)
+          (λ y i. none_in (is_same_event_place x) y xs (not-true (list_any (is_same_event_place x) xs) parts.0)
           (from_filter p y xs i).0)) rest
       | false ↦ rest
     ]
@@ -124,8 +124,8 @@ module _ {X : Type 0} (same : X → X → Bool) (row : X → Row) (compares : Co
       → have_distinct_places (table_events row vs) ≡ true
   distinct_versions [] disjoint = refl
   distinct_versions (v ∷ vs) disjoint =
-      ap₂ (λ p q. not p && q) (none_any (is_same_place b) (e ∷ table_events row vs) first)
-      (ap₂ (λ p q. not p && q) (none_any (is_same_place e) (table_events row vs) second)
+      ap₂ (λ p q. not p && q) (none_any (is_same_event_place b) (e ∷ table_events row vs) first)
+      (ap₂ (λ p q. not p && q) (none_any (is_same_event_place e) (table_events row vs) second)
       (distinct_versions vs (record { apart = parts.1; positive = λ w i. disjoint.positive w (inr i) })))
     where
       b : Event
@@ -145,13 +145,13 @@ module _ {X : Type 0} (same : X → X → Bool) (row : X → Row) (compares : Co
       positive_v : v.since <ℤ v.until
       positive_v = disjoint.positive v (inl refl)
 
-      mixed : (x y : Event) → x.ends ≡ 0 → y.ends ≡ 1 → is_same_place x y ≡ true → ⊥
+      mixed : (x y : Event) → x.ends ≡ 0 → y.ends ≡ 1 → is_same_event_place x y ≡ true → ⊥
       mixed x y a c h = let n = (one_place x y h).ends in omega (arith, a, c, n)
 
-      mixed_back : (x y : Event) → x.ends ≡ 1 → y.ends ≡ 0 → is_same_place x y ≡ true → ⊥
+      mixed_back : (x y : Event) → x.ends ≡ 1 → y.ends ≡ 0 → is_same_event_place x y ≡ true → ⊥
       mixed_back x y a c h = let n = (one_place x y h).ends in omega (arith, a, c, n)
 
-      two_starts : (w : Version X) → In w vs → is_same_place b (start_of (row w.what) w.since) ≡ true → ⊥
+      two_starts : (w : Version X) → In w vs → is_same_event_place b (start_of (row w.what) w.since) ≡ true → ⊥
       two_starts w i h =
           let p = one_place b (start_of (row w.what) w.since) h in
           let since : v.since ≡ w.since = p.stamp in
@@ -160,7 +160,7 @@ module _ {X : Type 0} (same : X → X → Bool) (row : X → Row) (compares : Co
           ∙ meets _ v.since v.until w.until (one_key v w p.first p.second) positive_v
           (omega (arith, ints, since, positive_w)))
 
-      two_ends : (w : Version X) → In w vs → is_same_place e (end_of (row w.what) w.until) ≡ true → ⊥
+      two_ends : (w : Version X) → In w vs → is_same_event_place e (end_of (row w.what) w.until) ≡ true → ⊥
       two_ends w i h =
           let p = one_place e (end_of (row w.what) w.until) h in
           let until : v.until ≡ w.until = p.stamp in
@@ -169,28 +169,28 @@ module _ {X : Type 0} (same : X → X → Bool) (row : X → Row) (compares : Co
           ∙ ends_meet _ v.since v.until w.since (one_key v w p.first p.second) positive_v
           (omega (arith, ints, until, positive_w)))
 
-      no_start : (w : Version X) → In w vs → (y : Event) → In y (version_events row w) → is_same_place b y
+      no_start : (w : Version X) → In w vs → (y : Event) → In y (version_events row w) → is_same_event_place b y
           ≡ true → ⊥
-      no_start w i y (inl f) h = two_starts w i (ap (is_same_place b) f ∙ h)
+      no_start w i y (inl f) h = two_starts w i (ap (is_same_event_place b) f ∙ h)
       no_start w i y (inr (inl f)) h =
-          mixed b (end_of (row w.what) w.until) refl refl (ap (is_same_place b) f ∙ h)
+          mixed b (end_of (row w.what) w.until) refl refl (ap (is_same_event_place b) f ∙ h)
       no_start w i y (inr (inr f)) h = elim f [ ]
 
-      no_end : (w : Version X) → In w vs → (y : Event) → In y (version_events row w) → is_same_place e y
+      no_end : (w : Version X) → In w vs → (y : Event) → In y (version_events row w) → is_same_event_place e y
           ≡ true → ⊥
       no_end w i y (inl f) h =
-          mixed_back e (start_of (row w.what) w.since) refl refl (ap (is_same_place e) f ∙ h)
-      no_end w i y (inr (inl f)) h = two_ends w i (ap (is_same_place e) f ∙ h)
+          mixed_back e (start_of (row w.what) w.since) refl refl (ap (is_same_event_place e) f ∙ h)
+      no_end w i y (inr (inl f)) h = two_ends w i (ap (is_same_event_place e) f ∙ h)
       no_end w i y (inr (inr f)) h = elim f [ ]
 
-      first : (y : Event) → In y (e ∷ table_events row vs) → is_same_place b y ≡ false
-      first y (inl f) = fails (is_same_place b y) (λ h. mixed b e refl refl (ap (is_same_place b) f ∙ h))
+      first : (y : Event) → In y (e ∷ table_events row vs) → is_same_event_place b y ≡ false
+      first y (inl f) = fails (is_same_event_place b y) (λ h. mixed b e refl refl (ap (is_same_event_place b) f ∙ h))
       first y (inr i) = let a = from_flat_map (version_events row) y vs i in
-          fails (is_same_place b y) (no_start a.0 a.1 y a.2)
+          fails (is_same_event_place b y) (no_start a.0 a.1 y a.2)
 
-      second : (y : Event) → In y (table_events row vs) → is_same_place e y ≡ false
+      second : (y : Event) → In y (table_events row vs) → is_same_event_place e y ≡ false
       second y i = let a = from_flat_map (version_events row) y vs i in
-          fails (is_same_place e y) (no_end a.0 a.1 y a.2)
+          fails (is_same_event_place e y) (no_end a.0 a.1 y a.2)
 
 -- ---- moments
 
@@ -200,7 +200,7 @@ distinct_moments [] h = refl
 distinct_moments (m ∷ ms) h =
     let parts = and_parts (not (list_any (is_same_stamp m) ms)) (are_distinct is_same_stamp ms) h in
     ap₂ (λ p q. not p && q)
-    (none_any (is_same_place (moment_event m)) (moment_events ms)
+    (none_any (is_same_event_place (moment_event m)) (moment_events ms)
     (λ y i. other y (not-true (list_any (is_same_stamp m) ms) parts.0) (from_map moment_event y ms i)))
     (distinct_moments ms parts.1)
   where
@@ -208,9 +208,9 @@ distinct_moments (m ∷ ms) h =
     equal a b e = grind (arith, ints)
 
     other : (y : Event) → list_any (is_same_stamp m) ms ≡ false → (n : Moment) × In n ms
-        × (moment_event n ≡ y) → is_same_place (moment_event m) y ≡ false
-    other y none a = fails (is_same_place (moment_event m) y) λ h.
-        let p = one_place (moment_event m) (moment_event a.0) (ap (is_same_place (moment_event m)) a.2 ∙ h) in
+        × (moment_event n ≡ y) → is_same_event_place (moment_event m) y ≡ false
+    other y none a = fails (is_same_event_place (moment_event m) y) λ h.
+        let p = one_place (moment_event m) (moment_event a.0) (ap (is_same_event_place (moment_event m)) a.2 ∙ h) in
         false≢true (sym (none_in (is_same_stamp m) a.0 ms none a.1) ∙ equal m.stamp a.0.stamp p.stamp)
 
 -- ---- all tables
@@ -224,7 +224,7 @@ joined_distinct : (n : ℕ) (ls : List (List Event)) → AreNumbered n ls → Al
 joined_distinct n [] of all = refl
 joined_distinct n (l ∷ ls) of all =
     distinct_append l (joined ls) all.0 (joined_distinct (suc n) ls of.1 all.1) λ x y i j.
-    fails (is_same_place x y) λ h.
+    fails (is_same_event_place x y) λ h.
     let p = (one_place x y h).table in
     let a = of.0 x i in
     let b = table_from (suc n) ls y of.1 j in

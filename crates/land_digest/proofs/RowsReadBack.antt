@@ -23,7 +23,7 @@ use Rattle.land_core.specs.declared.source.SourceKind.{SourceKind}
 use Rattle.land_core.specs.declared.source.SourceKind.TheVariants as source
 use Rattle.land_core.specs.declared.source.SourceRecord.{SourceRecord}
 use Rattle.land_core.specs.declared.unit.UnitRecord.{UnitRecord}
-use Rattle.land_digest.specs.Fields.{Absent, Field, Number, Text, number}
+use Rattle.land_digest.specs.Fields.{Absent, Field, Number, Text}
 use Rattle.land_digest.specs.Rows.{mandate_row, member_row, mutation_row, naming_row, parcel_row, party_row}
 use Rattle.land_digest.specs.Rows.{role_row, rrr_row, source_row, unit_row}
 use Rattle.land_digest.specs.Versions.{Row}

@@ -1,7 +1,7 @@
 -- The events that entries represent, and the bytes that a hasher gains.
 use Rattle.std.specs.Prelude.{ℕ, ℤ, List, [], ◌∷◌, ◌++◌}
 use Rattle.land_digest.specs.Events.{Event}
-use Rattle.land_digest.specs.Fields.{Field, Number, number}
+use Rattle.land_digest.specs.Fields.{Field, Number, number_field}
 use Rattle.land_digest.specs.Rows.{mutation_values, parcel_values, party_values, rrr_values, share_values}
 use Rattle.land_digest.specs.Rows.{source_values, unit_values}
 use Rattle.land_digest.specs.declared.entry.Entry.{Entry}
@@ -13,7 +13,7 @@ use Rattle.sha2.specs.declared.Sha256.{Sha256}
 -- the values that an entry refers to
 abbrev pub values_of : Values → List Field
 values_of values.Nothing = []
-values_of (values.Moment next) = number next ∷ []
+values_of (values.Moment next) = number_field next ∷ []
 values_of (values.Party party) = party_values party.now
 values_of (values.Share share) = share_values share.now
 values_of (values.Unit unit) = unit_values unit.now
@@ -34,7 +34,7 @@ event_of e = record {
 
 -- the fields of a place, which start each line
 abbrev pub place_fields : ℤ × ℕ × ℕ × ℕ × ℕ → List Field
-place_fields p = Number p.0 ∷ number p.1 ∷ number p.2 ∷ number p.3 ∷ number p.4 ∷ []
+place_fields p = Number p.0 ∷ number_field p.1 ∷ number_field p.2 ∷ number_field p.3 ∷ number_field p.4 ∷ []
 
 -- a hasher gains these bytes
 abbrev pub Gains : Sha256 → Sha256 → List ℕ → Type 0

@@ -5,7 +5,7 @@ use Rattle.std.specs.Prelude.{if◌then◌else◌}
 use Rattle.std.specs.Ordering.{int_cmp, is_eq, is_lt, nat_cmp, ordering_then}
 use Rattle.std.specs.declared.cmp.Ordering.{Ordering}
 use Rattle.land_core.specs.Entries.{are_distinct}
-use Rattle.land_digest.specs.Fields.{Field, Number, fields_line, number}
+use Rattle.land_digest.specs.Fields.{Field, Number, fields_line, number_field}
 
 -- A row of a table starts (0) or ends (1) at a stamp. It is identified by the number of its table and the two
 -- numbers of its key. A start has all values of the row, and an end has none.
@@ -38,30 +38,31 @@ in_order [] = []
 in_order (x ∷ xs) = insert_event x (in_order xs)
 
 -- two events have the same place in the order
-abbrev pub is_same_place : Event → Event → Bool
-is_same_place a b = is_eq (event_cmp a b)
+abbrev pub is_same_event_place : Event → Event → Bool
+is_same_event_place a b = is_eq (event_cmp a b)
 
 -- no two events have the same place
 abbrev pub have_distinct_places : List Event → Bool
-have_distinct_places events = are_distinct is_same_place events
+have_distinct_places events = are_distinct is_same_event_place events
 
 -- the events up to a stamp
 abbrev pub events_upto : ℤ → List Event → List Event
 events_upto s events = filter (λ e. int_le e.stamp s) events
 
 -- a stamp that is after another one, if there is one, and at most a third
-abbrev pub is_between : (after : Option ℤ) → (upto : ℤ) → ℤ → Bool
-is_between after upto s = int_le s upto && not (option_map_or (λ a. int_le s a) after false)
+abbrev pub is_stamp_between : (after : Option ℤ) → (upto : ℤ) → ℤ → Bool
+is_stamp_between after upto s = int_le s upto && not (option_map_or (λ a. int_le s a) after false)
 
 -- the events between two stamps
 abbrev pub events_between : (after : Option ℤ) → (upto : ℤ) → List Event → List Event
-events_between after upto events = filter (λ e. is_between after upto e.stamp) events
+events_between after upto events = filter (λ e. is_stamp_between after upto e.stamp) events
 
 -- ---- text: one line per event
 
 abbrev pub event_fields : Event → List Field
 event_fields e =
-    Number e.stamp ∷ number e.ends ∷ number e.table ∷ number e.first ∷ number e.second ∷ e.values
+    Number e.stamp ∷ number_field e.ends ∷ number_field e.table ∷ number_field e.first ∷ number_field e.second
+    ∷ e.values
 
 abbrev pub event_line : Event → List ℕ
 event_line e = fields_line (event_fields e)

@@ -9,8 +9,8 @@ pub data Field : Type 0 where
   Text : List ℕ → Field
   Absent : Field
 
-abbrev pub number : ℕ → Field
-number n = Number (pos n)
+abbrev pub number_field : ℕ → Field
+number_field n = Number (pos n)
 
 -- a number in decimal digits
 abbrev pub digits : ℕ → List ℕ

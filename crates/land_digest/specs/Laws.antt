@@ -29,8 +29,8 @@ pub record HasIntervals (moments : List Moment) (h : History) : Type 0 where
   pub stamps : are_distinct is_same_stamp moments ≡ true
   pub lifespans : has_intervals moments h ≡ true
 
-abbrev pub HasOutline : Version (ℕ × ParcelRecord) → Type 0
-HasOutline v = IsOutline v.what.1.outline
+abbrev pub HasParcelOutline : Version (ℕ × ParcelRecord) → Type 0
+HasParcelOutline v = IsOutline v.what.1.outline
 
 abbrev pub HasContentWithin : Version (ℕ × MutationRecord) → Type 0
 HasContentWithin v = IsContentWithin v.what.1.content
@@ -38,7 +38,7 @@ HasContentWithin v = IsContentWithin v.what.1.content
 -- outlines are outlines and contents are within the limits of their types, as in each history that the
 -- program holds
 pub record HasExactValues (h : History) : Type 0 where
-  pub parcels : AllByRecursion HasOutline h.parcels
+  pub parcels : AllByRecursion HasParcelOutline h.parcels
   pub mutations : AllByRecursion HasContentWithin h.mutations
 
 -- two histories have the same versions, in any order

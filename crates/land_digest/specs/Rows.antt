@@ -1,7 +1,7 @@
 -- The rows of the register's tables, with the values that their columns hold.
 use Rattle.std.specs.Prelude.{ℕ, List, [], ◌∷◌, ◌++◌, if◌then◌else◌}
-use Rattle.land_core.specs.Role.{place_of}
-use Rattle.land_core.specs.Words.{act_word, class_word, party_word, source_word, state_word}
+use Rattle.land_core.specs.Role.{role_index}
+use Rattle.land_core.specs.Words.{content_word, class_word, party_word, source_word, state_word}
 use Rattle.land_core.specs.declared.mandates.Mandate.{Mandate}
 use Rattle.land_core.specs.declared.mutation.MutationRecord.{MutationRecord}
 use Rattle.land_core.specs.declared.parcel.ParcelRecord.{ParcelRecord}
@@ -12,7 +12,7 @@ use Rattle.land_core.specs.declared.rrr.Class.TheVariants.{Right, Restriction, R
 use Rattle.land_core.specs.declared.rrr.RrrRecord.{RrrRecord}
 use Rattle.land_core.specs.declared.source.SourceRecord.{SourceRecord}
 use Rattle.land_core.specs.declared.unit.UnitRecord.{UnitRecord}
-use Rattle.land_digest.specs.Fields.{Absent, Field, Number, Text, number}
+use Rattle.land_digest.specs.Fields.{Absent, Field, Number, Text, number_field}
 use Rattle.land_digest.specs.Versions.{Row}
 use Rattle.land_fraction.specs.Ratio.{Ratio}
 use Rattle.land_shape.specs.Printed.{polygon_text}
@@ -28,31 +28,32 @@ party_values party = Text party.name ∷ Text (party_word party.kind) ∷ []
 
 -- num, den
 abbrev pub share_values : Ratio → List Field
-share_values share = number share.numerator ∷ number share.denominator ∷ []
+share_values share = number_field share.numerator ∷ number_field share.denominator ∷ []
 
 -- name, checked
 abbrev pub unit_values : UnitRecord → List Field
-unit_values unit = Text unit.name ∷ number (if unit.checked then 1 else 0) ∷ []
+unit_values unit = Text unit.name ∷ number_field (if unit.checked then 1 else 0) ∷ []
 
 -- unit, label, outline, source
 abbrev pub parcel_values : ParcelRecord → List Field
 parcel_values parcel =
-    number parcel.unit ∷ Text parcel.label ∷ Text (polygon_text parcel.outline) ∷ number parcel.source ∷ []
+    number_field parcel.unit ∷ Text parcel.label ∷ Text (polygon_text parcel.outline)
+    ∷ number_field parcel.source ∷ []
 
 -- num, den, amount, currency, place, words
 abbrev pub class_values : Class → List Field
 class_values (Right type share) =
-    number share.numerator ∷ number share.denominator ∷ Absent ∷ Absent ∷ Absent ∷ Absent ∷ []
+    number_field share.numerator ∷ number_field share.denominator ∷ Absent ∷ Absent ∷ Absent ∷ Absent ∷ []
 class_values (Restriction words) = Absent ∷ Absent ∷ Absent ∷ Absent ∷ Absent ∷ Text words ∷ []
 class_values (Responsibility words) = Absent ∷ Absent ∷ Absent ∷ Absent ∷ Absent ∷ Text words ∷ []
 class_values (Mortgage amount currency rank) =
-    Absent ∷ Absent ∷ number amount ∷ Text currency ∷ number rank ∷ Absent ∷ []
+    Absent ∷ Absent ∷ number_field amount ∷ Text currency ∷ number_field rank ∷ Absent ∷ []
 
 -- unit, party, class, those of the class, source
 abbrev pub rrr_values : RrrRecord → List Field
 rrr_values rrr =
-    number rrr.unit ∷ number rrr.party ∷ Text (class_word rrr.class)
-    ∷ (class_values rrr.class ++ number rrr.source ∷ [])
+    number_field rrr.unit ∷ number_field rrr.party ∷ Text (class_word rrr.class)
+    ∷ (class_values rrr.class ++ number_field rrr.source ∷ [])
 
 -- kind, title
 abbrev pub source_values : SourceRecord → List Field
@@ -61,12 +62,13 @@ source_values source = Text (source_word source.kind) ∷ Text source.title ∷ 
 -- lodger, reference, source, lodged
 abbrev pub lodging_values : MutationRecord → List Field
 lodging_values mutation =
-    number mutation.lodger ∷ Text mutation.reference ∷ number mutation.source ∷ Number mutation.lodged ∷ []
+    number_field mutation.lodger ∷ Text mutation.reference ∷ number_field mutation.source
+    ∷ Number mutation.lodged ∷ []
 
 -- act, content, state
 abbrev pub request_values : MutationRecord → List Field
 request_values mutation =
-    Text (act_word mutation.content) ∷ Text (content_text mutation.content)
+    Text (content_word mutation.content) ∷ Text (content_text mutation.content)
     ∷ Text (state_word mutation.state) ∷ []
 
 abbrev pub mutation_values : MutationRecord → List Field
@@ -87,7 +89,7 @@ abbrev pub party_row : ℕ × PartyRecord → Row
 party_row e = numbered_row 1 e.0 (party_values e.1)
 
 abbrev pub role_row : Grant → Row
-role_row grant = paired_row 2 grant.party (place_of grant.role) []
+role_row grant = paired_row 2 grant.party (role_index grant.role) []
 
 abbrev pub member_row : GroupMember → Row
 member_row e = paired_row 3 e.group e.member.party (share_values e.member.share)

@@ -1,7 +1,7 @@
 -- The events of versions: each starts, and ends.
 use Rattle.std.specs.Prelude.{ℕ, ℤ, List, [], ◌∷◌, flat_map, map as map_list}
 use Rattle.land_digest.specs.Events.{Event}
-use Rattle.land_digest.specs.Fields.{Field, number}
+use Rattle.land_digest.specs.Fields.{Field, number_field}
 use Rattle.land_tables_history.specs.declared.moment.Moment.{Moment}
 use Rattle.land_tables_history.specs.declared.version.Version.{Version}
 
@@ -50,7 +50,7 @@ moment_event m = record {
   table = 0;
   first = 0;
   second = 0;
-  values = number m.next ∷ [];
+  values = number_field m.next ∷ [];
 }
 
 abbrev pub moment_events : List Moment → List Event

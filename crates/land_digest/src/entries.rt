@@ -1,7 +1,7 @@
 //! Collects the events of a history between two stamps.
 ghost use Rattle.std.specs.Prelude.{◌≡◌, [], ◌∷◌, ◌++◌, IfOk, map as map_list};
 ghost use Rattle.land_digest.specs.Entries.{event_of};
-ghost use Rattle.land_digest.specs.Events.{events_between, is_between};
+ghost use Rattle.land_digest.specs.Events.{events_between, is_stamp_between};
 ghost use Rattle.land_digest.specs.History.{all_version_events};
 ghost use Rattle.land_digest.specs.Versions.{end_of, moment_events, start_of, table_events, version_events};
 
@@ -14,7 +14,7 @@ use std::alloc::AllocError;
 
 /// Checks if a stamp is after another one, if there is one, and at most `upto`.
 pub(crate) fn is_between(after: Option<i64>, upto: i64, stamp: i64) -> bool
-    ensures { result ≡ is_between after upto stamp }
+    ensures { result ≡ is_stamp_between after upto stamp }
 {
     match after {
         Some(last) => stamp <= upto && !(stamp <= last),

@@ -1,6 +1,6 @@
 //! The values of a history are within the limits of their types.
 ghost use Rattle.std.specs.List.{AllByRecursion};
-ghost use Rattle.land_digest.specs.Laws.{HasContentWithin, HasExactValues, HasOutline};
+ghost use Rattle.land_digest.specs.Laws.{HasContentWithin, HasExactValues, HasParcelOutline};
 ghost use Rattle.land_wire_json.specs.Texts.Limits.{FitsU64, IsContentWithin, IsMergerWithin};
 
 use land_core::content::Content;
@@ -21,7 +21,7 @@ pub fn values_are_exact(history: &History)
 }
 
 fn parcels_are_exact(versions: &[Version<(u64, ParcelRecord)>])
-    ensures { AllByRecursion HasOutline versions.now }
+    ensures { AllByRecursion HasParcelOutline versions.now }
 {
     'versions: for version in versions {
         version.what.1.outline.points();

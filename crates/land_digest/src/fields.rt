@@ -1,7 +1,7 @@
 //! Writes fields to a hasher.
 ghost use Rattle.std.specs.Prelude.{◌≡◌};
 ghost use Rattle.land_digest.specs.Entries.{Gains};
-ghost use Rattle.land_digest.specs.Fields.{Number, Text, field_text, number};
+ghost use Rattle.land_digest.specs.Fields.{Number, Text, field_text, number_field};
 
 use itoa::Buffer;
 use sha2::{Digest, Sha256};
@@ -17,7 +17,7 @@ pub(crate) fn put_integer(hasher: &mut Sha256, n: i64)
 
 /// Writes a number.
 pub(crate) fn put_number(hasher: &mut Sha256, n: u64)
-    ensures { Gains hasher.old hasher.new (field_text (number n)) }
+    ensures { Gains hasher.old hasher.new (field_text (number_field n)) }
 {
     let mut buffer = Buffer::new();
     hasher.update(buffer.format(n).as_bytes());

@@ -12,8 +12,8 @@ use Rattle.land_fraction.specs.declared.lists.Whole.{Whole}
 use Rattle.land_fraction.specs.declared.lists.Whole.TheVariants.{Yes, TooFine}
 
 -- each pair has one correct result, and the function returns it
-abbrev pub AnswerLaw : Type 0
-AnswerLaw = (p : Ratio) (r : Result Ratio FractionFault) → IsFractionOrFault p r ↔ (r ≡ fraction_of p)
+abbrev pub FractionAnswerLaw : Type 0
+FractionAnswerLaw = (p : Ratio) (r : Result Ratio FractionFault) → IsFractionOrFault p r ↔ (r ≡ fraction_of p)
 
 -- each list has one right least common multiple
 abbrev pub CommonLaw : Type 0

@@ -3,7 +3,7 @@ use Rattle.std.specs.Prelude.{ℕ}
 use Rattle.land_fraction.specs.declared.fault.FractionFault.{FractionFault}
 use Rattle.land_fraction.specs.declared.fault.FractionFault.TheVariants.{Zero, AboveOne, TooFine}
 
-abbrev pub number_of : FractionFault → ℕ
-number_of Zero = 101
-number_of AboveOne = 102
-number_of TooFine = 103
+abbrev pub fraction_fault_number : FractionFault → ℕ
+fraction_fault_number Zero = 101
+fraction_fault_number AboveOne = 102
+fraction_fault_number TooFine = 103

@@ -6,8 +6,8 @@ use Rattle.land_fraction.specs.declared.fault.FractionFault.{FractionFault}
 use Rattle.land_fraction.specs.declared.fault.FractionFault.TheVariants.{Zero, AboveOne, TooFine}
 
 -- n/d, both in decimal digits
-abbrev pub text_of : Ratio → List ℕ
-text_of f = decimal f.numerator ++ codes "/" ++ decimal f.denominator
+abbrev pub fraction_text : Ratio → List ℕ
+fraction_text f = decimal f.numerator ++ codes "/" ++ decimal f.denominator
 
 -- the message of each fault
 abbrev pub fault_text : FractionFault → List ℕ

@@ -2,7 +2,7 @@
 
 ghost use Rattle.std.specs.Prelude.{◌≡◌, Some};
 ghost use Rattle.land_fraction.specs.Ratio.{over, sum_of, difference_of, IsFraction};
-ghost use Rattle.land_fraction.specs.Text.{text_of};
+ghost use Rattle.land_fraction.specs.Text.{fraction_text};
 ghost use Rattle.land_fraction.specs.Answer.{IsFractionOrFault, fraction_of};
 
 use crate::divisor::greatest_divisor;
@@ -107,7 +107,7 @@ impl Fraction {
 }
 
 impl fmt::Display for Fraction {
-    ghost output = { λ f. Some (text_of f) };
+    ghost output = { λ f. Some (fraction_text f) };
 
     fn fmt<W: fmt::Write>(&self, f: &mut fmt::Formatter<W>) -> fmt::Result {
         let (numerator, denominator) = (self.numerator, self.denominator);

@@ -1,7 +1,7 @@
 //! Errors of fractions.
 
 ghost use Rattle.std.specs.Prelude.{◌≡◌, Some};
-ghost use Rattle.land_fraction.specs.Number.{number_of};
+ghost use Rattle.land_fraction.specs.Number.{fraction_fault_number};
 ghost use Rattle.land_fraction.specs.Text.{fault_text};
 
 use std::error::Error;
@@ -22,7 +22,7 @@ pub enum FractionFault {
 impl FractionFault {
     /// Returns the number of the error, 101 to 103.
     pub fn number(self) -> u16
-        ensures { result ≡ number_of self }
+        ensures { result ≡ fraction_fault_number self }
     {
         match self {
             FractionFault::Zero => 101,

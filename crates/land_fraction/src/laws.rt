@@ -1,13 +1,13 @@
 //! Laws of the definitions. Calling a function here gives its law as a fact; it does nothing else.
 
-ghost use Rattle.land_fraction.specs.Laws.{AnswerLaw, CommonLaw, WholenessLaw, OneFractionLaw};
+ghost use Rattle.land_fraction.specs.Laws.{FractionAnswerLaw, CommonLaw, WholenessLaw, OneFractionLaw};
 ghost use Rattle.land_fraction.specs.Laws.{SameFractionLaw, OrderLaw};
 ghost use Rattle.land_fraction.specs.Laws.{KeptSumLaw, PermutedLaw, MovedLaw, SplitLaw, JoinedLaw};
 ghost use Rattle.land_fraction.specs.Laws.{SumPartsLaw, DifferencePartsLaw, SamePartsLaw};
 
 /// Proves that `fraction_of` returns the unique correct result for a pair: one fraction or one fault.
 pub fn answers_of_pairs()
-    ensures { AnswerLaw }
+    ensures { FractionAnswerLaw }
 {}
 
 /// Proves that `common_of` returns the least common multiple of a list's denominators, or `None` if it is too

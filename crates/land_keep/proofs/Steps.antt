@@ -18,9 +18,9 @@ use Rattle.land_core.specs.declared.ask.Ask.TheVariants as ask
 use Rattle.land_core.specs.declared.ask.Request.{Request}
 use Rattle.land_core.specs.declared.caller.Caller.{Caller}
 use Rattle.land_core.specs.declared.kind.Kind.TheVariants as kind
-use Rattle.land_keep.specs.Faults.{number_of}
+use Rattle.land_keep.specs.Faults.{store_fault_number}
 use Rattle.land_keep.specs.Keeping.{CanWrite, Closes, AnswersByStep, CommitsStep, Commits, RunsToState, SheetHasRequestedMoment, SheetHasMoment, ReportsClosing, apply_pending, prepared_of}
-use Rattle.land_keep.specs.Machine.{Run, State, StepOrFault, Next, step, next_if_allowed, outcome_next, verdict_at, at_of, moment_of, now_of, stamp_of}
+use Rattle.land_keep.specs.Machine.{Run, State, StepOrFault, Next, step, next_if_allowed, outcome_next, verdict_at, at_of, asked_moment, now_of, stamp_of}
 use Rattle.land_keep.specs.Moments.{now_after, stamp_after}
 use Rattle.land_keep.specs.Timeline.{Timeline, last_stamp, last_register, register_at}
 use Rattle.land_keep.specs.declared.prepared.Prepared.{Prepared}
@@ -73,9 +73,9 @@ runs_on {C} reads from honest honest_after closed closed_after shown shown_after
 
 -- if no rule denies, a step is the allowed one
 pub step_allowed : (clock : ℤ) (request : Request) (tl : Timeline)
-    → int_lt (now_of clock tl) (moment_of request.ask (now_of clock tl)) ≡ false
+    → int_lt (now_of clock tl) (asked_moment request.ask (now_of clock tl)) ≡ false
     → verdict_at tl request.caller request.ask (now_of clock tl) ≡ Allowed
-    → step clock request tl ≡ next_if_allowed clock request.caller request.ask (moment_of request.ask (now_of clock tl)) tl
+    → step clock request tl ≡ next_if_allowed clock request.caller request.ask (asked_moment request.ask (now_of clock tl)) tl
 step_allowed clock request tl late free = rw (late, free) refl
 
 -- a stamp is a moment after the last one
@@ -110,13 +110,13 @@ shows_no_sheet t (Ok (New change done)) = tt
 
 -- a moment in the future is a fault
 pub step_late : (clock : ℤ) (request : Request) (tl : Timeline)
-    → int_lt (now_of clock tl) (moment_of request.ask (now_of clock tl)) ≡ true
+    → int_lt (now_of clock tl) (asked_moment request.ask (now_of clock tl)) ≡ true
     → step clock request tl ≡ (reply.Fault 135, tl)
 step_late clock request tl late = rw late refl
 
 -- if a rule denies, the reply has its number
 pub step_denied : (clock : ℤ) (request : Request) (tl : Timeline) (rule : ℕ)
-    → int_lt (now_of clock tl) (moment_of request.ask (now_of clock tl)) ≡ false
+    → int_lt (now_of clock tl) (asked_moment request.ask (now_of clock tl)) ≡ false
     → verdict_at tl request.caller request.ask (now_of clock tl) ≡ Denied rule
     → step clock request tl ≡ (reply.Denied rule, tl)
 step_denied clock request tl rule late denied = rw (late, denied) refl
@@ -131,7 +131,7 @@ abbrev first_fails : Timeline → Caller → Bool
 first_fails tl caller = not (stands (last_register tl) kind.Party caller.party)
 
 abbrev later_rules : Timeline → Caller → Ask → (now : ℤ) → Rules
-later_rules tl caller a now = drop 2 (rules_on (last_register tl) (register_at tl (moment_of a now)) caller a (int_lt (moment_of a now) now))
+later_rules tl caller a now = drop 2 (rules_on (last_register tl) (register_at tl (asked_moment a now)) caller a (int_lt (asked_moment a now) now))
 
 pub role_is_held : (tl : Timeline) (caller : Caller) (a : Ask) (now : ℤ) → verdict_at tl caller a now ≡ Allowed → holds (last_register tl) caller.party caller.role ≡ true
 role_is_held tl caller (ask.View k number at) now free = second_passes (first_fails tl caller) (holds (last_register tl) caller.party caller.role) (later_rules tl caller (ask.View k number at) now) free
@@ -178,8 +178,8 @@ opens false closed it closes = (refl, closes)
 
 -- a store fault is an element that changes nothing
 pub fault_element : (T : Type 0) (before closed : Bool) (reading : ℤ) (q : Request) (tl : Timeline) (fault : StoreFault)
-    → Closes {T = T} before closed (Err fault) → StepOrFault before reading q tl (reply.Store (number_of fault)) tl closed
-fault_element T true closed reading q tl fault closes = (ap (λ (f : StoreFault). reply.Store (number_of f)) closes.0, refl, closes.1)
+    → Closes {T = T} before closed (Err fault) → StepOrFault before reading q tl (reply.Store (store_fault_number fault)) tl closed
+fault_element T true closed reading q tl fault closes = (ap (λ (f : StoreFault). reply.Store (store_fault_number f)) closes.0, refl, closes.1)
 fault_element T false closed reading q tl NoMemory closes = inr (inl (refl, refl, closes))
 fault_element T false closed reading q tl Store closes = inr (inr (refl, refl, closes))
 fault_element T false closed reading q tl Closed closes = absurd closes
@@ -190,8 +190,8 @@ was_open T true closed fault closes is_open = absurd (false≢true (sym is_open 
 was_open T false closed fault closes is_open = refl
 
 -- a store fault reports whether the store is closed
-pub fault_tells : (T : Type 0) (before closed : Bool) (fault : StoreFault) → Closes {T = T} before closed (Err fault) → ReportsClosing before (reply.Store (number_of fault)) closed
-fault_tells T true closed fault closes = (ap (λ (f : StoreFault). reply.Store (number_of f)) closes.0, closes.1)
+pub fault_tells : (T : Type 0) (before closed : Bool) (fault : StoreFault) → Closes {T = T} before closed (Err fault) → ReportsClosing before (reply.Store (store_fault_number fault)) closed
+fault_tells T true closed fault closes = (ap (λ (f : StoreFault). reply.Store (store_fault_number f)) closes.0, closes.1)
 fault_tells T false closed NoMemory closes = λ shut. absurd (false≢true (sym closes ∙ shut))
 fault_tells T false closed Store closes = λ shut. refl
 fault_tells T false closed Closed closes = absurd closes

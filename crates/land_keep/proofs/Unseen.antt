@@ -30,7 +30,7 @@ use Rattle.land_core.specs.declared.rrr.RrrRecord.{RrrRecord}
 use Rattle.land_keep.proofs.Timelines.{sound_or_nothing}
 use Rattle.land_keep.proofs.TwoRegisters.{by_verdict, shows, step_told, told}
 use Rattle.land_keep.specs.Laws.{RepliesRevealNothingUnseen}
-use Rattle.land_keep.specs.Machine.{moment_of, now_of, sheet_reply, step, view_reply}
+use Rattle.land_keep.specs.Machine.{asked_moment, now_of, sheet_reply, step, view_reply}
 use Rattle.land_keep.specs.Sheets.{visible_entries, name_at, named_rrr, parcels_at, numbered_parcel, view_at}
 use Rattle.land_keep.specs.Timeline.{Timeline, IsSoundTimeline, last_register, register_at}
 use Rattle.land_keep.specs.declared.reply.Reply.{Reply}
@@ -221,18 +221,18 @@ same_shown now last other_last at other_at caller (ask.Do it) past alike read fr
 same_told : (now : ℤ) (last other_last at other_at : Register) (caller : Caller) (a : Ask) → WorldsLookAlike last other_last at other_at caller
     → IsReadRequest a → told now last at caller a ≡ told now other_last other_at caller a
 same_told now last other_last at other_at caller a alike read =
-    let past = int_lt (moment_of a now) now in
-    ap (cond (int_lt now (moment_of a now)) (reply.Fault 135))
+    let past = int_lt (asked_moment a now) now in
+    ap (cond (int_lt now (asked_moment a now)) (reply.Fault 135))
     (same_reply (verdict_of last at caller a past) (shows now at caller a) (shows now other_at caller a) (same_shown now last other_last at other_at caller a past alike read)
     ∙ ap (λ v. by_verdict v (shows now other_at caller a)) (same_verdicts last other_last at other_at caller a past alike read))
 
 pub replies_reveal_nothing_unseen : RepliesRevealNothingUnseen
 replies_reveal_nothing_unseen clock other_clock request one other sound also read now last at =
     let a = request.ask in
-    let t = moment_of a (now_of clock one) in
-    let same_moment : register_at other t ≡ register_at other (moment_of a (now_of other_clock other)) = ap (λ n. register_at other (moment_of a n)) now in
+    let t = asked_moment a (now_of clock one) in
+    let same_moment : register_at other t ≡ register_at other (asked_moment a (now_of other_clock other)) = ap (λ n. register_at other (asked_moment a n)) now in
     step_told clock request.caller a one read
     ∙ same_told (now_of clock one) (last_register one) (last_register other) (register_at one t) (register_at other t) request.caller a
     (record { last = last; asked = at; one = sound_or_nothing one t sound; other = sound_or_nothing other t also }) read
-    ∙ ap (λ (n : ℤ). told n (last_register other) (register_at other (moment_of a n)) request.caller a) now
+    ∙ ap (λ (n : ℤ). told n (last_register other) (register_at other (asked_moment a n)) request.caller a) now
     ∙ sym (step_told other_clock request.caller a other read)

@@ -2,7 +2,7 @@
 use Rattle.std.specs.Prelude.{◌≡◌, Bool, true, false, List, Option, Some, None, Result, Ok, Err, ℤ, ◌<ℤ◌}
 use Rattle.std.specs.Prelude.{◌≤ℤ◌, MatchOption}
 use Rattle.land_acts.specs.Laws.{IsAccepted}
-use Rattle.land_acts.specs.Mutations.Planning.{number_of}
+use Rattle.land_acts.specs.Mutations.Planning.{refusal_number}
 use Rattle.land_acts.specs.declared.mutations.refusal.Planned.{Planned}
 use Rattle.land_acts.specs.declared.mutations.refusal.Planned.TheVariants.{New, Repeat}
 use Rattle.land_acts.specs.declared.mutations.refusal.Refusal.{Refusal}
@@ -66,7 +66,7 @@ abbrev pub prepared_of : Result Planned Refusal → Prepared
 prepared_of (Ok (New change done)) =
     record { reply = reply.Done done; writing = Some (record { change = change; stamp = done.stamp }) }
 prepared_of (Ok (Repeat done)) = record { reply = reply.Done done; writing = None }
-prepared_of (Err refusal) = record { reply = reply.Refused (number_of refusal); writing = None }
+prepared_of (Err refusal) = record { reply = reply.Refused (refusal_number refusal); writing = None }
 
 -- ---- the moment of a sheet
 

@@ -11,7 +11,7 @@ use Rattle.land_core.specs.declared.party.PartyRecord.{PartyRecord}
 use Rattle.land_core.specs.declared.register.Register.{Register}
 use Rattle.land_core.specs.declared.unit.UnitRecord.{UnitRecord}
 use Rattle.land_keep.specs.Keeping.{CanWrite, Closes}
-use Rattle.land_keep.specs.Machine.{step, written_timeline, now_of, moment_of}
+use Rattle.land_keep.specs.Machine.{step, written_timeline, now_of, asked_moment}
 use Rattle.land_keep.specs.Timeline.{Timeline, IsSoundTimeline, register_at, last_register}
 use Rattle.land_keep.specs.declared.store_fault.StoreFault.{StoreFault}
 use Rattle.land_keep.specs.declared.store_fault.StoreFault.TheVariants.{NoMemory}
@@ -61,8 +61,8 @@ abbrev pub ReadsUseTwoRegisters : Type 0
 ReadsUseTwoRegisters = (clock : ℤ) (request : Request) (one other : Timeline)
     → IsReadRequest request.ask → now_of clock one ≡ now_of clock other
     → last_register one ≡ last_register other
-    → register_at one (moment_of request.ask (now_of clock one))
-    ≡ register_at other (moment_of request.ask (now_of clock one))
+    → register_at one (asked_moment request.ask (now_of clock one))
+    ≡ register_at other (asked_moment request.ask (now_of clock one))
     → (step clock request one).0 ≡ (step clock request other).0
 
 -- replies reveal nothing unseen (noninterference). Take two sound timelines, each with its own reading of the
@@ -74,6 +74,6 @@ RepliesRevealNothingUnseen = (clock other_clock : ℤ) (request : Request) (one 
     → IsSoundTimeline one → IsSoundTimeline other
     → IsReadRequest request.ask → now_of clock one ≡ now_of other_clock other
     → LookAlike (last_register one) (last_register other) request.caller
-    → LookAlike (register_at one (moment_of request.ask (now_of clock one)))
-    (register_at other (moment_of request.ask (now_of clock one))) request.caller
+    → LookAlike (register_at one (asked_moment request.ask (now_of clock one)))
+    (register_at other (asked_moment request.ask (now_of clock one))) request.caller
     → (step clock request one).0 ≡ (step other_clock request other).0

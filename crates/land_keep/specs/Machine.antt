@@ -1,7 +1,7 @@
 -- The register machine: the reply to a request, and the timeline after it.
 use Rattle.std.specs.Prelude.{◌≡◌, ℕ, Bool, true, false, List, [], ◌∷◌, ◌++◌, Option, Some, None, Result, Ok}
 use Rattle.std.specs.Prelude.{Err, ℤ, int_lt, unwrap_or, ◌⊎◌, if◌then◌else◌}
-use Rattle.land_acts.specs.Mutations.Planning.{number_of}
+use Rattle.land_acts.specs.Mutations.Planning.{refusal_number}
 use Rattle.land_acts.specs.Outcome.{outcome_of}
 use Rattle.land_acts.specs.declared.mutations.refusal.Planned.{Planned}
 use Rattle.land_acts.specs.declared.mutations.refusal.Planned.TheVariants.{New, Repeat}
@@ -43,8 +43,8 @@ at_of (ask.Sheet unit at) = at
 at_of (ask.Do it) = None
 
 -- the requested moment: the stated one, else now
-abbrev pub moment_of : Ask → (now : ℤ) → ℤ
-moment_of a now = unwrap_or (at_of a) now
+abbrev pub asked_moment : Ask → (now : ℤ) → ℤ
+asked_moment a now = unwrap_or (at_of a) now
 
 -- ---- one step
 
@@ -75,7 +75,7 @@ written_timeline tl change stamp =
 abbrev pub outcome_next : Result Planned Refusal → Timeline → Next
 outcome_next (Ok (New change done)) tl = (reply.Done done, written_timeline tl change done.stamp)
 outcome_next (Ok (Repeat done)) tl = (reply.Done done, tl)
-outcome_next (Err refusal) tl = (reply.Refused (number_of refusal), tl)
+outcome_next (Err refusal) tl = (reply.Refused (refusal_number refusal), tl)
 
 -- the result of an allowed request at moment t; an act reads only the last register
 abbrev pub next_if_allowed : (clock : ℤ) → Caller → Ask → (t : ℤ) → Timeline → Next
@@ -95,14 +95,15 @@ next_by_verdict (Denied rule) next tl = (reply.Denied rule, tl)
 -- requested moment
 abbrev pub verdict_at : Timeline → Caller → Ask → (now : ℤ) → Verdict
 verdict_at tl caller a now =
-    verdict_of (last_register tl) (register_at tl (moment_of a now)) caller a (int_lt (moment_of a now) now)
+    verdict_of (last_register tl) (register_at tl (asked_moment a now)) caller a
+    (int_lt (asked_moment a now) now)
 
 -- one step: if the requested moment is in the future, fault 135; else the policy decides, and an allowed
 -- request is performed
 abbrev pub step : (clock : ℤ) → Request → Timeline → Next
 step clock request tl =
     let now = now_of clock tl in
-    let t = moment_of request.ask now in
+    let t = asked_moment request.ask now in
     if int_lt now t then (reply.Fault 135, tl)
     else next_by_verdict (verdict_at tl request.caller request.ask now)
     (next_if_allowed clock request.caller request.ask t tl) tl

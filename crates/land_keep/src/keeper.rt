@@ -4,7 +4,7 @@ ghost use Rattle.land_acts.specs.Slices.{needed_slice_of, slice_of};
 ghost use Rattle.land_core.specs.Numbers.{last_moment};
 ghost use Rattle.land_core.specs.Register.{object_at};
 ghost use Rattle.land_keep.specs.Keeping.{Closes, CanWrite, IsHonestAndOpen};
-ghost use Rattle.land_keep.specs.Machine.{verdict_at, moment_of, written_timeline};
+ghost use Rattle.land_keep.specs.Machine.{verdict_at, asked_moment, written_timeline};
 ghost use Rattle.land_keep.specs.Named.{objects_at};
 ghost use Rattle.land_keep.specs.Sheets.{view_at};
 ghost use Rattle.land_keep.specs.Timeline.{Timeline, IsSoundTimeline, last_stamp, last_register, register_at};
@@ -62,7 +62,7 @@ pub trait Keeper {
     ) -> Result<Verdict, StoreFault>
         requires last { IsHonestAndOpen (honest self.old) (closed self.old)
             → last_stamp (timeline self.old) ≤ℤ now }
-        requires asked { moment_of ask.now now ≤ℤ now }
+        requires asked { asked_moment ask.now now ≤ℤ now }
         ensures value { honest self.new
             → IfOk result (λ it. it ≡ verdict_at (timeline self.old) caller ask.now now) }
         ensures same { IsHonestAndOpen (honest self.new) (closed self.new)

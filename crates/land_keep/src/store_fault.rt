@@ -15,11 +15,11 @@ pub enum StoreFault {
 }
 
 impl StoreFault {
-    ghost use Rattle.land_keep.specs.Faults.{number_of};
+    ghost use Rattle.land_keep.specs.Faults.{store_fault_number};
 
     /// Returns the number of the error: 501, 502 or 503.
     pub fn number(self) -> u16
-        ensures { result ≡ number_of self }
+        ensures { result ≡ store_fault_number self }
     {
         match self {
             StoreFault::NoMemory => 501,

@@ -10,7 +10,7 @@ use Rattle.land_desk.specs.Service.Coming.{Accepts}
 use Rattle.land_pool.proofs.Logs.{AreOf, get_back, get_front, get_last, one_of, other_endings, own_endings, records_none, same_or_other, same_some}
 use Rattle.land_pool.proofs.Turned.{broken}
 use Rattle.land_pool.specs.Endings.{Ending, RecordsAll, endings_of}
-use Rattle.land_pool.specs.Interleaving.{Accepted, AreFirstPending, EachIsServed, IsServedAs, Numbered, WritesPrefix, exchanges_of}
+use Rattle.land_pool.specs.Interleaving.{Accepted, AreFirstPending, EachIsServed, IsServedAs, Numbered, SendsPrefix, exchanges_of}
 use Rattle.land_pool.specs.OpenConnections.{AcceptsMore, AreOpen, HasItems, IsOpenWith, rest_of}
 use Rattle.land_pool.specs.declared.open_connection.OpenConnection.{OpenConnection}
 
@@ -59,7 +59,7 @@ module _ {R W : Type 0} (remaining : R → Option (List ℕ)) (contents : W → 
       → IsOpenWith remaining contents (remaining s.reader) fresh [] s
   open_new s finished input output holds = (
     subst (λ (b : Bool). HasItems b (remaining s.reader) (rest_of remaining contents s) []) (sym finished) (both_new (remaining s.reader) s.input.items input),
-    subst (λ (o : Option (List ℕ)). WritesPrefix o (contents s.writer) [] s.output.items) holds ([], Appends-nil (contents s.writer), sym output),
+    subst (λ (o : Option (List ℕ)). SendsPrefix o (contents s.writer) [] s.output.items) holds ([], Appends-nil (contents s.writer), sym output),
   )
 
   first_of_all : (c : Accepted) (coming after : Option (List (Option (List ℕ)))) → Accepts coming after (Some c.bytes) → AreFirstPending (c ∷ []) coming after

@@ -11,7 +11,7 @@ use Rattle.land_desk.specs.declared.next_item.AfterItem.TheVariants as next_item
 use Rattle.land_desk.specs.declared.serve.DeskFault.{DeskFault}
 use Rattle.land_desk.specs.declared.serve.DeskFault.TheVariants as desk
 use Rattle.land_keep.specs.Machine.{State}
-use Rattle.land_pool.specs.Interleaving.{AreAllItems, AreFirstItems, BeginsWithItems, IsServed, WritesPrefix}
+use Rattle.land_pool.specs.Interleaving.{AreAllItems, AreFirstItems, BeginsWithItems, IsServed, SendsPrefix}
 use Rattle.land_pool.specs.OpenConnections.{AnswersItems, HasItems}
 use Rattle.land_wire.specs.Framing.Items.{IsItem}
 
@@ -41,7 +41,7 @@ all_sent_more : (xs : List Exchange) (x : Exchange) → all_sent xs ++ x.sent �
 all_sent_more [] x = sym (append-nil x.sent)
 all_sent_more (y ∷ xs) x = append_assoc y.sent (all_sent xs) x.sent ∙ ap (λ (t : List ℕ). y.sent ++ t) (all_sent_more xs x)
 
-output_more : (old new : Option (List ℕ)) (xs : List Exchange) (x : Exchange) (u v : List ℕ) → v ≡ u ++ x.sent → WritesPrefix old new xs u → WritesPrefix old new (xs ++ x ∷ []) v
+output_more : (old new : Option (List ℕ)) (xs : List Exchange) (x : Exchange) (u v : List ℕ) → v ≡ u ++ x.sent → SendsPrefix old new xs u → SendsPrefix old new (xs ++ x ∷ []) v
 output_more old new xs x u v e w =
     (w.0, w.1, sym (all_sent_more xs x) ∙ ap (λ (l : List ℕ). l ++ x.sent) w.2 ∙ append_assoc w.0 u x.sent ∙ ap (λ (l : List ℕ). w.0 ++ l) (sym e))
 
@@ -86,7 +86,7 @@ items_kept false (Some all) (Some rest) (Some same) xs goes so keeps =
     subst (λ (l : List Exchange). BeginsWithItems all l same) (sym (append-nil xs)) (subst (λ (t : List ℕ). BeginsWithItems all xs t) (sym keeps) so)
 
 -- a connection may be broken off at any point
-pub broken : (finished : Bool) (bytes rest old new : Option (List ℕ)) (xs : List Exchange) (u : List ℕ) → HasItems finished bytes rest xs → WritesPrefix old new xs u
+pub broken : (finished : Bool) (bytes rest old new : Option (List ℕ)) (xs : List Exchange) (u : List ℕ) → HasItems finished bytes rest xs → SendsPrefix old new xs u
     → IsServed false bytes old new xs
 broken finished bytes rest old new xs u so w = (first finished bytes rest xs so, (u, w))
   where
@@ -97,23 +97,23 @@ broken finished bytes rest old new xs u so w = (first finished bytes rest xs so,
     first false (Some all) None xs so = absurd so
     first false (Some all) (Some left) xs so = inr (left, so)
 
-output_same : (old new : Option (List ℕ)) (xs : List Exchange) (u v : List ℕ) → Appends (Some u) (Some v) [] → WritesPrefix old new xs u → WritesPrefix old new (xs ++ []) v
+output_same : (old new : Option (List ℕ)) (xs : List Exchange) (u v : List ℕ) → Appends (Some u) (Some v) [] → SendsPrefix old new xs u → SendsPrefix old new (xs ++ []) v
 output_same old new xs u v e w =
-    subst (λ (l : List Exchange). WritesPrefix old new l v) (sym (append-nil xs)) (subst (λ (t : List ℕ). WritesPrefix old new xs t) (sym (e ∙ append-nil u)) w)
+    subst (λ (l : List Exchange). SendsPrefix old new l v) (sym (append-nil xs)) (subst (λ (t : List ℕ). SendsPrefix old new xs t) (sym (e ∙ append-nil u)) w)
 
 -- no item is served
 pub same_connection : (finished : Bool) (bytes rest old new : Option (List ℕ)) (xs : List Exchange) (u : List ℕ)
-    → HasItems finished bytes rest xs × WritesPrefix old new xs u → HasItems finished bytes rest (xs ++ []) × WritesPrefix old new (xs ++ []) u
+    → HasItems finished bytes rest xs × SendsPrefix old new xs u → HasItems finished bytes rest (xs ++ []) × SendsPrefix old new (xs ++ []) u
 same_connection finished bytes rest old new xs u fits =
-    subst (λ (l : List Exchange). HasItems finished bytes rest l × WritesPrefix old new l u) (sym (append-nil xs)) fits
+    subst (λ (l : List Exchange). HasItems finished bytes rest l × SendsPrefix old new l u) (sym (append-nil xs)) fits
 
 -- what an item adds, of a connection whose other parts are the same
 pub carried : {C : Type 0} (reads : C → ℤ → C → Type 0) (stood stands : State C → Type 0) (finished later : Bool) (known new new_later : Option (List ℕ)) (u : List ℕ)
     (after : (bytes old : Option (List ℕ)) → List Exchange → Type 0) → later ≡ finished → new_later ≡ new
     → ForwardSimulation stood stands (λ from to. (added : List Exchange) × AnswersItems reads from added to × (65536 < length u → added ≡ [])
-    × ((bytes old : Option (List ℕ)) (xs : List Exchange) → HasItems later bytes known xs × WritesPrefix old new_later xs u → after bytes old (xs ++ added)))
+    × ((bytes old : Option (List ℕ)) (xs : List Exchange) → HasItems later bytes known xs × SendsPrefix old new_later xs u → after bytes old (xs ++ added)))
     → ForwardSimulation stood stands (λ from to. (added : List Exchange) × AnswersItems reads from added to × (65536 < length u → added ≡ [])
-    × ((bytes old : Option (List ℕ)) (xs : List Exchange) → HasItems finished bytes known xs × WritesPrefix old new xs u → after bytes old (xs ++ added)))
+    × ((bytes old : Option (List ℕ)) (xs : List Exchange) → HasItems finished bytes known xs × SendsPrefix old new xs u → after bytes old (xs ++ added)))
 carried reads stood stands finished later known new new_later u after same same_writer brings from at =
     let it = brings from at in (
       it.0,
@@ -123,7 +123,7 @@ carried reads stood stands finished later known new new_later u after same same_
         it.1.2,
         λ bytes old xs fits. it.1.3 bytes old xs (
           subst (λ (b : Bool). HasItems b bytes known xs) (sym same) fits.0,
-          subst (λ (w : Option (List ℕ)). WritesPrefix old w xs u) (sym same_writer) fits.1,
+          subst (λ (w : Option (List ℕ)). SendsPrefix old w xs u) (sym same_writer) fits.1,
         ),
       ),
       it.2,
@@ -136,7 +136,7 @@ module _ {C : Type 0} (reads : C → ℤ → C → Type 0) (honest : Type 0) (tr
   abbrev pub AddsItem : (after : (bytes old : Option (List ℕ)) → List Exchange → Type 0) → Type 0
   AddsItem after = ForwardSimulation stood stands (λ from to. (added : List Exchange) × AnswersItems reads from added to
       × (65536 < length u → added ≡ [])
-      × ((bytes old : Option (List ℕ)) (xs : List Exchange) → HasItems finished bytes known xs × WritesPrefix old new xs u → after bytes old (xs ++ added)))
+      × ((bytes old : Option (List ℕ)) (xs : List Exchange) → HasItems finished bytes known xs × SendsPrefix old new xs u → after bytes old (xs ++ added)))
 
   abbrev pub Serves : Result AfterItem DeskFault → Type 0
   Serves result = ForwardSimulation stood stands (λ from to. ServesNext (StepIfHonest honest reads) known left from to (Some u) (Some v) result)
@@ -148,7 +148,7 @@ module _ {C : Type 0} (reads : C → ℤ → C → Type 0) (honest : Type 0) (tr
       too_many full = omega (arith, full, small)
 
   pub item_more : (t : AfterItem) → t ≡ next_item.KeepAlive → finished ≡ false → Serves (Ok t)
-      → AddsItem (λ bytes old xs. HasItems finished bytes left xs × WritesPrefix old new xs v)
+      → AddsItem (λ bytes old xs. HasItems finished bytes left xs × SendsPrefix old new xs v)
   item_more t is goes brings from at =
       let it = brings from at in
       let one = subst (λ (r : AfterItem). ServesNext (StepIfHonest honest reads) known left from it.0 (Some u) (Some v) (Ok r)) is it.1 in (
@@ -163,7 +163,7 @@ module _ {C : Type 0} (reads : C → ℤ → C → Type 0) (honest : Type 0) (tr
       )
 
   pub item_last : (t : AfterItem) → t ≡ next_item.Close → finished ≡ false → Serves (Ok t)
-      → AddsItem (λ bytes old xs. HasItems true bytes left xs × WritesPrefix old new xs v)
+      → AddsItem (λ bytes old xs. HasItems true bytes left xs × SendsPrefix old new xs v)
   item_last t is goes brings from at =
       let it = brings from at in
       let one = subst (λ (r : AfterItem). ServesNext (StepIfHonest honest reads) known left from it.0 (Some u) (Some v) (Ok r)) is it.1 in (
@@ -178,7 +178,7 @@ module _ {C : Type 0} (reads : C → ℤ → C → Type 0) (honest : Type 0) (tr
       )
 
   pub item_end : (t : AfterItem) → t ≡ next_item.Eof → finished ≡ false → Serves (Ok t)
-      → AddsItem (λ bytes old xs. HasItems true bytes left xs × WritesPrefix old new xs v)
+      → AddsItem (λ bytes old xs. HasItems true bytes left xs × SendsPrefix old new xs v)
   item_end t is goes brings from at =
       let it = brings from at in
       let one = subst (λ (r : AfterItem). ServesNext (StepIfHonest honest reads) known left from it.0 (Some u) (Some v) (Ok r)) is it.1 in (
@@ -193,7 +193,7 @@ module _ {C : Type 0} (reads : C → ℤ → C → Type 0) (honest : Type 0) (tr
       )
 
   pub item_later : (e : DeskFault) → e ≡ desk.Read → finished ≡ false → Serves (Err e)
-      → AddsItem (λ bytes old xs. HasItems finished bytes left xs × WritesPrefix old new xs v)
+      → AddsItem (λ bytes old xs. HasItems finished bytes left xs × SendsPrefix old new xs v)
   item_later e is goes brings from at =
       let it = brings from at in
       let one = subst (λ (r : DeskFault). ServesNext (StepIfHonest honest reads) known left from it.0 (Some u) (Some v) (Err r)) is it.1 in (

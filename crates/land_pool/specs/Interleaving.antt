@@ -51,15 +51,15 @@ abbrev pub AreFirstItems : List ℕ → List Exchange → Type 0
 AreFirstItems bytes xs = AreAllItems bytes xs ⊎ ((rest : List ℕ) × BeginsWithItems bytes xs rest)
 
 -- Of the responses a prefix was written, and these bytes were not.
-abbrev pub WritesPrefix : (old new : Option (List ℕ)) → List Exchange → (unsent : List ℕ) → Type 0
-WritesPrefix old new xs unsent = (sent : List ℕ) × Appends old new sent × (all_sent xs ≡ sent ++ unsent)
+abbrev pub SendsPrefix : (old new : Option (List ℕ)) → List Exchange → (unsent : List ℕ) → Type 0
+SendsPrefix old new xs unsent = (sent : List ℕ) × Appends old new sent × (all_sent xs ≡ sent ++ unsent)
 
 -- A connection was served completely: each of its items was answered, and each response was written. Or it
 -- was broken off: its first items were answered, and a prefix of the responses was written.
 abbrev pub IsServed : (complete : Bool) → (bytes old new : Option (List ℕ)) → List Exchange → Type 0
 IsServed true bytes old new xs = IfSome bytes (λ all. AreAllItems all xs) × Appends old new (all_sent xs)
 IsServed false bytes old new xs =
-    IfSome bytes (λ all. AreFirstItems all xs) × ((unsent : List ℕ) × WritesPrefix old new xs unsent)
+    IfSome bytes (λ all. AreFirstItems all xs) × ((unsent : List ℕ) × SendsPrefix old new xs unsent)
 
 -- A connection that was accepted: its input.
 pub record Accepted : Type 0 where
@@ -108,8 +108,8 @@ ServesAtOnce {C} reads wanted from stands coming after ended ended_after result 
     × IsAcceptedCount (length accepted) wanted endings result
 
 -- The service reports whether the store is closed.
-abbrev pub ReportsClosing : {T : Type 0} → Result T PoolFault → (closed : Bool) → Type 0
-ReportsClosing (Ok done) closed = closed ≡ false
-ReportsClosing (Err Closed) closed = closed ≡ true
-ReportsClosing (Err Accept) closed = closed ≡ false
-ReportsClosing (Err NoMemory) closed = closed ≡ false
+abbrev pub ReportsClosedStore : {T : Type 0} → Result T PoolFault → (closed : Bool) → Type 0
+ReportsClosedStore (Ok done) closed = closed ≡ false
+ReportsClosedStore (Err Closed) closed = closed ≡ true
+ReportsClosedStore (Err Accept) closed = closed ≡ false
+ReportsClosedStore (Err NoMemory) closed = closed ≡ false

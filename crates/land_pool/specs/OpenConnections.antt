@@ -9,7 +9,7 @@ use Rattle.land_keep.specs.Machine.{State}
 use Rattle.land_pool.specs.Endings.{Ending, RecordsAll, endings_of}
 use Rattle.land_pool.specs.Interleaving.{Accepted, AreAllItems, AreFirstPending, BeginsWithItems}
 use Rattle.land_pool.specs.Interleaving.{EachIsServed, IsRunOf}
-use Rattle.land_pool.specs.Interleaving.{IsServed, Numbered, WritesPrefix, exchanges_of}
+use Rattle.land_pool.specs.Interleaving.{IsServed, Numbered, SendsPrefix, exchanges_of}
 use Rattle.land_pool.specs.declared.open_connection.OpenConnection.{OpenConnection}
 use Rattle.land_pool.specs.declared.open_connection.Progress.{Progress}
 use Rattle.land_pool.specs.declared.open_connection.Progress.TheVariants.{Open, Complete, Broken}
@@ -46,7 +46,7 @@ module _ {R W : Type 0} (remaining : R → Option (List ℕ)) (contents : W → 
   -- The state of an open connection with these exchanges.
   abbrev pub IsOpenWith : (bytes old : Option (List ℕ)) → List Exchange → OpenConnection R W → Type 0
   IsOpenWith bytes old xs o =
-      HasItems o.finished bytes (rest_of o) xs × WritesPrefix old (contents o.writer) xs o.output.items
+      HasItems o.finished bytes (rest_of o) xs × SendsPrefix old (contents o.writer) xs o.output.items
 
   -- The same after a turn, or the connection ends.
   abbrev pub IsThen : Progress → (bytes old : Option (List ℕ)) → List Exchange → OpenConnection R W → Type 0

@@ -3,7 +3,7 @@ ghost use Rattle.std.specs.Prelude.{◌≡◌, ◌+◌, ◌≤◌, false, ℕ, l
 ghost use Rattle.slab.specs.Slab.{get};
 ghost use Rattle.land_keep.specs.Keepers.{Represents, WasHonest, state_of};
 ghost use Rattle.land_pool.specs.Endings.{Records};
-ghost use Rattle.land_pool.specs.Interleaving.{ReportsClosing, ServesAtOnce};
+ghost use Rattle.land_pool.specs.Interleaving.{ReportsClosedStore, ServesAtOnce};
 ghost use Rattle.land_pool.specs.OpenConnections.{AcceptsMore, ServesOn};
 ghost use Rattle.land_wire.specs.Framing.Stream.{field_room};
 ghost use Rattle.land_wire.specs.Routes.Table.{RoutesCorrectly};
@@ -45,7 +45,7 @@ pub fn serve_at_once<L: ConnectionSource, K: Keeper, C: Clock>(
     keeper: &mut K,
     clock: &mut C,
 ) -> Result<(), PoolFault>
-    ensures closed { ReportsClosing result (K.closed keeper.new) }
+    ensures closed { ReportsClosedStore result (K.closed keeper.new) }
     ensures served { K.honest keeper.new → ServesAtOnce C.reads connections
         (state_of K.Keeper keeper.old clock.old) (Represents K.Keeper keeper.new clock.new)
         (L.coming source.old) (L.coming source.new) (L.ended source.old) (L.ended source.new) result }
@@ -86,7 +86,7 @@ fn serve_all<L: ConnectionSource, K: Keeper, C: Clock>(
     requires routed { RoutesCorrectly router.now }
     requires room { field_room ≤ length headers.old }
     requires is_open { K.closed keeper.old ≡ false }
-    ensures closed { ReportsClosing result (K.closed keeper.new) }
+    ensures closed { ReportsClosedStore result (K.closed keeper.new) }
     ensures served { K.honest keeper.new → ServesAtOnce C.reads connections
         (state_of K.Keeper keeper.old clock.old) (Represents K.Keeper keeper.new clock.new)
         (L.coming source.old) (L.coming source.new) (L.ended source.old) (L.ended source.new) result }

@@ -16,7 +16,7 @@ use Rattle.land_core.specs.declared.mandates.Mandate.{Mandate}
 use Rattle.land_core.specs.declared.register.Register.{Register}
 use Rattle.land_core.specs.declared.rrr.RrrRecord.{RrrRecord}
 use Rattle.land_rules.specs.ActLaws.{approve_request, refuse_request}
-use Rattle.land_rules.specs.Acts.{decides, is_discharge_of_another, is_mortgage_of, is_mortgage_of_another, changes_mortgages, is_mandate_act, changes_outlines, is_office_act, is_transfer, lodges, withdraws}
+use Rattle.land_rules.specs.Acts.{decides, is_discharge_of_another, is_mortgage_of, is_mortgage_of_another, changes_mortgages, is_mandate_act, changes_outlines, is_office_act, is_transfer_content, lodges, withdraws}
 use Rattle.land_rules.specs.Relations.{has_lodged, is_rrr_where}
 use Rattle.land_rules.specs.StandingLaws.{HasMortgage, IsOfficeRequest, Lodges, LodgesMortgageOrDischarge, LodgesSubdivisionOrMerger, LodgesTransfer, is_lodging_act}
 use Rattle.land_rules.proofs.StandingTests.{not_both}
@@ -92,11 +92,11 @@ decides_for_others now party (act.Approve it) others = false_from_ne_true _ (λ 
 decides_for_others now party (act.Refuse it) others = false_from_ne_true _ (λ h. (others it.mutation h).1 refl)
 decides_for_others now party other others = refl
 
-pub outlines_are_no_transfer : (c : Content) → changes_outlines c ≡ true → is_transfer c ≡ false
+pub outlines_are_no_transfer : (c : Content) → changes_outlines c ≡ true → is_transfer_content c ≡ false
 outlines_are_no_transfer (content.Transfer it) h = absurd (false≢true h)
 outlines_are_no_transfer other h = refl
 
-pub mortgages_are_no_transfer : (c : Content) → changes_mortgages c ≡ true → is_transfer c ≡ false
+pub mortgages_are_no_transfer : (c : Content) → changes_mortgages c ≡ true → is_transfer_content c ≡ false
 mortgages_are_no_transfer (content.Transfer it) h = absurd (false≢true h)
 mortgages_are_no_transfer other h = refl
 
@@ -105,15 +105,15 @@ mortgages_are_no_outlines (content.Subdivision it) h = absurd (false≢true h)
 mortgages_are_no_outlines (content.Merger it) h = absurd (false≢true h)
 mortgages_are_no_outlines other h = refl
 
-pub transfer_of : (a : Ask) → asks_for (lodges is_transfer) a ≡ true → LodgesTransfer a
-transfer_of a h = let it = lodging_of is_transfer a h in by_content it.content it.lodged it.meets
+pub transfer_of : (a : Ask) → asks_for (lodges is_transfer_content) a ≡ true → LodgesTransfer a
+transfer_of a h = let it = lodging_of is_transfer_content a h in by_content it.content it.lodged it.meets
   where
-    by_content : (c : Content) → Lodges c a → is_transfer c ≡ true → LodgesTransfer a
+    by_content : (c : Content) → Lodges c a → is_transfer_content c ≡ true → LodgesTransfer a
     by_content (content.Transfer it) lodged h = (it, lodged)
     by_content other lodged h = absurd (false≢true h)
 
-pub lodges_transfer : (a : Ask) → LodgesTransfer a → asks_for (lodges is_transfer) a ≡ true
-lodges_transfer a (it, lodged) = lodges_it is_transfer a (content.Transfer it) lodged true refl
+pub lodges_transfer : (a : Ask) → LodgesTransfer a → asks_for (lodges is_transfer_content) a ≡ true
+lodges_transfer a (it, lodged) = lodges_it is_transfer_content a (content.Transfer it) lodged true refl
 
 pub outlines_of : (a : Ask) → asks_for (lodges changes_outlines) a ≡ true → LodgesSubdivisionOrMerger a
 outlines_of a h = let it = lodging_of changes_outlines a h in by_content it.content it.lodged it.meets

@@ -8,7 +8,7 @@ use Rattle.std.specs.Option.{option_map_or}
 use Rattle.std.proofs.lemmas.Bool.{false≢true}
 use Rattle.land_core.proofs.Booleans.{and_true, or_nothing}
 use Rattle.land_core.specs.Entries.{some}
-use Rattle.land_core.specs.Register.{stands}
+use Rattle.land_core.specs.Register.{is_mutation_where, stands}
 use Rattle.land_core.specs.Role.{is_role}
 use Rattle.land_core.specs.declared.kind.Kind.{Kind}
 use Rattle.land_core.specs.declared.kind.Kind.TheVariants as kind
@@ -21,7 +21,7 @@ use Rattle.land_rules.proofs.SomeOf.{and_any, any_alike, any_and, any_either, an
 use Rattle.land_rules.specs.CircleLaws.{CirclesSeeTogether, MandatesServeCitizens, without_mandates}
 use Rattle.land_rules.specs.Circles.{circle_of, is_group_of, is_held_by, is_visible_to_circle, names_held_by, principals_of}
 use Rattle.land_rules.specs.Laws.{citizen}
-use Rattle.land_rules.specs.Relations.{is_holder, is_member_of, is_mutation_where, is_rrr_where, is_visible_to_holder, names_holding}
+use Rattle.land_rules.specs.Relations.{is_holder, is_member_of, is_rrr_where, is_visible_to_holder, names_holding}
 use Rattle.land_rules.specs.Rules.{is_allowed, seen_of, sees, view_rules}
 use Rattle.land_rules.specs.declared.verdict.Verdict.TheVariants.{Allowed, Denied}
 

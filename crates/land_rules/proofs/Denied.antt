@@ -7,12 +7,12 @@ use Rattle.std.proofs.lemmas.Cmp.{nat_eq_equiv}
 use Rattle.land_core.specs.declared.ask.Ask.TheVariants as ask
 use Rattle.land_core.specs.declared.kind.Kind.TheVariants as kind
 use Rattle.land_rules.specs.Laws.{RulesAreOrdered, VerdictsAreLeast}
-use Rattle.land_rules.specs.Rules.{Rules, first_denial, denies, all_above, rules_on}
+use Rattle.land_rules.specs.Rules.{Rules, first_denial, denies, are_rules_above, rules_on}
 use Rattle.land_rules.specs.declared.verdict.Verdict.{Verdict}
 use Rattle.land_rules.specs.declared.verdict.Verdict.TheVariants.{Allowed, Denied}
 
 -- no rule up to a number denies if all numbers are above it
-none_below : (low : ℕ) (rules : Rules) → all_above low rules ≡ true → (k : ℕ) → k ≤ low → denies k rules ≡ false
+none_below : (low : ℕ) (rules : Rules) → are_rules_above low rules ≡ true → (k : ℕ) → k ≤ low → denies k rules ≡ false
 none_below low [] h k le = refl
 none_below low (rule ∷ rules) h k le =
     let above : nat_lt low rule.0 ≡ true = (and_parts _ _ h).0 in
@@ -37,7 +37,7 @@ denied_is_not_allowed k e = cc
 eq-other : (n j : ℕ) → j < n → nat_eq n j ≡ false
 eq-other n j h = grind (arith, nat_tests)
 
-pub least_from_first : (low : ℕ) (rules : Rules) → all_above low rules ≡ true → (k : ℕ) → first_denial rules ≡ Denied k → IsLeast rules k
+pub least_from_first : (low : ℕ) (rules : Rules) → are_rules_above low rules ≡ true → (k : ℕ) → first_denial rules ≡ Denied k → IsLeast rules k
 least_from_first low [] h k e = absurd (denied_is_not_allowed k e)
 least_from_first low (rule ∷ rules) h k e =
     elim (rule.1) as (λ b. rule.1 ≡ b → cond b (Denied rule.0) (first_denial rules) ≡ Denied k → IsLeast (rule ∷ rules) k) [
@@ -75,7 +75,7 @@ one_number : (m k : ℕ) → (m < k → ⊥) → (k < m → ⊥) → m ≡ k
 one_number m k a b = grind (arith, a, b)
 
 -- the lowest rule that denies is the first one
-pub first_from_least : (rules : Rules) → all_above 0 rules ≡ true → (k : ℕ) → denies k rules ≡ true → ((j : ℕ) → j < k → denies j rules ≡ false) → first_denial rules ≡ Denied k
+pub first_from_least : (rules : Rules) → are_rules_above 0 rules ≡ true → (k : ℕ) → denies k rules ≡ true → ((j : ℕ) → j < k → denies j rules ≡ false) → first_denial rules ≡ Denied k
 first_from_least rules rise k holds least = by_verdict (first_denial rules) refl
   where
     by_verdict : (v : Verdict) → first_denial rules ≡ v → first_denial rules ≡ Denied k

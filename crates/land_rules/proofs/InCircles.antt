@@ -14,7 +14,7 @@ use Rattle.land_core.proofs.FiniteSets.{exact_mandates, mandates_total}
 use Rattle.land_core.proofs.Reflection.{list_any-map, some_at, some_passes}
 use Rattle.land_core.specs.Contents.{refers_to_unit_where}
 use Rattle.land_core.specs.Entries.{has, some}
-use Rattle.land_core.specs.Mandates.{has_mandate, mandate_cmp, mandate_of, mandates_in}
+use Rattle.land_core.specs.Mandates.{has_mandate, mandate_cmp, mandate_between, mandates_in}
 use Rattle.land_core.specs.Members.{Members}
 use Rattle.land_core.specs.Register.{stands}
 use Rattle.land_core.specs.Units.{is_right_of}
@@ -30,7 +30,7 @@ use Rattle.land_rules.proofs.SomeOf.{and_any, any_alike, any_and, any_either, an
 use Rattle.land_rules.specs.CircleLaws.{CirclesWithoutMandates, CirclesAreOfMandates}
 use Rattle.land_rules.specs.Circles.{is_held_by, is_name_of, is_owned_by, is_visible_to_circle, principals_of}
 use Rattle.land_rules.specs.Holdings.{has_member_among, is_name_among}
-use Rattle.land_rules.specs.Relations.{holds_under_name, is_holder, is_member_of, is_mortgage, is_owner, is_right, is_visible_to_holder}
+use Rattle.land_rules.specs.Relations.{holds_under_name, is_holder, is_member_of, is_mortgage_class, is_owner, is_right, is_visible_to_holder}
 
 -- ---- principals
 
@@ -44,24 +44,24 @@ some_principal t at party =
 abbrev is_of : (party number : ℕ) → Mandate → Unit {0} → Bool
 is_of party number m u = nat_eq m.agent party && nat_eq number m.principal
 
-held_there : (at : Register) (party number : ℕ) → list_any (λ e. is_of party number e.0 e.1) (map.entries at.mandates) ≡ has_mandate at.mandates (mandate_of number party)
-held_there at party number = same_tests _ _ forth (back (map.get at.mandates (mandate_of number party)) refl)
+held_there : (at : Register) (party number : ℕ) → list_any (λ e. is_of party number e.0 e.1) (map.entries at.mandates) ≡ has_mandate at.mandates (mandate_between number party)
+held_there at party number = same_tests _ _ forth (back (map.get at.mandates (mandate_between number party)) refl)
   where
-    forth : list_any (λ e. is_of party number e.0 e.1) (map.entries at.mandates) ≡ true → has_mandate at.mandates (mandate_of number party) ≡ true
+    forth : list_any (λ e. is_of party number e.0 e.1) (map.entries at.mandates) ≡ true → has_mandate at.mandates (mandate_between number party) ≡ true
     forth h =
         let it = some_passes mandates_total exact_mandates (is_of party number) at.mandates h in
         let parts = and_parts (nat_eq it.key.agent party) (nat_eq number it.key.principal) it.passes in
-        let key : mandate_of number party ≡ it.key = ap (λ n. mandate_of n party) (eqb-true number it.key.principal parts.1) ∙ ap (mandate_of it.key.principal) (sym (eqb-true it.key.agent party parts.0)) in
+        let key : mandate_between number party ≡ it.key = ap (λ n. mandate_between n party) (eqb-true number it.key.principal parts.1) ∙ ap (mandate_between it.key.principal) (sym (eqb-true it.key.agent party parts.0)) in
         ap (λ m. has_mandate at.mandates m) key ∙ ap is_some it.there
 
-    back : (found : Option (Unit {0})) → map.get at.mandates (mandate_of number party) ≡ found → has_mandate at.mandates (mandate_of number party) ≡ true
+    back : (found : Option (Unit {0})) → map.get at.mandates (mandate_between number party) ≡ found → has_mandate at.mandates (mandate_between number party) ≡ true
         → list_any (λ e. is_of party number e.0 e.1) (map.entries at.mandates) ≡ true
     back None is h = absurd (false≢true (sym (ap is_some is) ∙ h))
     back (Some u) is h =
-        some_at mandates_total exact_mandates (is_of party number) at.mandates (mandate_of number party) u is
+        some_at mandates_total exact_mandates (is_of party number) at.mandates (mandate_between number party) u is
         (ap (λ b. b && nat_eq number number) (nat_eq_equiv.refl party) ∙ nat_eq_equiv.refl number)
 
-pub is_principal : (at : Register) (party number : ℕ) → list_any (nat_eq number) (principals_of at party) ≡ has_mandate at.mandates (mandate_of number party)
+pub is_principal : (at : Register) (party number : ℕ) → list_any (nat_eq number) (principals_of at party) ≡ has_mandate at.mandates (mandate_between number party)
 unfolding mandates_in
 is_principal at party number =
     some_principal (nat_eq number) at party
@@ -92,7 +92,7 @@ implied false false h = refl
 module _ (at : Register) (circle : List ℕ) where
   -- a circle sees an entry exactly if a member sees it as a holder
   pub told_together : (e : RrrRecord) → is_visible_to_circle at circle e ≡ list_any (λ p. is_visible_to_holder at p e) circle
-  told_together e = by_class (is_mortgage e.class)
+  told_together e = by_class (is_mortgage_class e.class)
     where
       by_class : (m : Bool) → (is_held_by at circle e.unit && (not m || is_owned_by at circle e.unit)) ≡ list_any (λ p. is_holder at p e.unit && (not m || is_owner at p e.unit)) circle
       by_class false = any_and (λ p. is_holder at p e.unit) true circle

@@ -8,7 +8,7 @@ use Rattle.std.specs.Prelude.{IfSome}
 use Rattle.std.proofs.lemmas.Cmp.{nat_eq_equiv}
 use Rattle.land_core.proofs.FiniteSets.{exact_grants, grants_total}
 use Rattle.land_core.proofs.Reflection.{get-entries_where}
-use Rattle.land_core.specs.Grants.{grant_of}
+use Rattle.land_core.specs.Grants.{grant_to}
 use Rattle.land_rules.specs.Denials.Standing.{LookupsAreEnough, at_most_one}
 
 -- an inserted record is found
@@ -24,8 +24,8 @@ named (Some n) found all is = there n found ∙ is
 pub lookups_are_enough : LookupsAreEnough
 lookups_are_enough now caller a party roles entry mutation are = record {
   party = ap is_some (there caller.party party ∙ are.party_is);
-  role = ap (λ grants. is_some (map.get grants (grant_of caller.party caller.role))) are.roles_are
-      ∙ ap is_some (get-entries_where grants_total exact_grants (λ grant u. nat_eq grant.party caller.party) now.roles (grant_of caller.party caller.role) (λ v. nat_eq_equiv.refl caller.party));
+  role = ap (λ grants. is_some (map.get grants (grant_to caller.party caller.role))) are.roles_are
+      ∙ ap is_some (get-entries_where grants_total exact_grants (λ grant u. nat_eq grant.party caller.party) now.roles (grant_to caller.party caller.role) (λ v. nat_eq_equiv.refl caller.party));
   entry = named _ entry now.rrrs are.entry_is;
   mutation = named _ mutation now.mutations are.mutation_is;
 }

@@ -21,7 +21,7 @@ use Rattle.land_rules.proofs.Denied.{none_from_allowed, verdicts_least}
 use Rattle.land_rules.proofs.StandingLaws.{none_of_three}
 use Rattle.land_rules.proofs.StandingRules.{allows, may}
 use Rattle.land_rules.proofs.StandingTests.{not_both}
-use Rattle.land_rules.specs.Acts.{decides, is_between_others, is_discharge_of_another, is_mortgage_of_another, changes_mortgages, is_mandate_act, may_lodge_mortgages, changes_outlines, may_lodge_transfers, is_office_act, is_transfer, lodges, withdraws}
+use Rattle.land_rules.specs.Acts.{decides, is_between_others, is_discharge_of_another, is_mortgage_of_another, changes_mortgages, is_mandate_act, may_lodge_mortgages, changes_outlines, may_lodge_transfers, is_office_act, is_transfer_content, lodges, withdraws}
 use Rattle.land_rules.specs.Relations.{has_lodged}
 use Rattle.land_rules.specs.Rules.{Rules, caller_rules, denies, first_denial, rules_on, verdict_of}
 use Rattle.land_rules.specs.StandingLaws.{CitizensGiveMandates, IsReservedTo, ActsOnOwnMandate, ActsOnMandate, IsPartyTo, WithdrawsMandate, may_make_request}
@@ -112,7 +112,7 @@ module _ (now at : Register) (caller : Caller) (past : Bool) where
   earlier it =
       caller_rules now caller past
       ++ ((4, is_office_act it && not (is_role caller.role StateAdministrator))
-      ∷ (5, lodges is_transfer it && not (may_lodge_transfers caller))
+      ∷ (5, lodges is_transfer_content it && not (may_lodge_transfers caller))
       ∷ (6, lodges changes_outlines it && not (is_role caller.role CertifiedSurveyor))
       ∷ (7, lodges changes_mortgages it && not (may_lodge_mortgages caller))
       ∷ (8, is_role caller.role Bank && lodges (is_mortgage_of_another caller.party) it)
@@ -130,7 +130,7 @@ module _ (now at : Register) (caller : Caller) (past : Bool) where
   quiet it is asker =
       none_of_three now at caller past asker _
       (or_from _ _ (and_left _ _ (no_office it is))
-      (or_from _ _ (and_left _ _ (no_lodging is_transfer it is))
+      (or_from _ _ (and_left _ _ (no_lodging is_transfer_content it is))
       (or_from _ _ (and_left _ _ (no_lodging changes_outlines it is))
       (or_from _ _ (and_left _ _ (no_lodging changes_mortgages it is))
       (or_from _ _ (and_right _ _ (no_lodging (is_mortgage_of_another caller.party) it is))

@@ -17,7 +17,7 @@ use Rattle.land_core.proofs.Reflection.{entries-entries_where, some_passes}
 use Rattle.land_core.specs.Contents.{refers_to_unit_where}
 use Rattle.land_core.specs.Entries.{has, some}
 use Rattle.land_core.specs.Laws.{SoundnessByNumber}
-use Rattle.land_core.specs.Register.{empty_register}
+use Rattle.land_core.specs.Register.{empty_register, is_mutation_where}
 use Rattle.land_core.specs.Units.{is_right_of}
 use Rattle.land_core.specs.declared.caller.Caller.{Caller}
 use Rattle.land_core.specs.declared.content.Content.{Content}
@@ -35,7 +35,7 @@ use Rattle.land_rules.proofs.InCircles.{held_by_names, owned_by_names}
 use Rattle.land_rules.specs.Circles.{circle_of, is_held_by, is_name_of, is_owned_by, is_visible_to_circle, names_held_by}
 use Rattle.land_rules.specs.Denials.Interests.{AreNamesOf, Entries, InterestsDecideSight, NamesDecideInterests, entries_in_unit, interest_at, interest_of, is_shown_by_interest, names_visible_unit, sees_by_interest, shows_entry, shows_unit}
 use Rattle.land_rules.specs.Laws.{IsSoundOrNothing}
-use Rattle.land_rules.specs.Relations.{is_held_mortgage, is_creditor_on, is_mortgage, is_mutation_where, is_right, is_rrr_where, is_visible_to_creditor}
+use Rattle.land_rules.specs.Relations.{is_held_mortgage, is_creditor_on, is_mortgage_class, is_right, is_rrr_where, is_visible_to_creditor}
 use Rattle.land_rules.specs.Rules.{is_allowed, is_visible_to_bank, sees}
 use Rattle.land_rules.specs.declared.denials.interests.Interest.{Interest}
 use Rattle.land_rules.specs.declared.denials.interests.Interest.TheVariants.{NoInterest, Holder, Owner, Creditor}
@@ -129,9 +129,9 @@ unit_to_bank : (credits : Bool) → credits ≡ shows_unit (of_bank credits)
 unit_to_bank true = refl
 unit_to_bank false = refl
 
-entry_to_citizen : (holds owns : Bool) (party : ℕ) (e : RrrRecord) → (holds && (not (is_mortgage e.class) || owns)) ≡ shows_entry (of_citizen holds owns) party e
-entry_to_citizen true true party e = or_true (not (is_mortgage e.class))
-entry_to_citizen true false party e = or_nothing (not (is_mortgage e.class))
+entry_to_citizen : (holds owns : Bool) (party : ℕ) (e : RrrRecord) → (holds && (not (is_mortgage_class e.class) || owns)) ≡ shows_entry (of_citizen holds owns) party e
+entry_to_citizen true true party e = or_true (not (is_mortgage_class e.class))
+entry_to_citizen true false party e = or_nothing (not (is_mortgage_class e.class))
 entry_to_citizen false owns party e = refl
 
 entry_to_bank : (credits : Bool) (party : ℕ) (e : RrrRecord) → (credits && is_visible_to_creditor party e) ≡ shows_entry (of_bank credits) party e
@@ -168,7 +168,7 @@ module _ (r : Register) (refers : UnitsStand r) (p : ℕ) where
   owns unit = some (λ n e. is_right_of Ownership e.class && is_name e.party) (entries_in_unit r unit)
 
   abbrev credits : ℕ → Bool
-  credits unit = some (λ n e. is_mortgage e.class && nat_eq e.party p) (entries_in_unit r unit)
+  credits unit = some (λ n e. is_mortgage_class e.class && nat_eq e.party p) (entries_in_unit r unit)
 
   holder : (unit : ℕ) → is_held_by r (circle_of r p) unit ≡ holds unit
   holder unit = held_by_names r (circle_of r p) unit ∙ in_unit r refers is_right is_name unit
@@ -177,7 +177,7 @@ module _ (r : Register) (refers : UnitsStand r) (p : ℕ) where
   owner unit = owned_by_names r (circle_of r p) unit ∙ in_unit r refers (is_right_of Ownership) is_name unit
 
   creditor : (unit : ℕ) → is_creditor_on r p unit ≡ credits unit
-  creditor unit = in_unit r refers is_mortgage (λ q. nat_eq q p) unit
+  creditor unit = in_unit r refers is_mortgage_class (λ q. nat_eq q p) unit
 
   unit_of_citizen : (unit : ℕ) → sees r citizen kind.Unit unit ≡ shows_unit (interest_at r citizen unit)
   unit_of_citizen unit =
@@ -190,7 +190,7 @@ module _ (r : Register) (refers : UnitsStand r) (p : ℕ) where
   unit_of_bank unit = passes_both (is_creditor_on r p unit) (has r.units unit) 15 ∙ again (has r.units unit) (some (λ n e. is_held_mortgage p unit e) r.rrrs) ∙ creditor unit ∙ unit_to_bank (credits unit)
 
   told_to_citizen : (e : RrrRecord) → is_visible_to_circle r (circle_of r p) e ≡ shows_entry (interest_at r citizen e.unit) p e
-  told_to_citizen e = ap₂ (λ a b. a && (not (is_mortgage e.class) || b)) (holder e.unit) (owner e.unit) ∙ entry_to_citizen (holds e.unit) (owns e.unit) p e
+  told_to_citizen e = ap₂ (λ a b. a && (not (is_mortgage_class e.class) || b)) (holder e.unit) (owner e.unit) ∙ entry_to_citizen (holds e.unit) (owns e.unit) p e
 
   told_to_bank : (e : RrrRecord) → is_visible_to_bank r bank e ≡ shows_entry (interest_at r bank e.unit) p e
   told_to_bank e = ap (λ a. a && is_visible_to_creditor p e) (unit_of_bank e.unit ∙ sym (unit_to_bank (credits e.unit))) ∙ entry_to_bank (credits e.unit) p e

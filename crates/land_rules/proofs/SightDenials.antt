@@ -13,7 +13,7 @@ use Rattle.land_core.proofs.LooseMandates.{mandates_from, no_mandates_are_tight}
 use Rattle.land_core.proofs.SoundRegisters.{Refers, are_used_back, loose_from, none_in_empty, refers}
 use Rattle.land_core.specs.Entries.{has}
 use Rattle.land_core.specs.Grants.{grant_cmp}
-use Rattle.land_core.specs.Mandates.{mandate_of}
+use Rattle.land_core.specs.Mandates.{mandate_between}
 use Rattle.land_core.specs.Members.{Members}
 use Rattle.land_core.specs.Register.{is_member, is_single, empty_register}
 use Rattle.land_core.specs.Soundness.{are_dangling_members}
@@ -137,16 +137,16 @@ module _ (at : Register) (sound : IsSoundOrNothing at) where
 
   -- principals exist
   principal_stands : (party number : ℕ) → list_any (nat_eq number) (principals_of at party) ≡ true → has at.parties number ≡ true
-  principal_stands party number h = found (map.get at.mandates (mandate_of number party)) refl (sym (is_principal at party number) ∙ h)
+  principal_stands party number h = found (map.get at.mandates (mandate_between number party)) refl (sym (is_principal at party number) ∙ h)
     where
       is_there : (o : Option PartyRecord) → option_map_or (λ p. is_single p.kind) o false ≡ true → is_some o ≡ true
       is_there None h = h
       is_there (Some p) h = refl
 
-      found : (o : Option (Unit {0})) → map.get at.mandates (mandate_of number party) ≡ o → is_some o ≡ true → has at.parties number ≡ true
+      found : (o : Option (Unit {0})) → map.get at.mandates (mandate_between number party) ≡ o → is_some o ≡ true → has at.parties number ≡ true
       found None e h = absurd (false≢true h)
       found (Some u) e h =
-          let tight = not-false _ (mandates_from at (references at sound).mandates (mandate_of number party) e) in
+          let tight = not-false _ (mandates_from at (references at sound).mandates (mandate_between number party) e) in
           is_there (map.get at.parties number) (and_parts _ _ (and_parts _ _ tight).0).0
 
   -- parties of entries exist

@@ -8,7 +8,7 @@ use Rattle.std.specs.FinMap.{nat_cmp-IsAntisymmetric}
 use Rattle.std.proofs.lemmas.Bool.{false≢true, and_from, and_parts, and_right, eq-eqb, eqb-true, ne_eqb, or_right}
 use Rattle.land_core.proofs.Reflection.{some_at, some_passes, none_passes}
 use Rattle.land_core.specs.Entries.{has, some}
-use Rattle.land_core.specs.Register.{stands, is_member}
+use Rattle.land_core.specs.Register.{stands, is_member, is_mutation_where}
 use Rattle.land_core.specs.Units.{is_right_of}
 use Rattle.land_core.specs.declared.caller.Caller.{Caller}
 use Rattle.land_core.specs.declared.kind.Kind.TheVariants as kind
@@ -23,7 +23,7 @@ use Rattle.land_core.specs.declared.rrr.RrrRecord.{RrrRecord}
 use Rattle.land_rules.proofs.SomeOf.{any_at, none_at_all}
 use Rattle.land_rules.specs.Circles.{circle_of, is_group_of, is_held_by, is_in_circle, is_owned_by, is_visible_to_circle}
 use Rattle.land_rules.specs.Laws.{MembersSeeGroups, citizen}
-use Rattle.land_rules.specs.Relations.{holds_under_name, is_held_mortgage, is_creditor_on, is_held_ownership, is_held_right, is_holder, is_lodger_of, has_pending_mutation_on, is_member_of, is_mortgage, is_mutation_where, is_owner, is_pending_on, is_right, is_visible_to_creditor}
+use Rattle.land_rules.specs.Relations.{holds_under_name, is_held_mortgage, is_creditor_on, is_held_ownership, is_held_right, is_holder, is_lodger_of, has_pending_mutation_on, is_member_of, is_mortgage_class, is_owner, is_pending_on, is_right, is_visible_to_creditor}
 use Rattle.land_rules.specs.Rules.{first_denial, is_allowed, sees_only_present, is_party_in_sight, is_visible_to_bank, is_unit_in_sight, rrr_rules, sees, unit_rules}
 use Rattle.land_rules.specs.SightLaws.{BanksSeeByTheirMortgages, CircleHoldsNothingOfClass, ConveyancersSeeByTheirLodgings, EndedEntriesGiveNoSight, HasEntryOfClass, HasLodged, HasPending, HoldsNothingOfClass, IsNameOfOthers, IsVisibleEntryOfBank, LodgersSeeTheirMutations, MembersAreHolders, OnlyOwnersSeeMortgages, bank, conveyancer}
 use Rattle.land_rules.specs.declared.verdict.Verdict.{Verdict}
@@ -122,7 +122,7 @@ module _ (at : Register) (party : ℕ) where
   held : (one unit : ℕ) (e : RrrRecord) → is_in_circle at party one ≡ true → is_holder at one unit ≡ true → e.unit ≡ unit → is_held_by at (circle_of at party) e.unit ≡ true
   held one unit e among holder of_unit = any_at (λ p. is_holder at p e.unit) one (circle_of at party) among (subst (λ (n : ℕ). is_holder at one n ≡ true) (sym of_unit) holder)
 
-  told_no_mortgage : (one unit : ℕ) (e : RrrRecord) → is_in_circle at party one ≡ true → is_holder at one unit ≡ true → e.unit ≡ unit → is_mortgage e.class ≡ false
+  told_no_mortgage : (one unit : ℕ) (e : RrrRecord) → is_in_circle at party one ≡ true → is_holder at one unit ≡ true → e.unit ≡ unit → is_mortgage_class e.class ≡ false
       → is_visible_to_circle at (circle_of at party) e ≡ true
   told_no_mortgage one unit e among holder of_unit class =
       and_from _ _ (held one unit e among holder of_unit) (ap (λ b. not b || is_owned_by at (circle_of at party) e.unit) class)
@@ -133,7 +133,7 @@ module _ (at : Register) (party : ℕ) where
       let owns : is_owner at one e.unit ≡ true = subst (λ (n : ℕ). is_owner at one n ≡ true) (sym of_unit) owner in
       and_from _ _ (held one unit e among (owner_is_holder at one unit owner) of_unit) (or_right _ _ (any_at (λ p. is_owner at p e.unit) one (circle_of at party) among owns))
 
-  not_told : (unit : ℕ) (e : RrrRecord) → CircleHoldsNothingOfClass (is_right_of Ownership) at party unit → e.unit ≡ unit → is_mortgage e.class ≡ true
+  not_told : (unit : ℕ) (e : RrrRecord) → CircleHoldsNothingOfClass (is_right_of Ownership) at party unit → e.unit ≡ unit → is_mortgage_class e.class ≡ true
       → is_visible_to_circle at (circle_of at party) e ≡ false
   not_told unit e none of_unit class =
       and_right _ _ (ap (λ b. not b || is_owned_by at (circle_of at party) e.unit) class
@@ -199,7 +199,7 @@ module _ (at : Register) (party : ℕ) where
   sees_unit : (unit : ℕ) → sees at (bank party) kind.Unit unit ≡ is_creditor_on at party unit
   sees_unit unit = unit_passes (stands at kind.Unit unit) (some (λ n e. is_held_mortgage party unit e) at.rrrs)
 
-  has_mortgage : (unit : ℕ) → is_creditor_on at party unit ≡ true → (stands at kind.Unit unit ≡ true) × HasEntryOfClass is_mortgage at party unit
+  has_mortgage : (unit : ℕ) → is_creditor_on at party unit ≡ true → (stands at kind.Unit unit ≡ true) × HasEntryOfClass is_mortgage_class at party unit
   has_mortgage unit h =
       let parts = and_parts _ _ h in
       let it = some_passes nat_cmp_total nat_cmp-IsAntisymmetric (λ n e. is_held_mortgage party unit e) at.rrrs parts.1 in
@@ -215,7 +215,7 @@ module _ (at : Register) (party : ℕ) where
         },
       )
 
-  is_creditor : (unit : ℕ) → stands at kind.Unit unit ≡ true → HasEntryOfClass is_mortgage at party unit → is_creditor_on at party unit ≡ true
+  is_creditor : (unit : ℕ) → stands at kind.Unit unit ≡ true → HasEntryOfClass is_mortgage_class at party unit → is_creditor_on at party unit ≡ true
   is_creditor unit there it =
       and_from _ _ there (some_at nat_cmp_total nat_cmp-IsAntisymmetric (λ n e. is_held_mortgage party unit e) at.rrrs it.number it.entry it.stands.there
       (all_three _ _ _ (eq-eqb it.entry.unit unit it.stands.of_unit) it.class (eq-eqb it.entry.party party it.name)))
@@ -243,13 +243,13 @@ module _ (at : Register) (party : ℕ) where
             entry = entry;
             there = e;
             in_sight = parts.0;
-            own = λ class. eqb-true entry.party party (own_from (is_mortgage entry.class) _ parts.1 class);
+            own = λ class. eqb-true entry.party party (own_from (is_mortgage_class entry.class) _ parts.1 class);
           }
 
   sees_open : (number : ℕ) → IsVisibleEntryOfBank at party number → sees at (bank party) kind.Rrr number ≡ true
   sees_open number it =
       sees_entry number ∙ ap (λ o. option_map_or (is_visible_to_bank at (bank party)) o false) it.there
-      ∙ and_from _ _ it.in_sight (own_back (is_mortgage it.entry.class) _ (λ class. eq-eqb it.entry.party party (it.own class)))
+      ∙ and_from _ _ it.in_sight (own_back (is_mortgage_class it.entry.class) _ (λ class. eq-eqb it.entry.party party (it.own class)))
 
 pub banks_see : BanksSeeByTheirMortgages
 banks_see at party = record {

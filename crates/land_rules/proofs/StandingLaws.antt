@@ -24,7 +24,7 @@ use Rattle.land_core.specs.declared.role.Role.TheVariants.{Conveyancer, Notary, 
 use Rattle.land_core.specs.declared.subdivision.Subdivision.{Subdivision}
 use Rattle.land_rules.proofs.Denied.{none_from_allowed, verdicts_least}
 use Rattle.land_rules.specs.ActLaws.{approve_request, refuse_request}
-use Rattle.land_rules.specs.Acts.{decides, is_between_others, is_discharge_of_another, is_mortgage_of, is_mortgage_of_another, changes_mortgages, is_mandate_act, may_lodge_mortgages, changes_outlines, may_lodge_transfers, is_office_act, is_transfer, lodges}
+use Rattle.land_rules.specs.Acts.{decides, is_between_others, is_discharge_of_another, is_mortgage_of, is_mortgage_of_another, changes_mortgages, is_mandate_act, may_lodge_mortgages, changes_outlines, may_lodge_transfers, is_office_act, is_transfer_content, lodges}
 use Rattle.land_rules.specs.Relations.{has_lodged, is_rrr_where}
 use Rattle.land_rules.specs.Rules.{Rules, act_rules, denies, first_denial, sees_only_present, rules_on, sight_rules, verdict_of}
 use Rattle.land_rules.specs.StandingLaws.{OfficeActsAreForAdministrators, BanksAndNotariesLodgeMortgages, BanksDischargeTheirOwnMortgages, BanksLodgeTheirOwnMortgages, ConveyancersAndNotariesLodgeTransfers, IsAllowedTo, IsReservedTo, IsOfficeRequest, IsOfficeRequestForOthers, Lodges, LodgesMortgageOrDischarge, LodgesSubdivisionOrMerger, LodgesTransfer, RolesAreHeld, UnregisteredCallersAreDenied, SurveyorsLodgeSubdivisionsAndMergers, ThreeRolesSeeOnlyThePresent, has_role_among, is_in_role, is_lodging_act, may_make_request, roles_with_past}
@@ -67,11 +67,11 @@ module _ (now at : Register) (caller : Caller) (past : Bool) where
 
   transfers_left : (a : Ask) → IsReservedTo (Conveyancer ∷ Notary ∷ []) 5 LodgesTransfer now at caller a past
   transfers_left a =
-      left_by (Conveyancer ∷ Notary ∷ []) 5 LodgesTransfer (lodges is_transfer) a (omega arith) (lodges_transfer a) (transfer_of a)
+      left_by (Conveyancer ∷ Notary ∷ []) 5 LodgesTransfer (lodges is_transfer_content) a (omega arith) (lodges_transfer a) (transfer_of a)
       (rule_5 now at caller past a
-      ∙ ap (λ b. asks_for (lodges is_transfer) a && not (is_role caller.role Conveyancer || b))
+      ∙ ap (λ b. asks_for (lodges is_transfer_content) a && not (is_role caller.role Conveyancer || b))
       (sym (or_nothing (is_role caller.role Notary))))
-      (from_rule_5 now at caller past is_transfer a)
+      (from_rule_5 now at caller past is_transfer_content a)
 
   outlines_left : (a : Ask) → IsReservedTo (CertifiedSurveyor ∷ []) 6 LodgesSubdivisionOrMerger now at caller a past
   outlines_left a =
@@ -113,7 +113,7 @@ module _ (now at : Register) (caller : Caller) (past : Bool) where
           let nothing : (passes : Content → Bool) → lodges passes it ≡ false = λ passes. office_lodges_nothing passes it no_lodging in
           allows (rules_on now at caller (ask.Do it) past) (none_of_three asker _
           (or_from _ _ (and_right _ _ (ap not (sym (or_nothing _) ∙ role)))
-          (or_from _ _ (and_left _ _ (nothing is_transfer))
+          (or_from _ _ (and_left _ _ (nothing is_transfer_content))
           (or_from _ _ (and_left _ _ (nothing changes_outlines))
           (or_from _ _ (and_left _ _ (nothing changes_mortgages))
           (or_from _ _ (and_right _ _ (nothing (is_mortgage_of_another caller.party)))
@@ -124,7 +124,7 @@ module _ (now at : Register) (caller : Caller) (past : Bool) where
 
   -- rules 5 to 9 on a lodged content
   record IsFree (c : Content) : Type 0 where
-    transfer : (is_transfer c && not (may_lodge_transfers caller)) ≡ false
+    transfer : (is_transfer_content c && not (may_lodge_transfers caller)) ≡ false
     outlines : (changes_outlines c && not (is_role caller.role CertifiedSurveyor)) ≡ false
     mortgage : (changes_mortgages c && not (may_lodge_mortgages caller)) ≡ false
     lent : (is_role caller.role Bank && is_mortgage_of_another caller.party c) ≡ false

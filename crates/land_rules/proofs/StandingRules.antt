@@ -17,8 +17,8 @@ use Rattle.land_core.specs.declared.kind.Kind.TheVariants as kind
 use Rattle.land_core.specs.declared.register.Register.{Register}
 use Rattle.land_core.specs.declared.role.Role.{Role}
 use Rattle.land_core.specs.declared.role.Role.TheVariants.{Citizen, Notary, Bank, CertifiedSurveyor, StateAdministrator}
-use Rattle.land_rules.specs.Acts.{is_discharge_of_another, is_mortgage_of_another, changes_mortgages, may_lodge_mortgages, changes_outlines, may_lodge_transfers, is_office_act, is_transfer, lodges}
-use Rattle.land_rules.specs.Rules.{Rules, act_rules, caller_rules, denies, first_denial, sees_only_present, all_above, rules_on, sight_rules, standing_rules}
+use Rattle.land_rules.specs.Acts.{is_discharge_of_another, is_mortgage_of_another, changes_mortgages, may_lodge_mortgages, changes_outlines, may_lodge_transfers, is_office_act, is_transfer_content, lodges}
+use Rattle.land_rules.specs.Rules.{Rules, act_rules, caller_rules, denies, first_denial, sees_only_present, are_rules_above, rules_on, sight_rules, standing_rules}
 use Rattle.land_rules.specs.StandingLaws.{may_act_as_bank, has_role_among, is_in_role, may_make_request, roles_with_past}
 use Rattle.land_rules.specs.declared.verdict.Verdict.TheVariants.{Allowed, Denied}
 use Rattle.land_rules.proofs.Asked.{asks_for, lodges_as_no_office, lodges_no_other, mortgages_are_no_outlines, mortgages_are_no_transfer}
@@ -26,7 +26,7 @@ use Rattle.land_rules.proofs.Asked.{asks_for, lodges_as_no_office, lodges_no_oth
 -- ---- rules in ascending order
 
 -- no rule up to a number denies if all numbers are above it
-none_up_to : (low : ℕ) (rules : Rules) → all_above low rules ≡ true → (k : ℕ) → k ≤ low → denies k rules ≡ false
+none_up_to : (low : ℕ) (rules : Rules) → are_rules_above low rules ≡ true → (k : ℕ) → k ≤ low → denies k rules ≡ false
 none_up_to low [] h k le = refl
 none_up_to low (rule ∷ rules) h k le =
     let above : nat_lt low rule.0 ≡ true = (and_parts _ _ h).0 in
@@ -38,7 +38,7 @@ none_up_to low (rule ∷ rules) h k le =
     below : (low n k : ℕ) → nat_lt low n ≡ true → k ≤ low → k ≤ n
     below low n k h le = grind (arith, nat_tests)
 
-sight_rises : (at : Register) (caller : Caller) (a : Ask) → all_above 10 (sight_rules at caller a) ≡ true
+sight_rises : (at : Register) (caller : Caller) (a : Ask) → are_rules_above 10 (sight_rules at caller a) ≡ true
 sight_rises at caller (ask.View kind.Party number moment) = refl
 sight_rises at caller (ask.View kind.Unit number moment) = refl
 sight_rises at caller (ask.View kind.Parcel number moment) = refl
@@ -152,9 +152,9 @@ module _ (now at : Register) (caller : Caller) (past : Bool) where
       ∙ elsewhere is_office_act (is_role caller.role StateAdministrator) a
 
   pub rule_5 : (a : Ask) → denies 5 (rules_on now at caller a past)
-      ≡ (asks_for (lodges is_transfer) a && not (may_lodge_transfers caller))
+      ≡ (asks_for (lodges is_transfer_content) a && not (may_lodge_transfers caller))
   rule_5 a = standing_alone a 5 (omega arith) ∙ by_act 5 refl a
-      ∙ elsewhere (lodges is_transfer) (may_lodge_transfers caller) a
+      ∙ elsewhere (lodges is_transfer_content) (may_lodge_transfers caller) a
 
   pub rule_6 : (a : Ask) → denies 6 (rules_on now at caller a past)
       ≡ (asks_for (lodges changes_outlines) a && not (is_role caller.role CertifiedSurveyor))
@@ -210,10 +210,10 @@ module _ (now at : Register) (caller : Caller) (past : Bool) where
   pub from_rule_5 : (passes : Content → Bool) (a : Ask) → asks_for (lodges passes) a ≡ true → none_before a 4 → none_before a 5
   from_rule_5 passes a h before = next a 4 (rule_4 a ∙ and_left _ _ (lodges_as_no_office passes a h)) before
 
-  pub from_rule_6 : (passes : Content → Bool) → ((c : Content) → passes c ≡ true → is_transfer c ≡ false) → (a : Ask)
+  pub from_rule_6 : (passes : Content → Bool) → ((c : Content) → passes c ≡ true → is_transfer_content c ≡ false) → (a : Ask)
       → asks_for (lodges passes) a ≡ true → none_before a 4 → none_before a 6
   from_rule_6 passes apart a h before =
-      next a 5 (rule_5 a ∙ and_left _ _ (lodges_no_other passes is_transfer apart a h))
+      next a 5 (rule_5 a ∙ and_left _ _ (lodges_no_other passes is_transfer_content apart a h))
       (from_rule_5 passes a h before)
 
   pub from_rule_7 : (a : Ask) → asks_for (lodges changes_mortgages) a ≡ true → none_before a 4 → none_before a 7

@@ -10,7 +10,7 @@ use Rattle.land_core.specs.declared.mandates.Mandate.{Mandate}
 use Rattle.land_core.specs.declared.register.Register.{Register}
 use Rattle.land_core.specs.declared.role.Role.TheVariants.{Conveyancer, Notary, Bank}
 use Rattle.land_core.specs.declared.rrr.RrrRecord.{RrrRecord}
-use Rattle.land_rules.specs.Relations.{is_mortgage, is_rrr_where}
+use Rattle.land_rules.specs.Relations.{is_mortgage_class, is_rrr_where}
 
 -- whether an act is one of the office: all acts are, except lodgings and the acts on mandates
 abbrev pub is_office_act : Act → Bool
@@ -67,12 +67,12 @@ may_lodge_mortgages caller = is_role caller.role Bank || is_role caller.role Not
 -- ---- contents
 
 -- whether a content is a transfer
-abbrev pub is_transfer : Content → Bool
-is_transfer (content.Transfer it) = true
-is_transfer (content.Subdivision it) = false
-is_transfer (content.Merger it) = false
-is_transfer (content.Mortgage it) = false
-is_transfer (content.Discharge it) = false
+abbrev pub is_transfer_content : Content → Bool
+is_transfer_content (content.Transfer it) = true
+is_transfer_content (content.Subdivision it) = false
+is_transfer_content (content.Merger it) = false
+is_transfer_content (content.Mortgage it) = false
+is_transfer_content (content.Discharge it) = false
 
 -- whether a content has new outlines: a subdivision or a merger
 abbrev pub changes_outlines : Content → Bool
@@ -100,7 +100,7 @@ is_mortgage_of_another party (content.Discharge it) = false
 
 -- whether an entry is a mortgage of which the party is the creditor, on any unit
 abbrev pub is_mortgage_of : (party : ℕ) → RrrRecord → Bool
-is_mortgage_of party e = is_mortgage e.class && nat_eq e.party party
+is_mortgage_of party e = is_mortgage_class e.class && nat_eq e.party party
 
 -- whether a content is the discharge of a number at which the party has no mortgage now: there is no entry,
 -- the entry is not a mortgage, or another party is the creditor

@@ -2,7 +2,7 @@
 use Rattle.std.specs.Prelude.{◌≡◌, ℕ, false, ◌||◌, nat_eq, [], ◌∷◌}
 use Rattle.std.specs.FinMap as map
 use Rattle.std.specs.List.{list_any}
-use Rattle.land_core.specs.Mandates.{has_mandate, mandate_of}
+use Rattle.land_core.specs.Mandates.{has_mandate, mandate_between}
 use Rattle.land_core.specs.Role.{is_role}
 use Rattle.land_core.specs.declared.caller.Caller.{Caller}
 use Rattle.land_core.specs.declared.kind.Kind.{Kind}
@@ -17,7 +17,7 @@ use Rattle.land_rules.specs.Rules.{seen_of, sees, view_rules}
 abbrev pub CirclesAreOfMandates : Type 0
 CirclesAreOfMandates = (at : Register) (party number : ℕ)
     → is_in_circle at party number
-    ≡ (nat_eq number party || has_mandate at.mandates (mandate_of number party))
+    ≡ (nat_eq number party || has_mandate at.mandates (mandate_between number party))
 
 -- without mandates, the circle of a party has only the party itself
 abbrev pub CirclesWithoutMandates : Type 0

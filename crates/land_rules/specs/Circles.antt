@@ -7,7 +7,7 @@ use Rattle.land_core.specs.Mandates.{mandates_in}
 use Rattle.land_core.specs.declared.mutation.MutationRecord.{MutationRecord}
 use Rattle.land_core.specs.declared.register.Register.{Register}
 use Rattle.land_core.specs.declared.rrr.RrrRecord.{RrrRecord}
-use Rattle.land_rules.specs.Relations.{holds_under_name, is_holder, is_member_of, is_mortgage, is_owner}
+use Rattle.land_rules.specs.Relations.{holds_under_name, is_holder, is_member_of, is_mortgage_class, is_owner}
 
 -- the principals of a party: the parties that gave it a mandate
 abbrev pub principals_of : Register → (party : ℕ) → List ℕ
@@ -38,7 +38,7 @@ is_group_of at circle group = list_any (λ p. is_member_of at p group) circle
 -- member is an owner there
 abbrev pub is_visible_to_circle : Register → (circle : List ℕ) → RrrRecord → Bool
 is_visible_to_circle at circle e =
-    is_held_by at circle e.unit && (not (is_mortgage e.class) || is_owned_by at circle e.unit)
+    is_held_by at circle e.unit && (not (is_mortgage_class e.class) || is_owned_by at circle e.unit)
 
 -- whether a mutation refers to a unit in which a member of a circle is a holder
 abbrev pub names_held_by : Register → (circle : List ℕ) → MutationRecord → Bool

@@ -20,7 +20,7 @@ use Rattle.land_core.specs.declared.rrr.Class.{Class}
 use Rattle.land_core.specs.declared.rrr.RightType.TheVariants.{Ownership}
 use Rattle.land_core.specs.declared.rrr.RrrRecord.{RrrRecord}
 use Rattle.land_rules.specs.Circles.{circle_of, is_held_by, is_name_of, is_owned_by}
-use Rattle.land_rules.specs.Relations.{is_creditor_on, has_pending_mutation_on, is_mortgage, is_right}
+use Rattle.land_rules.specs.Relations.{is_creditor_on, has_pending_mutation_on, is_mortgage_class, is_right}
 use Rattle.land_rules.specs.Rules.{is_party_in_sight}
 use Rattle.land_rules.specs.declared.rules.holdings.Holdings.{Holdings}
 use Rattle.land_rules.specs.declared.rules.holdings.Interest.{Interest}
@@ -35,7 +35,7 @@ has_number numbers n = contains nat_cmp numbers n
 abbrev pub gives_interest : Interest → Class → Bool
 gives_interest Holder class = is_right class
 gives_interest Owner class = is_right_of Ownership class
-gives_interest Creditor class = is_mortgage class
+gives_interest Creditor class = is_mortgage_class class
 
 -- whether a party has an interest under a name: a holder or an owner under the names of its circle, a
 -- creditor under its own

@@ -16,7 +16,8 @@ use Rattle.land_core.specs.declared.role.Role.TheVariants.{Citizen, Conveyancer,
 use Rattle.land_core.specs.declared.role.Role.TheVariants.{CertifiedSurveyor, StateAdministrator}
 use Rattle.land_rules.specs.Circles.{circle_of, is_group_of, is_in_circle}
 use Rattle.land_rules.specs.Relations.{has_pending_mutation_on}
-use Rattle.land_rules.specs.Rules.{rules_on, verdict_of, denies, first_denial, all_above, is_ascending_list}
+use Rattle.land_rules.specs.Rules.{rules_on, verdict_of, denies, first_denial, are_rules_above}
+use Rattle.land_rules.specs.Rules.{is_ascending_list}
 use Rattle.land_rules.specs.Rules.{sees}
 use Rattle.land_rules.specs.Rules.{seen_of, is_party_in_sight, view_rules}
 use Rattle.land_rules.specs.declared.verdict.Verdict.{Verdict}
@@ -25,7 +26,7 @@ use Rattle.land_rules.specs.declared.verdict.Verdict.TheVariants.{Allowed, Denie
 -- the rules on each request are in ascending order
 abbrev pub RulesAreOrdered : Type 0
 RulesAreOrdered = (now at : Register) (caller : Caller) (a : Ask) (past : Bool)
-    → all_above 0 (rules_on now at caller a past) ≡ true
+    → are_rules_above 0 (rules_on now at caller a past) ≡ true
 
 -- rule k denies, and no rule with a lower number does
 pub record IsLeastDenial (now at : Register) (caller : Caller) (a : Ask) (past : Bool) (k : ℕ) : Type 0 where

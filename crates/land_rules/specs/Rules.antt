@@ -4,7 +4,7 @@ use Rattle.std.specs.Prelude.{ℕ, Bool, true, false, not, ◌&&◌, ◌||◌, L
 use Rattle.std.specs.Prelude.{if◌then◌else◌}
 use Rattle.std.specs.List.{list_any, list_all}
 use Rattle.land_core.specs.Entries.{some, numbers_where}
-use Rattle.land_core.specs.Register.{stands, holds}
+use Rattle.land_core.specs.Register.{stands, holds, is_mutation_where}
 use Rattle.land_core.specs.Role.{is_role}
 use Rattle.land_core.specs.declared.act.Act.{Act}
 use Rattle.land_core.specs.declared.ask.Ask.{Ask}
@@ -18,10 +18,10 @@ use Rattle.land_core.specs.declared.role.Role.TheVariants.{CertifiedSurveyor, St
 use Rattle.land_core.specs.declared.rrr.RrrRecord.{RrrRecord}
 use Rattle.land_rules.specs.Acts.{decides, is_between_others, is_discharge_of_another, is_mortgage_of_another}
 use Rattle.land_rules.specs.Acts.{changes_mortgages, is_mandate_act, may_lodge_mortgages, changes_outlines}
-use Rattle.land_rules.specs.Acts.{may_lodge_transfers, is_office_act, is_transfer, lodges, withdraws}
+use Rattle.land_rules.specs.Acts.{may_lodge_transfers, is_office_act, is_transfer_content, lodges, withdraws}
 use Rattle.land_rules.specs.Circles.{circle_of, is_group_of, is_held_by, is_in_circle, is_visible_to_circle}
 use Rattle.land_rules.specs.Circles.{names_held_by}
-use Rattle.land_rules.specs.Relations.{has_lodged, is_creditor_on, has_pending_mutation_on, is_mutation_where}
+use Rattle.land_rules.specs.Relations.{has_lodged, is_creditor_on, has_pending_mutation_on}
 use Rattle.land_rules.specs.Relations.{is_rrr_where, is_visible_to_creditor}
 use Rattle.land_rules.specs.declared.verdict.Verdict.{Verdict}
 use Rattle.land_rules.specs.declared.verdict.Verdict.TheVariants.{Allowed, Denied}
@@ -64,7 +64,7 @@ act_rules now caller a =
     -- an act of the office is for state administrators only
     (4, is_office_act a && not (is_role caller.role StateAdministrator))
     -- only conveyancers and notaries lodge transfers
-    ∷ (5, lodges is_transfer a && not (may_lodge_transfers caller))
+    ∷ (5, lodges is_transfer_content a && not (may_lodge_transfers caller))
     -- only certified surveyors lodge subdivisions and mergers
     ∷ (6, lodges changes_outlines a && not (is_role caller.role CertifiedSurveyor))
     -- only banks and notaries lodge mortgages and discharges
@@ -236,9 +236,9 @@ abbrev pub denies : ℕ → Rules → Bool
 denies k rules = list_any (λ rule. nat_eq rule.0 k && rule.1) rules
 
 -- whether the numbers of rules are ascending and above a lower bound
-abbrev pub all_above : ℕ → Rules → Bool
-all_above low [] = true
-all_above low (rule ∷ rules) = nat_lt low rule.0 && all_above rule.0 rules
+abbrev pub are_rules_above : ℕ → Rules → Bool
+are_rules_above low [] = true
+are_rules_above low (rule ∷ rules) = nat_lt low rule.0 && are_rules_above rule.0 rules
 
 -- ---- lists
 

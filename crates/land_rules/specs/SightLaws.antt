@@ -1,7 +1,7 @@
 -- Laws on visibility: what callers see by holdings, ended entries, mortgages and lodgings.
 use Rattle.std.specs.Prelude.{◌≡◌, ◌≢◌, ℕ, ◌↔◌, Bool, true, false, ◌&&◌, Option, Some, ℤ}
 use Rattle.std.specs.FinMap as map
-use Rattle.land_core.specs.Contents.{names_unit}
+use Rattle.land_core.specs.Contents.{content_names_unit}
 use Rattle.land_core.specs.Mutations.{is_undecided}
 use Rattle.land_core.specs.Register.{stands, holds, is_member}
 use Rattle.land_core.specs.Units.{is_right_of}
@@ -17,7 +17,7 @@ use Rattle.land_core.specs.declared.rrr.RightType.TheVariants.{Ownership}
 use Rattle.land_core.specs.declared.rrr.RrrRecord.{RrrRecord}
 use Rattle.land_rules.specs.Circles.{is_in_circle}
 use Rattle.land_rules.specs.Laws.{citizen}
-use Rattle.land_rules.specs.Relations.{is_holder, is_mortgage, is_owner, is_right}
+use Rattle.land_rules.specs.Relations.{is_holder, is_mortgage_class, is_owner, is_right}
 use Rattle.land_rules.specs.Rules.{sees_only_present, sees, verdict_of}
 use Rattle.land_rules.specs.declared.verdict.Verdict.{Verdict}
 use Rattle.land_rules.specs.declared.verdict.Verdict.TheVariants.{Allowed, Denied}
@@ -67,7 +67,8 @@ pub record SeesAsHolder (now at : Register) (one party unit : ℕ) (moment : Opt
     : Type 0 where
   pub holder : is_holder at one unit ≡ true
   pub unit_shown : citizen_view_verdict now at party kind.Unit unit moment past ≡ Allowed
-  pub entries_shown : (number : ℕ) (e : RrrRecord) → IsEntryOf at unit number e → is_mortgage e.class ≡ false
+  pub entries_shown : (number : ℕ) (e : RrrRecord) → IsEntryOf at unit number e
+      → is_mortgage_class e.class ≡ false
       → citizen_view_verdict now at party kind.Rrr number moment past ≡ Allowed
 
 -- if a group has a right in a unit at the requested time, each of its members then is a holder, and the
@@ -101,7 +102,7 @@ abbrev pub OnlyOwnersSeeMortgages : Type 0
 OnlyOwnersSeeMortgages =
     (now at : Register) (party unit number : ℕ) (e : RrrRecord) (moment : Option ℤ) (past : Bool)
     → is_registered_citizen now party ≡ true
-    → IsEntryOf at unit number e → is_mortgage e.class ≡ true
+    → IsEntryOf at unit number e → is_mortgage_class e.class ≡ true
     → MortgageHasVerdict now at party unit number moment past
 
 -- a caller in the role of bank
@@ -113,13 +114,13 @@ pub record IsVisibleEntryOfBank (at : Register) (party number : ℕ) : Type 0 wh
   pub entry : RrrRecord
   pub there : map.get at.rrrs number ≡ Some entry
   pub in_sight : sees at (bank party) kind.Unit entry.unit ≡ true
-  pub own : is_mortgage entry.class ≡ true → entry.party ≡ party
+  pub own : is_mortgage_class entry.class ≡ true → entry.party ≡ party
 
 -- a bank sees exactly the units that exist and on which it has a mortgage, and their entries except the
 -- mortgages of other creditors
 pub record BankSees (at : Register) (party : ℕ) : Type 0 where
   pub units : (unit : ℕ) → (sees at (bank party) kind.Unit unit ≡ true)
-      ↔ ((stands at kind.Unit unit ≡ true) × HasEntryOfClass is_mortgage at party unit)
+      ↔ ((stands at kind.Unit unit ≡ true) × HasEntryOfClass is_mortgage_class at party unit)
   pub entries : (number : ℕ)
       → (sees at (bank party) kind.Rrr number ≡ true) ↔ IsVisibleEntryOfBank at party number
 
@@ -147,7 +148,7 @@ pub record HasPending (at : Register) (party unit : ℕ) : Type 0 where
   pub number : ℕ
   pub lodged : HasLodged at party number
   pub undecided : is_undecided lodged.mutation ≡ true
-  pub names : names_unit unit lodged.mutation.content ≡ true
+  pub names : content_names_unit unit lodged.mutation.content ≡ true
 
 -- a conveyancer sees exactly the units that exist and to which one of its undecided mutations refers
 abbrev pub ConveyancersSeeByTheirLodgings : Type 0

@@ -4,7 +4,7 @@ use Rattle.std.specs.Prelude.{◌≡◌, ◌≢◌, ◌⊎◌, ℕ, ◌↔◌, B
 use Rattle.std.specs.Prelude.{None}
 use Rattle.std.specs.List.{list_any}
 use Rattle.std.specs.FinMap as map
-use Rattle.land_core.specs.Grants.{grant_of}
+use Rattle.land_core.specs.Grants.{grant_to}
 use Rattle.land_core.specs.Register.{stands, holds}
 use Rattle.land_core.specs.Role.{is_role}
 use Rattle.land_core.specs.declared.act.Act.{Act}
@@ -30,7 +30,7 @@ use Rattle.land_core.specs.declared.rrr.RrrRecord.{RrrRecord}
 use Rattle.land_core.specs.declared.subdivision.Subdivision.{Subdivision}
 use Rattle.land_rules.specs.ActLaws.{approve_request, refuse_request}
 use Rattle.land_rules.specs.Acts.{is_mandate_act}
-use Rattle.land_rules.specs.Relations.{has_lodged, is_mortgage}
+use Rattle.land_rules.specs.Relations.{has_lodged, is_mortgage_class}
 use Rattle.land_rules.specs.Rules.{verdict_of}
 use Rattle.land_rules.specs.declared.verdict.Verdict.TheVariants.{Allowed, Denied}
 
@@ -49,7 +49,7 @@ is_in_role now caller = stands now kind.Party caller.party && holds now caller.p
 -- the caller is a party of the register, and its role was never granted to it, or was revoked
 pub record LacksRole (now : Register) (caller : Caller) : Type 0 where
   pub party : stands now kind.Party caller.party ≡ true
-  pub no_grant : map.get now.roles (grant_of caller.party caller.role) ≡ None
+  pub no_grant : map.get now.roles (grant_to caller.party caller.role) ≡ None
 
 -- rule 2 denies a request exactly if the caller exists and does not hold its role now. So only callers that
 -- hold their role now are ever allowed anything; the roles at the requested time do not matter
@@ -242,7 +242,7 @@ pub record LodgesDischarge (number : ℕ) (a : Ask) : Type 0 where
 pub record HasMortgage (now : Register) (party number : ℕ) : Type 0 where
   pub entry : RrrRecord
   pub there : map.get now.rrrs number ≡ Some entry
-  pub class : is_mortgage entry.class ≡ true
+  pub class : is_mortgage_class entry.class ≡ true
   pub creditor : entry.party ≡ party
 
 -- a bank lodges a discharge, and has no mortgage at that number: there is no entry, the entry is not a

@@ -3,7 +3,8 @@ ghost use Rattle.std.specs.Prelude.{◌≡◌};
 ghost use Rattle.land_core.specs.Entries.{some};
 ghost use Rattle.land_rules.specs.Relations.{has_lodged, holds_under_name, is_held_mortgage, is_creditor_on};
 ghost use Rattle.land_rules.specs.Relations.{is_held_ownership, is_held_right, is_holder, is_lodger_of};
-ghost use Rattle.land_rules.specs.Relations.{has_pending_mutation_on, is_member_of, is_mortgage, is_owner};
+ghost use Rattle.land_rules.specs.Relations.{has_pending_mutation_on, is_member_of, is_mortgage_class};
+ghost use Rattle.land_rules.specs.Relations.{is_owner};
 ghost use Rattle.land_rules.specs.Relations.{is_pending_of, is_pending_on, is_right, is_visible_to_creditor};
 
 use land_core::kind::Kind;
@@ -18,7 +19,7 @@ pub(crate) fn is_right(class: &Class) -> bool
 }
 
 pub(crate) fn is_mortgage(class: &Class) -> bool
-    ensures { result ≡ is_mortgage class.now }
+    ensures { result ≡ is_mortgage_class class.now }
 {
     class.rank().is_some()
 }

@@ -8,7 +8,7 @@ use Rattle.std.specs.Option.{option_map_or}
 use Rattle.std.specs.Ordering.{is_eq, nat_cmp}
 use Rattle.land_core.proofs.FiniteSets.{exact_grants, grants_total}
 use Rattle.land_core.proofs.Reflection.{get-entries_where}
-use Rattle.land_core.specs.Grants.{Grants, grant_cmp, grant_of, has_grant}
+use Rattle.land_core.specs.Grants.{Grants, grant_cmp, grant_to, has_grant}
 use Rattle.land_core.specs.Laws.{SoundnessByNumber}
 use Rattle.land_core.specs.Register.{holds, stands}
 use Rattle.land_core.specs.declared.caller.Caller.{Caller}
@@ -43,11 +43,11 @@ party_there (Some p) test it = refl
 pub holder_stands : SoundnessByNumber → (r : Register) (caller : Caller) → IsSoundOrNothing r → holds r caller.party caller.role ≡ true → stands r kind.Party caller.party ≡ true
 holder_stands look_ups r caller (inl sound) held = party_there (map.get r.parties caller.party) _ (((look_ups r).0 sound).roles caller.party caller.role held)
 holder_stands look_ups r caller (inr none) held =
-    absurd (false≢true (sym (ap is_some (map.get-empty grant_cmp (grant_of caller.party caller.role))) ∙ subst (λ (k : Register). holds k caller.party caller.role ≡ true) none held))
+    absurd (false≢true (sym (ap is_some (map.get-empty grant_cmp (grant_to caller.party caller.role))) ∙ subst (λ (k : Register). holds k caller.party caller.role ≡ true) none held))
 
 pub who_asks_stands : SoundnessByNumber → (r : Register) → IsSoundOrNothing r → (caller : Caller) (roles : Grants) → roles ≡ roles_in r caller.party
-    → has_grant roles (grant_of caller.party caller.role) ≡ true → true ≡ stands r kind.Party caller.party
+    → has_grant roles (grant_to caller.party caller.role) ≡ true → true ≡ stands r kind.Party caller.party
 who_asks_stands look_ups r premise caller roles are held =
-    let grant = grant_of caller.party caller.role in
+    let grant = grant_to caller.party caller.role in
     let kept = ap is_some (get-entries_where grants_total exact_grants (λ given u. nat_eq given.party caller.party) r.roles grant (λ u. (Decides-eqb caller.party caller.party).1 refl)) in
     sym (holder_stands look_ups r caller premise (sym kept ∙ ap (λ m. has_grant m grant) (sym are) ∙ held))

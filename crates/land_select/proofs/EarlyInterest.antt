@@ -21,8 +21,8 @@ use Rattle.land_core.specs.declared.rrr.Class.TheVariants as class
 use Rattle.land_core.specs.declared.rrr.RightType.TheVariants.{Ownership}
 use Rattle.land_core.specs.declared.rrr.RrrRecord.{RrrRecord}
 use Rattle.land_rules.specs.Circles.{circle_of, is_name_of, principals_of}
-use Rattle.land_rules.specs.Denials.Interests.{Entries, entries_in_unit, interest_at, interest_of, is_mortgage_for, is_ownership_in, is_right_in, shows_entry}
-use Rattle.land_rules.specs.Relations.{holds_under_name, is_member_of, is_mortgage, is_right}
+use Rattle.land_rules.specs.Denials.Interests.{Entries, entries_in_unit, interest_at, interest_of, is_mortgage_for, is_ownership_under, is_right_under, shows_entry}
+use Rattle.land_rules.specs.Relations.{holds_under_name, is_member_of, is_mortgage_class, is_right}
 use Rattle.land_rules.specs.declared.denials.interests.Interest.{Interest}
 use Rattle.land_rules.specs.declared.denials.interests.Interest.TheVariants.{NoInterest, Holder, Owner, Creditor}
 use Rattle.land_select_queries.proofs.Containing.{any_decides}
@@ -68,7 +68,7 @@ module _ (p q : ℕ → Bool) (more : (named : ℕ) → p named ≡ true → q n
 
   more_of_role : (party : ℕ) (role : Role) → interest_of p (record { party = party; role = role }) entries ≡ Owner → interest_of q (record { party = party; role = role }) entries ≡ Owner
   more_of_role party roles.Citizen is =
-      owner_more (some (λ n e. is_right_in p e) entries) (some (λ n e. is_ownership_in p e) entries) (some (λ n e. is_right_in q e) entries) (some (λ n e. is_ownership_in q e) entries) (some_more is_right) (some_more (is_right_of Ownership)) is
+      owner_more (some (λ n e. is_right_under p e) entries) (some (λ n e. is_ownership_under p e) entries) (some (λ n e. is_right_under q e) entries) (some (λ n e. is_ownership_under q e) entries) (some_more is_right) (some_more (is_right_of Ownership)) is
   more_of_role party roles.Conveyancer is = is
   more_of_role party roles.Notary is = is
   more_of_role party roles.Bank is = is
@@ -109,25 +109,25 @@ module _ (r : Register) (n : ℕ) (e : RrrRecord) (there : map.get r.rrrs n ≡ 
       ∙ (any_decides (λ x. passes x.1) (λ x. passes x.1 ≡ true) (filter (λ x. nat_eq x.1.unit e.unit) (map.entries r.rrrs)) (λ x among. plain (passes x.1))).1
       ((n, e), kept_by_filter (λ x. nat_eq x.1.unit e.unit) (map.entries r.rrrs) (n, e) (entry_found r.rrrs n e there) ((Decides-eqb e.unit e.unit).1 refl), is)
 
-  of_citizen_shown : (party : ℕ) → is_ownership_in (λ named. nat_eq named party) e ≡ true → shows_entry (interest_at r (record { party = party; role = roles.Citizen }) e.unit) party e ≡ true
+  of_citizen_shown : (party : ℕ) → is_ownership_under (λ named. nat_eq named party) e ≡ true → shows_entry (interest_at r (record { party = party; role = roles.Citizen }) e.unit) party e ≡ true
   of_citizen_shown party is =
       let both = and_parts (is_right_of Ownership e.class) (nat_eq e.party party) is in
       let named = own_name r party e.party (or_nothing (nat_eq e.party party) ∙ both.1) in
       let is_name = is_name_of r (circle_of r party) in
       ap₂ (λ holds owns. shows_entry (of_citizen holds owns) party e)
-      (some_in_unit (λ x. is_right_in is_name x) (ap₂ (λ a b. a && b) (right_owned e.class both.0) named))
-      (some_in_unit (λ x. is_ownership_in is_name x) (ap₂ (λ a b. a && b) both.0 named))
+      (some_in_unit (λ x. is_right_under is_name x) (ap₂ (λ a b. a && b) (right_owned e.class both.0) named))
+      (some_in_unit (λ x. is_ownership_under is_name x) (ap₂ (λ a b. a && b) both.0 named))
 
   of_bank_shown : (party : ℕ) → is_mortgage_for party e ≡ true → shows_entry (interest_at r (record { party = party; role = roles.Bank }) e.unit) party e ≡ true
   of_bank_shown party is =
       ap (λ credits. shows_entry (cond credits Creditor NoInterest) party e) (some_in_unit (λ x. is_mortgage_for party x) is)
-      ∙ ap (λ own. not (is_mortgage e.class) || own) (and_parts (is_mortgage e.class) (nat_eq e.party party) is).1
-      ∙ or_true (not (is_mortgage e.class))
+      ∙ ap (λ own. not (is_mortgage_class e.class) || own) (and_parts (is_mortgage_class e.class) (nat_eq e.party party) is).1
+      ∙ or_true (not (is_mortgage_class e.class))
 
   shown_to_role : (party : ℕ) (role : Role)
-      → ((is_role role roles.Citizen && is_ownership_in (λ named. nat_eq named party) e) || (is_role role roles.Bank && is_mortgage_for party e)) ≡ true
+      → ((is_role role roles.Citizen && is_ownership_under (λ named. nat_eq named party) e) || (is_role role roles.Bank && is_mortgage_for party e)) ≡ true
       → shows_entry (interest_at r (record { party = party; role = role }) e.unit) party e ≡ true
-  shown_to_role party roles.Citizen h = of_citizen_shown party (sym (or_nothing (is_ownership_in (λ named. nat_eq named party) e)) ∙ h)
+  shown_to_role party roles.Citizen h = of_citizen_shown party (sym (or_nothing (is_ownership_under (λ named. nat_eq named party) e)) ∙ h)
   shown_to_role party roles.Bank h = of_bank_shown party h
   shown_to_role party roles.Conveyancer h = absurd (false≢true h)
   shown_to_role party roles.Notary h = absurd (false≢true h)
@@ -136,7 +136,7 @@ module _ (r : Register) (n : ℕ) (e : RrrRecord) (there : map.get r.rrrs n ≡ 
 
   -- the own entry of a caller is shown by its interest in the unit
   pub own_shown : (caller : Caller)
-      → ((is_role caller.role roles.Citizen && is_ownership_in (λ named. nat_eq named caller.party) e) || (is_role caller.role roles.Bank && is_mortgage_for caller.party e)) ≡ true
+      → ((is_role caller.role roles.Citizen && is_ownership_under (λ named. nat_eq named caller.party) e) || (is_role caller.role roles.Bank && is_mortgage_for caller.party e)) ≡ true
       → shows_entry (interest_at r caller e.unit) caller.party e ≡ true
   own_shown caller h = shown_to_role caller.party caller.role h
 

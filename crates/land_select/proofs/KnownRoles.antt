@@ -14,9 +14,9 @@ use Rattle.land_core.proofs.FiniteSets.{exact_grants, grants_total, mandates_tot
 use Rattle.land_core.proofs.Reflection.{get-entries_where}
 use Rattle.land_core.specs.Changes.{after}
 use Rattle.land_core.specs.Entries.{with_changes, with_entries, without}
-use Rattle.land_core.specs.Grants.{Grants, grant_cmp, grant_of, has_grant, set_entries}
+use Rattle.land_core.specs.Grants.{Grants, grant_cmp, grant_to, has_grant, set_entries}
 use Rattle.land_core.specs.Laws.{SoundnessByNumber}
-use Rattle.land_core.specs.Mandates.{Mandates, has_mandate, mandate_cmp, mandate_of}
+use Rattle.land_core.specs.Mandates.{Mandates, has_mandate, mandate_cmp, mandate_between}
 use Rattle.land_core.specs.Register.{holds, stands}
 use Rattle.land_core.specs.declared.ask.Ask.{Ask}
 use Rattle.land_core.specs.declared.ask.Ask.TheVariants as ask
@@ -68,9 +68,9 @@ one_role grant =
     ∙ ap (λ b. is_some (cond b (Some tt) (map.get (map.empty {R = grant_cmp}) grant))) (ap is_eq (tied_itself grants_total grant))
 
 -- the roles of a party decide if it holds one
-pub own_roles_decide : (r : Register) (caller : Caller) → has_grant (roles_in r caller.party) (grant_of caller.party caller.role) ≡ holds r caller.party caller.role
+pub own_roles_decide : (r : Register) (caller : Caller) → has_grant (roles_in r caller.party) (grant_to caller.party caller.role) ≡ holds r caller.party caller.role
 own_roles_decide r caller =
-    ap is_some (get-entries_where grants_total exact_grants (λ given u. nat_eq given.party caller.party) r.roles (grant_of caller.party caller.role) (λ u. (Decides-eqb caller.party caller.party).1 refl))
+    ap is_some (get-entries_where grants_total exact_grants (λ given u. nat_eq given.party caller.party) r.roles (grant_to caller.party caller.role) (λ u. (Decides-eqb caller.party caller.party).1 refl))
 
 -- ---- changes
 
@@ -109,9 +109,9 @@ none_of (x ∷ xs) h = absurd (false≢true (sym (h x) ∙ ap (λ b. b || list_a
 still_none : (r : Register) (change : Change) (party : ℕ) → change.put.mandates ≡ [] → HoldsNoMandate r party → HoldsNoMandate (after change r) party
 still_none r change party put none = none_of (principals_of (after change r) party) (λ principal.
     is_principal (after change r) party principal
-    ∙ not_so (has_mandate (after change r).mandates (mandate_of principal party)) (has_mandate r.mandates (mandate_of principal party))
-    (λ has. mandates_shrink r.mandates change.ended.mandates (mandate_of principal party)
-    (subst (λ (given : List Mandate). has_mandate (with_changes r.mandates (set_entries given) change.ended.mandates) (mandate_of principal party) ≡ true) put has))
+    ∙ not_so (has_mandate (after change r).mandates (mandate_between principal party)) (has_mandate r.mandates (mandate_between principal party))
+    (λ has. mandates_shrink r.mandates change.ended.mandates (mandate_between principal party)
+    (subst (λ (given : List Mandate). has_mandate (with_changes r.mandates (set_entries given) change.ended.mandates) (mandate_between principal party) ≡ true) put has))
     (sym (is_principal r party principal) ∙ ap (list_any (nat_eq principal)) none))
 
 -- a change that ends no role and gives no mandate leaves the remembered facts correct
@@ -119,8 +119,8 @@ pub known_after : (r : Register) (change : Change) (known : Option KnownRoles) �
 known_after r change None ended put are = tt
 known_after r change (Some known) ended put are = record {
   roles = λ grant has.
-      subst (λ keys. has_grant (with_changes r.roles (set_entries change.put.roles) keys) (grant_of grant.party grant.role) ≡ true) (sym ended)
-      (roles_grow r.roles (set_entries change.put.roles) (grant_of grant.party grant.role) (are.roles grant has));
+      subst (λ keys. has_grant (with_changes r.roles (set_entries change.put.roles) keys) (grant_to grant.party grant.role) ≡ true) (sym ended)
+      (roles_grow r.roles (set_entries change.put.roles) (grant_to grant.party grant.role) (are.roles grant has));
   mandates = λ grant has. still_none r change grant.party put (are.mandates grant has);
 }
 

@@ -12,15 +12,15 @@ use Rattle.std.specs.Option.{option_map_or}
 use Rattle.std.specs.Ordering.{nat_cmp}
 use Rattle.std.specs.Prelude.{map as map_list}
 use Rattle.std.proofs.lemmas.Cmp.{nat_eq_equiv}
-use Rattle.land_acts.specs.Slices.{content_names_party, includes_party, includes_unit, is_same_mandate, is_mutation_where, mutations_in_slice, names_mandate, names_party, names_unit}
+use Rattle.land_acts.specs.Slices.{content_names_party, includes_party, includes_unit, is_same_mandate, mutations_in_slice, names_mandate, names_party, names_unit}
 use Rattle.land_acts.specs.declared.slice_parts.SliceParts.{SliceParts}
 use Rattle.land_core.proofs.Booleans.{or_nothing, same_tests}
 use Rattle.land_core.proofs.FiniteSets.{exact_grants, grants_total}
 use Rattle.land_core.proofs.Reflection.{get-entries_where, list_any-map}
-use Rattle.land_core.specs.Contents.{names_unit as content_names_unit}
+use Rattle.land_core.specs.Contents.{content_names_unit}
 use Rattle.land_core.specs.Entries.{entries_where, some}
-use Rattle.land_core.specs.Grants.{Grants, grant_cmp, grant_of, grants_in}
-use Rattle.land_core.specs.Register.{holds}
+use Rattle.land_core.specs.Grants.{Grants, grant_cmp, grant_to, grants_in}
+use Rattle.land_core.specs.Register.{holds, is_mutation_where}
 use Rattle.land_core.specs.Role.{is_role}
 use Rattle.land_core.specs.declared.act.Act.{Act}
 use Rattle.land_core.specs.declared.act.Act.TheVariants as act
@@ -145,8 +145,8 @@ administers roles.Bank h = absurd (false≢true h)
 administers roles.CertifiedSurveyor h = absurd (false≢true h)
 administers roles.StateAdministrator h = refl
 
-granted : (g : Grant) (n : ℕ) (role : Role) → g.party ≡ n → g.role ≡ role → grant_of n role ≡ g
-granted g n role e f = ap₂ grant_of (sym e) (sym f)
+granted : (g : Grant) (n : ℕ) (role : Role) → g.party ≡ n → g.role ≡ role → grant_to n role ≡ g
+granted g n role e f = ap₂ grant_to (sym e) (sym f)
 
 pub office_listed : (r : Register) (office : Grants) → office ≡ entries_where (λ grant u. is_role grant.role roles.StateAdministrator) r.roles → (n : ℕ)
     → holds r n roles.StateAdministrator ≡ lists (map_list (λ grant. grant.party) (grants_in office)) n
@@ -160,7 +160,7 @@ office_listed r office are n =
 
     to : holds r n roles.StateAdministrator ≡ true → list_any (λ e. nat_eq n e.0.party) (map.entries office) ≡ true
     to h =
-        let g = grant_of n roles.StateAdministrator in
+        let g = grant_to n roles.StateAdministrator in
         let it = is_there (map.get r.roles g) h in
         let kept = is_kept grants_total exact_grants (whole roles.StateAdministrator) r.roles g it.0 it.1 refl in
         let among = entry_found grants_total exact_grants office g it.0 (ap (λ m. map.get m g) are ∙ kept) in

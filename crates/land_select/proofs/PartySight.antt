@@ -28,7 +28,7 @@ use Rattle.land_select_queries.proofs.Containing.{any_decides, first, first_or_l
 use Rattle.land_select_queries.proofs.Naming.{Joins, member_decides}
 use Rattle.land_select_queries.proofs.Standing.{has_decides}
 use Rattle.land_select_queries.proofs.Views.{plain}
-use Rattle.land_select_queries.specs.Joins.Execution.{AreAll}
+use Rattle.land_select_queries.specs.Joins.Execution.{AreExactly}
 use Rattle.land_select_queries.specs.Lookups.Viewers.{IsViewer}
 use Rattle.land_select_queries.specs.Sights.{AnySelects, selections_of}
 use Rattle.land_select_queries.specs.Sights.Laws.{SelectionsAreTheRules}
@@ -243,7 +243,7 @@ module _ (rules : SelectionsAreTheRules) (seen : SeenListsAreExact) (together : 
         (subst (λ o. Decides (sees r caller Party n) (ToldBy o caller)) none (told_decides caller.party caller.role all (other_is others)))
 
     -- another one, with viewers
-    pub told_seen : (relation : Relation) (viewers_of_party : List ℕ) → AreOtherNames caller names n r → relation_of caller.role ≡ Some relation → AreAll viewers_of_party (IsViewer relation t h n)
+    pub told_seen : (relation : Relation) (viewers_of_party : List ℕ) → AreOtherNames caller names n r → relation_of caller.role ≡ Some relation → AreExactly viewers_of_party (IsViewer relation t h n)
         → list_any (λ seer. list_any (nat_eq seer) names) viewers_of_party ≡ sees r caller Party n
     told_seen relation viewers_of_party others some are =
         same_from_decides _ _

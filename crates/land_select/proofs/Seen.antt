@@ -11,7 +11,7 @@ use Rattle.land_core.specs.declared.kind.Kind.{Kind}
 use Rattle.land_core.specs.declared.register.Register.{Register}
 use Rattle.land_keep.proofs.Timelines.{last_is_moment, sound_or_nothing}
 use Rattle.land_keep.specs.Keeping.{Closes}
-use Rattle.land_keep.specs.Machine.{moment_of, verdict_at}
+use Rattle.land_keep.specs.Machine.{asked_moment, verdict_at}
 use Rattle.land_keep.specs.Timeline.{last_register, register_at}
 use Rattle.land_keep.specs.declared.store_fault.StoreFault.{StoreFault}
 use Rattle.land_rules.specs.Rules.{seen_of, verdict_of}
@@ -74,7 +74,7 @@ verdict_stands look_ups s caller is_held a past t u place it answer known =
     (told.0 ∙ ap (λ (now : Register). verdict_of now (register_at tl t) caller a past) last, told.1)
 
 -- so it is the verdict on the request, and the cached value is correct at the requested time
-pub verdict_told : SoundnessByNumber → (s : State) (caller : Caller) (is_held : Bool) (a : Ask) (now t u : ℤ) → t ≡ moment_of a now → IsLookedAt t u → (it : Verdict × CachedValue)
+pub verdict_told : SoundnessByNumber → (s : State) (caller : Caller) (is_held : Bool) (a : Ask) (now t u : ℤ) → t ≡ asked_moment a now → IsLookedAt t u → (it : Verdict × CachedValue)
     → IsResult (IsVerdictWith caller is_held a (int_lt t now) u) s it → HoldsRoleIf is_held (last_register (decoded_timeline s.now.trees)) caller → (it.0 ≡ verdict_at (decoded_timeline s.now.trees) caller a now) × IsValueFor (register_at (decoded_timeline s.now.trees) t) caller a it.1
 verdict_told look_ups s caller is_held a now t u is_moment place it answer known =
     let tl = decoded_timeline s.now.trees in

@@ -26,14 +26,14 @@ use Rattle.land_select_queries.proofs.Naming.{Joins, member_decides}
 use Rattle.land_select_queries.proofs.Standing.{entry_there}
 use Rattle.land_select_queries.proofs.United.{contains_both, given_by, given_to}
 use Rattle.land_select_queries.proofs.Views.{plain}
-use Rattle.land_select_queries.specs.Joins.Execution.{AnySelectsFor, AreAll}
+use Rattle.land_select_queries.specs.Joins.Execution.{AnySelectsFor, AreExactly}
 use Rattle.land_select_queries.specs.Sights.{AnySelects}
 use Rattle.land_select_queries.specs.declared.sights.selection.Selection.TheVariants.{ItsGroups}
 use Rattle.land_tables_history.specs.History.{IsRegisterAt}
 use Rattle.land_tables_history.specs.declared.history.History.{History}
 
 -- the groups selected for some parties are those with one of them as a member
-pub groups_are : (r : Register) (t : ℤ) (h : History) → IsRegisterAt t h r → (callers groups : List ℕ) → AreAll groups (AnySelectsFor (ItsGroups ∷ []) t h callers)
+pub groups_are : (r : Register) (t : ℤ) (h : History) → IsRegisterAt t h r → (callers groups : List ℕ) → AreExactly groups (AnySelectsFor (ItsGroups ∷ []) t h callers)
     → (group : ℕ) → Contains groups group ↔ (is_group_of r callers group ≡ true)
 groups_are r t h is callers groups all group = (
   (λ among. let it = given_to (ItsGroups ∷ []) t h group callers ((all group).0 among) in decided.1 (it.0, it.1, joined it.0 it.2)),

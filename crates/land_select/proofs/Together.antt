@@ -5,7 +5,7 @@ use Rattle.land_keep.specs.Timeline.{register_at}
 use Rattle.land_select.specs.Laws.{AreResultRows, Asked, YieldTogether, SightTextsAreTheRules}
 use Rattle.land_select_queries.proofs.Containing.{first, first_or_later, in_nothing, later}
 use Rattle.land_select_queries.specs.Joins.Meaning.{TextsSelect}
-use Rattle.land_select_queries.specs.Joins.Texts.{text_of}
+use Rattle.land_select_queries.specs.Joins.Texts.{selection_text}
 use Rattle.land_select_queries.specs.Sights.{AnySelects, selections_of}
 use Rattle.land_select_queries.specs.Sights.Laws.{SelectionsAreTheRules}
 use Rattle.land_select_queries.specs.declared.sights.selection.Selection.{Selection}
@@ -17,7 +17,7 @@ use Rattle.sqlite_value.specs.Order.{Row}
 
 -- the statements of selections together return the union of the selections
 module _ (texts_select : TextsSelect) (it : Asked) (moments : List Moment) (history : History) (holds : HoldsHistory it.db moments history) where
-  together : (ss : List Selection) → YieldTogether (map text_of ss) it (AnySelects ss it.moment history it.caller)
+  together : (ss : List Selection) → YieldTogether (map selection_text ss) it (AnySelects ss it.moment history it.caller)
   together [] = record {
     answered = λ text h. absurd (in_nothing text h);
     none_more = λ text h rows answer row has. absurd (in_nothing text h);
@@ -27,11 +27,11 @@ module _ (texts_select : TextsSelect) (it : Asked) (moments : List Moment) (hist
       let one = texts_select s it.indexes it.db moments history it.caller it.moment holds in
       let rest = together ss in
       record {
-        answered = λ text h. elim (first_or_later (text_of s) (map text_of ss) text h) [
+        answered = λ text h. elim (first_or_later (selection_text s) (map selection_text ss) text h) [
           | inl same ↦ subst (λ x. (rows : List Row) × AreResultRows it x rows) same (one.rows, one.answer)
           | inr more ↦ rest.answered text more
         ];
-        none_more = λ text h rows answer row has. elim (first_or_later (text_of s) (map text_of ss) text h) [
+        none_more = λ text h rows answer row has. elim (first_or_later (selection_text s) (map selection_text ss) text h) [
           | inl same ↦
               let are = one.each rows (subst (λ x. AreResultRows it x rows) (sym same) answer) in
               let number = are.each row has in
@@ -39,8 +39,8 @@ module _ (texts_select : TextsSelect) (it : Asked) (moments : List Moment) (hist
           | inr more ↦ let found = rest.none_more text more rows answer row has in (found.0, found.1, inr found.2)
         ];
         none_missing = λ n w. elim w [
-          | inl here ↦ (text_of s, first (text_of s) (map text_of ss), (λ rows answer. ((one.each rows answer).meant n).1 here))
-          | inr there ↦ let found = rest.none_missing n there in (found.0, later (text_of s) (map text_of ss) found.0 found.1, found.2)
+          | inl here ↦ (selection_text s, first (selection_text s) (map selection_text ss), (λ rows answer. ((one.each rows answer).meant n).1 here))
+          | inr there ↦ let found = rest.none_missing n there in (found.0, later (selection_text s) (map selection_text ss) found.0 found.1, found.2)
         ];
       }
 

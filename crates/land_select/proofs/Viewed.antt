@@ -22,7 +22,7 @@ use Rattle.land_rules.specs.Denials.Sight.{FullSightShowsAll, sees_all}
 use Rattle.land_rules.specs.Laws.{SeenListsAreExact}
 use Rattle.land_rules.specs.Laws.{IsSoundOrNothing}
 use Rattle.land_rules.specs.Rules.{seen_of, sees}
-use Rattle.land_select.specs.Views.{AgreesWithRegister, visible_rrrs, named_at, view_from}
+use Rattle.land_select.specs.Views.{AgreesWithRegister, visible_rrrs, view_at_moment, view_from}
 use Rattle.land_select_queries.proofs.Containing.{first, later}
 use Rattle.land_select_queries.proofs.Standing.{entry_there}
 use Rattle.land_select_queries.specs.Joins.Sight.{IsSight}
@@ -104,10 +104,10 @@ view_is r caller unit t o is =
     ∙ ap (λ o. option_map (λ u. record { unit = u; parcels = parcels_at r unit; rrrs = visible_entries r caller unit; at = t }) (option_map (λ u. record { number = unit; name = u.name; checked = u.checked }) o)) is
 
 -- a view with another time
-pub renamed : (r : Register) (caller : Caller) (unit : ℕ) (t u : ℤ) → named_at t (view_at r caller unit u) ≡ view_at r caller unit t
+pub renamed : (r : Register) (caller : Caller) (unit : ℕ) (t u : ℤ) → view_at_moment t (view_at r caller unit u) ≡ view_at r caller unit t
 renamed r caller unit t u = go (unit_at r unit)
   where
-    go : (o : Option UnitShown) → named_at t (option_map (λ w. record { unit = w; parcels = parcels_at r unit; rrrs = visible_entries r caller unit; at = u }) o)
+    go : (o : Option UnitShown) → view_at_moment t (option_map (λ w. record { unit = w; parcels = parcels_at r unit; rrrs = visible_entries r caller unit; at = u }) o)
         ≡ option_map (λ w. record { unit = w; parcels = parcels_at r unit; rrrs = visible_entries r caller unit; at = t }) o
     go None = refl
     go (Some w) = refl

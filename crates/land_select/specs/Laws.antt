@@ -10,7 +10,7 @@ use Rattle.land_keep.specs.Timeline.{IsSoundTimeline, Timeline, register_at}
 use Rattle.land_rules.specs.CircleLaws.{without_mandates}
 use Rattle.land_rules.specs.Rules.{seen_of}
 use Rattle.land_select_queries.specs.Joins.Meaning.{command_in, query_parameters}
-use Rattle.land_select_queries.specs.Joins.Texts.{text_of}
+use Rattle.land_select_queries.specs.Joins.Texts.{selection_text}
 use Rattle.land_select_queries.specs.Sights.{selections_of}
 use Rattle.land_tables.specs.Standing.{HoldsTimeline}
 use Rattle.land_tables_schema.specs.Schemas.{schema_v2_with}
@@ -24,7 +24,7 @@ use Rattle.sqlite_value.specs.Order.{Row}
 
 -- the SQL statements of a role's sight of a kind
 abbrev pub sight_texts : Role → Kind → List (List ℕ)
-sight_texts role kind = map text_of (selections_of role kind)
+sight_texts role kind = map selection_text (selections_of role kind)
 
 -- a query: the tables of a register with any indexes, the caller and the time
 pub record Asked : Type 0 where

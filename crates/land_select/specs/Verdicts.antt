@@ -5,7 +5,7 @@ use Rattle.std.specs.Ordering.{nat_cmp}
 use Rattle.std.specs.Prelude.{◌≡◌, ◌&&◌, ℕ, ℤ, Bool, true, false, nat_eq, [], None, Some, Option}
 use Rattle.std.specs.Prelude.{option_and_then, if◌then◌else◌}
 use Rattle.land_core.specs.Entries.{entries_where}
-use Rattle.land_core.specs.Grants.{Grants, grant_of, has_grant}
+use Rattle.land_core.specs.Grants.{Grants, grant_to, has_grant}
 use Rattle.land_core.specs.Numbers.{last_moment}
 use Rattle.land_core.specs.Register.{holds, stands}
 use Rattle.land_core.specs.declared.ask.Ask.{Ask}
@@ -54,7 +54,7 @@ holder_verdict caller past = if past && sees_only_present caller then Denied 3 e
 -- a caller exists exactly if this is true, and holds the role that it claims exactly if these roles have it
 pub record IsOfCaller (r : Register) (caller : Caller) (there : Bool) (roles : Grants) : Type 0 where
   pub party : there ≡ stands r kind.Party caller.party
-  pub role : has_grant roles (grant_of caller.party caller.role) ≡ holds r caller.party caller.role
+  pub role : has_grant roles (grant_to caller.party caller.role) ≡ holds r caller.party caller.role
 
 -- If the tables hold a history that at time t represents a register, sound or empty, in which a caller that
 -- is known to hold the role that it claims does so: whether the caller exists, and roles that decide if it

@@ -61,8 +61,8 @@ visible_rrrs r caller unit = entries_where (λ n e. nat_eq e.unit unit && sees r
 
 -- If the tables hold a history that at time t represents a register, the list has exactly the groups in it
 -- with a member in a list.
-abbrev pub AreGroupsAt : (callers : List ℕ) → (t : ℤ) → Trees → List ℕ → Type 0
-AreGroupsAt callers t db groups = HoldsOfHistory db
+abbrev pub AreCallerGroupsAt : (callers : List ℕ) → (t : ℤ) → Trees → List ℕ → Type 0
+AreCallerGroupsAt callers t db groups = HoldsOfHistory db
     (λ h. (r : Register) → IsRegisterAt t h r → (group : ℕ) → Contains groups group
     ↔ (is_group_of r callers group ≡ true))
 
@@ -90,5 +90,5 @@ view_from r caller unit moment found = record {
 }
 
 -- a view with another time
-abbrev pub named_at : (moment : ℤ) → Option View → Option View
-named_at moment found = option_map {T = View} (λ v. record v { at = moment }) found
+abbrev pub view_at_moment : (moment : ℤ) → Option View → Option View
+view_at_moment moment found = option_map {T = View} (λ v. record v { at = moment }) found

@@ -2,7 +2,7 @@
 //! look them up again.
 ghost use Rattle.std.specs.Prelude.{◌≡◌, int_le, true};
 ghost use Rattle.land_core.specs.Changes.{after};
-ghost use Rattle.land_core.specs.Grants.{grant_of};
+ghost use Rattle.land_core.specs.Grants.{grant_to};
 ghost use Rattle.land_core.specs.Register.{holds};
 ghost use Rattle.land_core.specs.declared.register.Register.{Register};
 ghost use Rattle.land_select.specs.KnownRoles.{AreKnownIn, HoldsRoleIf, IsKnownIn, shows_role};
@@ -30,7 +30,7 @@ pub(crate) struct KnownRoles {
 
 /// Returns the role that a caller claims.
 pub(crate) fn claimed_role(caller: Caller) -> Grant
-    ensures { result ≡ grant_of caller.party caller.role }
+    ensures { result ≡ grant_to caller.party caller.role }
 {
     Grant {
         party: caller.party,

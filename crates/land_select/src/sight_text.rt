@@ -3,7 +3,7 @@ ghost use Rattle.std.specs.Prelude.{◌≡◌, map};
 ghost use Rattle.land_core.specs.declared.kind.Kind.TheVariants as kinds;
 ghost use Rattle.land_core.specs.declared.role.Role.TheVariants as roles;
 ghost use Rattle.land_select.specs.Laws.{sight_texts};
-ghost use Rattle.land_select_queries.specs.Joins.Texts.{text_of};
+ghost use Rattle.land_select_queries.specs.Joins.Texts.{selection_text};
 ghost use Rattle.land_select_queries.specs.Sights.{selections_of};
 
 use land_core::kind::Kind;
@@ -12,7 +12,7 @@ use land_select_queries::joins::{all, creditor, group, holder, lodger, named, ow
 
 /// Returns the statement that selects all objects of a kind.
 fn all_texts(kind: Kind) -> &'static [&'static str]
-    ensures { map (λ text. text.now) result.now ≡ map text_of (selections_of roles.Notary kind) }
+    ensures { map (λ text. text.now) result.now ≡ map selection_text (selections_of roles.Notary kind) }
 {
     match kind {
         Kind::Party => &[all::PARTIES],
@@ -25,13 +25,14 @@ fn all_texts(kind: Kind) -> &'static [&'static str]
 }
 
 fn party_texts_of_citizen() -> &'static [&'static str]
-    ensures { map (λ text. text.now) result.now ≡ map text_of (selections_of roles.Citizen kinds.Party) }
+    ensures { map (λ text. text.now) result.now
+        ≡ map selection_text (selections_of roles.Citizen kinds.Party) }
 {
     &[own::ITSELF, own::GROUPS, holder::PARTIES, group::PARTIES]
 }
 
 fn citizen_texts(kind: Kind) -> &'static [&'static str]
-    ensures { map (λ text. text.now) result.now ≡ map text_of (selections_of roles.Citizen kind) }
+    ensures { map (λ text. text.now) result.now ≡ map selection_text (selections_of roles.Citizen kind) }
 {
     match kind {
         Kind::Party => party_texts_of_citizen(),
@@ -44,7 +45,7 @@ fn citizen_texts(kind: Kind) -> &'static [&'static str]
 }
 
 fn conveyancer_texts(kind: Kind) -> &'static [&'static str]
-    ensures { map (λ text. text.now) result.now ≡ map text_of (selections_of roles.Conveyancer kind) }
+    ensures { map (λ text. text.now) result.now ≡ map selection_text (selections_of roles.Conveyancer kind) }
 {
     match kind {
         Kind::Party => &[own::ITSELF, lodger::PARTIES],
@@ -57,7 +58,7 @@ fn conveyancer_texts(kind: Kind) -> &'static [&'static str]
 }
 
 fn bank_texts(kind: Kind) -> &'static [&'static str]
-    ensures { map (λ text. text.now) result.now ≡ map text_of (selections_of roles.Bank kind) }
+    ensures { map (λ text. text.now) result.now ≡ map selection_text (selections_of roles.Bank kind) }
 {
     match kind {
         Kind::Party => &[own::ITSELF, creditor::PARTIES],
@@ -70,7 +71,8 @@ fn bank_texts(kind: Kind) -> &'static [&'static str]
 }
 
 fn surveyor_texts(kind: Kind) -> &'static [&'static str]
-    ensures { map (λ text. text.now) result.now ≡ map text_of (selections_of roles.CertifiedSurveyor kind) }
+    ensures { map (λ text. text.now) result.now
+        ≡ map selection_text (selections_of roles.CertifiedSurveyor kind) }
 {
     match kind {
         Kind::Party => &[own::ITSELF],

@@ -9,7 +9,7 @@ ghost use Rattle.land_keep.specs.Sheets.{visible_entries, parcels_at, numbered_p
 ghost use Rattle.land_select.specs.Cache.{IsValueOf, IsObjectValueOf};
 ghost use Rattle.land_select.specs.Views.{AgreesWithRegister, AgreesIfGiven, visible_rrrs, name_among};
 ghost use Rattle.land_select.specs.Views.{named_among};
-ghost use Rattle.land_select.specs.Views.{named_at, view_from, with_name};
+ghost use Rattle.land_select.specs.Views.{view_at_moment, view_from, with_name};
 ghost use Rattle.land_select_queries.specs.Lookups.Parts.{ReadsPart};
 ghost use Rattle.land_select_queries.specs.TableReads.{ReadsTables};
 ghost use Rattle.land_tables_schema.specs.Connections.{HasRegisterTables, IsUsable, LeavesAutocommit};
@@ -358,7 +358,7 @@ impl Query<Option<View>> for UnitViewQuery<'_> {
 
 /// Returns a view with another time.
 pub(crate) fn with_moment(found: Option<View>, at: i64) -> Option<View>
-    ensures { result ≡ named_at at found }
+    ensures { result ≡ view_at_moment at found }
 {
     match found {
         Some(view) => {

@@ -25,7 +25,7 @@ use Rattle.land_select_queries.proofs.Ascending.{ascend, same_list}
 use Rattle.land_select_queries.proofs.Containing.{any_decides, first, in_nothing}
 use Rattle.land_select_queries.proofs.Seeing.{ascending}
 use Rattle.land_select_queries.proofs.United.{given_by, given_to}
-use Rattle.land_select_queries.specs.Joins.Execution.{AnySelectsFor, AreAll}
+use Rattle.land_select_queries.specs.Joins.Execution.{AnySelectsFor, AreExactly}
 use Rattle.land_select_queries.specs.Joins.Sight.{HoldsNoMandate}
 use Rattle.land_select_queries.specs.Sights.{AnySelects, selections_of}
 use Rattle.land_select_queries.specs.Sights.Laws.{SelectionsAreTheRules}
@@ -51,7 +51,7 @@ module _ (rules : SelectionsAreTheRules) (seen : SeenListsAreExact) (together : 
   circle_decides number = any_decides (is_shown number) (λ one. AnySelects given t h one number) (circle_of r party) (λ one among. shown_decides number one)
 
   -- so the numbers of the circle, in increasing order and each once, are the list of what the citizen sees
-  pub seen_by_circle : (callers listed : List ℕ) → ((number : ℕ) → Contains callers number ↔ Contains (circle_of r party) number) → AreAll listed (AnySelectsFor given t h callers) → IsStrictlyIncreasing listed
+  pub seen_by_circle : (callers listed : List ℕ) → ((number : ℕ) → Contains callers number ↔ Contains (circle_of r party) number) → AreExactly listed (AnySelectsFor given t h callers) → IsStrictlyIncreasing listed
       → listed ≡ seen_of r (citizen party) k
   seen_by_circle callers listed are all rising =
       same_list listed _ (ascend listed rising) (ascending _ (seen r (citizen party) k).ascending) (λ number. (forth number, back number))

@@ -2,12 +2,12 @@
 use Rattle.std.proofs.Common.{◌≡◌, inl, inr, ℕ, pos, List, [], ◌∷◌, map, Ok, Err, IfErr, IfOk, Result, refl, sym, ap, ap₂, subst, ◌∙◌}
 use Rattle.std.specs.List.{AllByRecursion, Contains}
 use Rattle.land_select_queries.specs.Joins.Meaning.{AreNumberRows}
-use Rattle.land_select_queries.specs.Joins.Execution.{AreAll, HoldsNoHistory, HoldsOfHistory}
+use Rattle.land_select_queries.specs.Joins.Execution.{AreExactly, HoldsNoHistory, HoldsOfHistory}
 use Rattle.land_tables_history.specs.declared.history.History.{History}
 use Rattle.land_tables_rows.proofs.Readings.{each_all}
 use Rattle.land_tables_rows.specs.Listing.Reading.{IsRead}
 use Rattle.land_tables_rows.specs.Reading.Cells.{natural_in}
-use Rattle.land_tables_rows.specs.Reading.Readings.{each_of}
+use Rattle.land_tables_rows.specs.Reading.Readings.{each_row}
 use Rattle.land_tables_rows.specs.declared.listing.fault.ReadFault.{ReadFault}
 use Rattle.land_wire_json.specs.Bodies.WireFaults.{◌>>=◌}
 use Rattle.land_wire_json.specs.declared.bodies.wire_fault.WireFault.{WireFault}
@@ -29,14 +29,14 @@ pub one_is_read : (n : ℕ) → counted (Int (pos n) ∷ []) ≡ Ok n
 unfolding natural_in
 one_is_read n = refl
 
-each_from : (rows : List Row) → AllByRecursion (λ r. (x : ℕ) × (r ≡ Ok x)) (map counted rows) → (xs : List ℕ) × (each_of counted rows ≡ Ok xs)
+each_from : (rows : List Row) → AllByRecursion (λ r. (x : ℕ) × (r ≡ Ok x)) (map counted rows) → (xs : List ℕ) × (each_row counted rows ≡ Ok xs)
 each_from [] all = ([], refl)
 each_from (row ∷ rows) all =
     let rest = each_from rows all.1 in
     (all.0.0 ∷ rest.0, ap₂ (λ a b. a >>= λ first. b >>= λ rest. Ok (first ∷ rest)) all.0.1 rest.1)
 
 module _ (rows : List Row) (Wanted : ℕ → Type 0) (are : AreNumberRows rows Wanted) where
-  pub all_numbers : (numbers : List ℕ) → map counted rows ≡ map (λ n. Ok n) numbers → AreAll numbers Wanted
+  pub all_numbers : (numbers : List ℕ) → map counted rows ≡ map (λ n. Ok n) numbers → AreExactly numbers Wanted
   all_numbers numbers read n = (to_wanted, from_wanted)
     where
       to_wanted : Contains numbers n → Wanted n
@@ -62,7 +62,7 @@ module _ (rows : List Row) (Wanted : ℕ → Type 0) (are : AreNumberRows rows W
 
 -- rows of numbers that the current versions select
 module _ (Wanted : History → ℕ → Type 0) (db : Trees) (rows : List Row) (are : HoldsOfHistory db (λ h. AreNumberRows rows (Wanted h))) where
-  pub numbers_told : (r : Result (List ℕ) ReadFault) → IsRead counted rows r → IfOk r (λ numbers. HoldsOfHistory db (λ h. AreAll numbers (Wanted h)))
+  pub numbers_told : (r : Result (List ℕ) ReadFault) → IsRead counted rows r → IfOk r (λ numbers. HoldsOfHistory db (λ h. AreExactly numbers (Wanted h)))
   numbers_told (Ok numbers) read = λ moments h held. all_numbers rows (Wanted h) (are moments h held) numbers (each_all counted rows numbers read)
   numbers_told (Err fault) read = tt
 

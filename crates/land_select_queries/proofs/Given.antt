@@ -7,7 +7,7 @@ use Rattle.land_select_queries.proofs.Selected.{filter_of, join_of, places_of, s
 use Rattle.land_select_queries.proofs.Sets.{plainly}
 use Rattle.land_select_queries.specs.Joins.Meaning.{query_parameters}
 use Rattle.land_select_queries.specs.Joins.Execution.{AreRowsOf, known_or_zero}
-use Rattle.land_select_queries.specs.Joins.Texts.{text_of}
+use Rattle.land_select_queries.specs.Joins.Texts.{selection_text}
 use Rattle.land_select_queries.specs.declared.sights.selection.Selection.{Selection}
 use Rattle.sqlite.specs.Program.{overlay}
 use Rattle.sqlite.specs.Query.{IsAnswer, Query}
@@ -22,7 +22,7 @@ are_rows_of s t caller db rows a moments h held =
     let asked = known_or_zero caller in
     let ps = places_of s in
     let fs = filter_of s in
-    let terms = known_in (text_of s) ps fs (shown_of s) (join_of s) in
+    let terms = known_in (selection_text s) ps fs (shown_of s) (join_of s) in
     record {
       each = numbered ps fs (shown_of s) terms db (overlay db []) (as_stored db) moments h held asked t rows a;
       meant = λ n.

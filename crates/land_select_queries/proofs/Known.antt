@@ -3,7 +3,7 @@ use Rattle.std.proofs.Common.{ℕ, suc, List, [], ◌∷◌, ◌++◌, codes, re
 use Rattle.land_core.specs.declared.kind.Kind.TheVariants as kind
 use Rattle.land_select_queries.proofs.Joined.{IsJoin}
 use Rattle.land_select_queries.proofs.Places.{parties, members, units, parcels, rrrs, sources, mutations, names}
-use Rattle.land_select_queries.specs.Joins.Texts.{text_of}
+use Rattle.land_select_queries.specs.Joins.Texts.{selection_text}
 use Rattle.land_select_queries.specs.declared.sights.selection.Selection.TheVariants as selection
 use Rattle.sqlite.specs.Listing.{understood}
 use Rattle.sqlite.specs.declared.types.Value.TheVariants.{Text}
@@ -50,7 +50,7 @@ still slot since = op2 (Compare Le Binary) (col slot since) moment ∷ op2 (Comp
 abbrev pub all_parties : List Term
 all_parties = still 1 4
 
-pub all_parties_join : IsJoin (text_of (selection.All kind.Party)) (parties ∷ []) all_parties (col 1 1)
+pub all_parties_join : IsJoin (selection_text (selection.All kind.Party)) (parties ∷ []) all_parties (col 1 1)
 unfolding understood everything
 all_parties_join = record {
   asks = λ indexes. record { names = codes "number" ∷ []; command = refl; unlisted = refl; plain = (refl, refl) };
@@ -63,7 +63,7 @@ all_parties_join = record {
 abbrev pub all_units : List Term
 all_units = still 1 4
 
-pub all_units_join : IsJoin (text_of (selection.All kind.Unit)) (units ∷ []) all_units (col 1 1)
+pub all_units_join : IsJoin (selection_text (selection.All kind.Unit)) (units ∷ []) all_units (col 1 1)
 unfolding understood everything
 all_units_join = record {
   asks = λ indexes. record { names = codes "number" ∷ []; command = refl; unlisted = refl; plain = (refl, refl) };
@@ -76,7 +76,7 @@ all_units_join = record {
 abbrev pub all_parcels : List Term
 all_parcels = still 1 6
 
-pub all_parcels_join : IsJoin (text_of (selection.All kind.Parcel)) (parcels ∷ []) all_parcels (col 1 1)
+pub all_parcels_join : IsJoin (selection_text (selection.All kind.Parcel)) (parcels ∷ []) all_parcels (col 1 1)
 unfolding understood everything
 all_parcels_join = record {
   asks = λ indexes. record { names = codes "number" ∷ []; command = refl; unlisted = refl; plain = (refl, refl) };
@@ -89,7 +89,7 @@ all_parcels_join = record {
 abbrev pub all_rrrs : List Term
 all_rrrs = still 1 12
 
-pub all_rrrs_join : IsJoin (text_of (selection.All kind.Rrr)) (rrrs ∷ []) all_rrrs (col 1 1)
+pub all_rrrs_join : IsJoin (selection_text (selection.All kind.Rrr)) (rrrs ∷ []) all_rrrs (col 1 1)
 unfolding understood everything
 all_rrrs_join = record {
   asks = λ indexes. record { names = codes "number" ∷ []; command = refl; unlisted = refl; plain = (refl, refl) };
@@ -102,7 +102,7 @@ all_rrrs_join = record {
 abbrev pub all_sources : List Term
 all_sources = still 1 4
 
-pub all_sources_join : IsJoin (text_of (selection.All kind.Source)) (sources ∷ []) all_sources (col 1 1)
+pub all_sources_join : IsJoin (selection_text (selection.All kind.Source)) (sources ∷ []) all_sources (col 1 1)
 unfolding understood everything
 all_sources_join = record {
   asks = λ indexes. record { names = codes "number" ∷ []; command = refl; unlisted = refl; plain = (refl, refl) };
@@ -115,7 +115,7 @@ all_sources_join = record {
 abbrev pub all_mutations : List Term
 all_mutations = still 1 9
 
-pub all_mutations_join : IsJoin (text_of (selection.All kind.Mutation)) (mutations ∷ []) all_mutations (col 1 1)
+pub all_mutations_join : IsJoin (selection_text (selection.All kind.Mutation)) (mutations ∷ []) all_mutations (col 1 1)
 unfolding understood everything
 all_mutations_join = record {
   asks = λ indexes. record { names = codes "number" ∷ []; command = refl; unlisted = refl; plain = (refl, refl) };
@@ -128,7 +128,7 @@ all_mutations_join = record {
 abbrev pub itself : List Term
 itself = same (col 1 1) caller ∷ still 1 4
 
-pub itself_join : IsJoin (text_of selection.Itself) (parties ∷ []) itself (col 1 1)
+pub itself_join : IsJoin (selection_text selection.Itself) (parties ∷ []) itself (col 1 1)
 unfolding understood everything
 itself_join = record {
   asks = λ indexes. record { names = codes "number" ∷ []; command = refl; unlisted = refl; plain = (refl, refl) };
@@ -141,7 +141,7 @@ itself_join = record {
 abbrev pub its_groups : List Term
 its_groups = same (col 1 2) caller ∷ still 1 5
 
-pub its_groups_join : IsJoin (text_of selection.ItsGroups) (members ∷ []) its_groups (col 1 1)
+pub its_groups_join : IsJoin (selection_text selection.ItsGroups) (members ∷ []) its_groups (col 1 1)
 unfolding understood everything
 its_groups_join = record {
   asks = λ indexes. record { names = codes "grp" ∷ []; command = refl; unlisted = refl; plain = (refl, refl) };
@@ -154,7 +154,7 @@ its_groups_join = record {
 abbrev pub its_lodgings : List Term
 its_lodgings = same (col 1 2) caller ∷ still 1 9
 
-pub its_lodgings_join : IsJoin (text_of selection.ItsLodgings) (mutations ∷ []) its_lodgings (col 1 1)
+pub its_lodgings_join : IsJoin (selection_text selection.ItsLodgings) (mutations ∷ []) its_lodgings (col 1 1)
 unfolding understood everything
 its_lodgings_join = record {
   asks = λ indexes. record { names = codes "number" ∷ []; command = refl; unlisted = refl; plain = (refl, refl) };
@@ -167,7 +167,7 @@ its_lodgings_join = record {
 abbrev pub held_units : List Term
 held_units = same (col 1 3) caller ∷ a_right 1 ∷ still 1 12
 
-pub held_units_join : IsJoin (text_of selection.HeldUnits) (rrrs ∷ []) held_units (col 1 2)
+pub held_units_join : IsJoin (selection_text selection.HeldUnits) (rrrs ∷ []) held_units (col 1 2)
 unfolding understood everything
 held_units_join = record {
   asks = λ indexes. record { names = codes "unit" ∷ []; command = refl; unlisted = refl; plain = (refl, refl) };
@@ -180,7 +180,7 @@ held_units_join = record {
 abbrev pub group_units : List Term
 group_units = same (col 2 3) (col 1 1) ∷ same (col 1 2) caller ∷ a_right 2 ∷ still 1 5 ++ still 2 12
 
-pub group_units_join : IsJoin (text_of selection.GroupUnits) (members ∷ rrrs ∷ []) group_units (col 2 2)
+pub group_units_join : IsJoin (selection_text selection.GroupUnits) (members ∷ rrrs ∷ []) group_units (col 2 2)
 unfolding understood everything
 group_units_join = record {
   asks = λ indexes. record { names = codes "unit" ∷ []; command = refl; unlisted = refl; plain = (refl, refl) };
@@ -193,7 +193,7 @@ group_units_join = record {
 abbrev pub held_rrrs : List Term
 held_rrrs = same (col 2 2) (col 1 2) ∷ same (col 1 3) caller ∷ a_right 1 ∷ is_shown 1 2 ∷ still 1 12 ++ still 2 12
 
-pub held_rrrs_join : IsJoin (text_of selection.HeldEntries) (rrrs ∷ rrrs ∷ []) held_rrrs (col 2 1)
+pub held_rrrs_join : IsJoin (selection_text selection.HeldEntries) (rrrs ∷ rrrs ∷ []) held_rrrs (col 2 1)
 unfolding understood everything
 held_rrrs_join = record {
   asks = λ indexes. record { names = codes "number" ∷ []; command = refl; unlisted = refl; plain = (refl, refl) };
@@ -206,7 +206,7 @@ held_rrrs_join = record {
 abbrev pub group_rrrs : List Term
 group_rrrs = same (col 2 3) (col 1 1) ∷ same (col 3 2) (col 2 2) ∷ same (col 1 2) caller ∷ a_right 2 ∷ is_shown 2 3 ∷ still 1 5 ++ still 2 12 ++ still 3 12
 
-pub group_rrrs_join : IsJoin (text_of selection.GroupEntries) (members ∷ rrrs ∷ rrrs ∷ []) group_rrrs (col 3 1)
+pub group_rrrs_join : IsJoin (selection_text selection.GroupEntries) (members ∷ rrrs ∷ rrrs ∷ []) group_rrrs (col 3 1)
 unfolding understood everything
 group_rrrs_join = record {
   asks = λ indexes. record { names = codes "number" ∷ []; command = refl; unlisted = refl; plain = (refl, refl) };
@@ -216,7 +216,7 @@ group_rrrs_join = record {
   known = λ caller t m h s. refl;
 }
 
-pub held_parties_join : IsJoin (text_of selection.HeldParties) (rrrs ∷ rrrs ∷ []) held_rrrs (col 2 3)
+pub held_parties_join : IsJoin (selection_text selection.HeldParties) (rrrs ∷ rrrs ∷ []) held_rrrs (col 2 3)
 unfolding understood everything
 held_parties_join = record {
   asks = λ indexes. record { names = codes "party" ∷ []; command = refl; unlisted = refl; plain = (refl, refl) };
@@ -226,7 +226,7 @@ held_parties_join = record {
   known = λ caller t h s. refl;
 }
 
-pub group_parties_join : IsJoin (text_of selection.GroupParties) (members ∷ rrrs ∷ rrrs ∷ []) group_rrrs (col 3 3)
+pub group_parties_join : IsJoin (selection_text selection.GroupParties) (members ∷ rrrs ∷ rrrs ∷ []) group_rrrs (col 3 3)
 unfolding understood everything
 group_parties_join = record {
   asks = λ indexes. record { names = codes "party" ∷ []; command = refl; unlisted = refl; plain = (refl, refl) };
@@ -239,7 +239,7 @@ group_parties_join = record {
 abbrev pub held_mutations : List Term
 held_mutations = same (col 2 2) (col 1 2) ∷ same (col 1 3) caller ∷ a_right 1 ∷ still 1 12 ++ still 2 3
 
-pub held_mutations_join : IsJoin (text_of selection.HeldMutations) (rrrs ∷ names ∷ []) held_mutations (col 2 1)
+pub held_mutations_join : IsJoin (selection_text selection.HeldMutations) (rrrs ∷ names ∷ []) held_mutations (col 2 1)
 unfolding understood everything
 held_mutations_join = record {
   asks = λ indexes. record { names = codes "mutation" ∷ []; command = refl; unlisted = refl; plain = (refl, refl) };
@@ -252,7 +252,7 @@ held_mutations_join = record {
 abbrev pub group_mutations : List Term
 group_mutations = same (col 2 3) (col 1 1) ∷ same (col 3 2) (col 2 2) ∷ same (col 1 2) caller ∷ a_right 2 ∷ still 1 5 ++ still 2 12 ++ still 3 3
 
-pub group_mutations_join : IsJoin (text_of selection.GroupMutations) (members ∷ rrrs ∷ names ∷ []) group_mutations (col 3 1)
+pub group_mutations_join : IsJoin (selection_text selection.GroupMutations) (members ∷ rrrs ∷ names ∷ []) group_mutations (col 3 1)
 unfolding understood everything
 group_mutations_join = record {
   asks = λ indexes. record { names = codes "mutation" ∷ []; command = refl; unlisted = refl; plain = (refl, refl) };
@@ -265,7 +265,7 @@ group_mutations_join = record {
 abbrev pub credit_units : List Term
 credit_units = same (col 1 3) caller ∷ a_mortgage 1 ∷ still 1 12
 
-pub credit_units_join : IsJoin (text_of selection.CreditUnits) (rrrs ∷ []) credit_units (col 1 2)
+pub credit_units_join : IsJoin (selection_text selection.CreditUnits) (rrrs ∷ []) credit_units (col 1 2)
 unfolding understood everything
 credit_units_join = record {
   asks = λ indexes. record { names = codes "unit" ∷ []; command = refl; unlisted = refl; plain = (refl, refl) };
@@ -278,7 +278,7 @@ credit_units_join = record {
 abbrev pub credit_rrrs : List Term
 credit_rrrs = same (col 2 2) (col 1 2) ∷ same (col 1 3) caller ∷ a_mortgage 1 ∷ is_own 2 ∷ still 1 12 ++ still 2 12
 
-pub credit_rrrs_join : IsJoin (text_of selection.CreditEntries) (rrrs ∷ rrrs ∷ []) credit_rrrs (col 2 1)
+pub credit_rrrs_join : IsJoin (selection_text selection.CreditEntries) (rrrs ∷ rrrs ∷ []) credit_rrrs (col 2 1)
 unfolding understood everything
 credit_rrrs_join = record {
   asks = λ indexes. record { names = codes "number" ∷ []; command = refl; unlisted = refl; plain = (refl, refl) };
@@ -288,7 +288,7 @@ credit_rrrs_join = record {
   known = λ caller t h s. refl;
 }
 
-pub credit_parties_join : IsJoin (text_of selection.CreditParties) (rrrs ∷ rrrs ∷ []) credit_rrrs (col 2 3)
+pub credit_parties_join : IsJoin (selection_text selection.CreditParties) (rrrs ∷ rrrs ∷ []) credit_rrrs (col 2 3)
 unfolding understood everything
 credit_parties_join = record {
   asks = λ indexes. record { names = codes "party" ∷ []; command = refl; unlisted = refl; plain = (refl, refl) };
@@ -301,7 +301,7 @@ credit_parties_join = record {
 abbrev pub lodged_units : List Term
 lodged_units = same (col 2 1) (col 1 1) ∷ same (col 3 1) (col 2 2) ∷ same (col 1 2) caller ∷ word (col 1 8) (codes "lodged") ∷ still 1 9 ++ still 2 3 ++ still 3 4
 
-pub lodged_units_join : IsJoin (text_of selection.LodgedUnits) (mutations ∷ names ∷ units ∷ []) lodged_units (col 3 1)
+pub lodged_units_join : IsJoin (selection_text selection.LodgedUnits) (mutations ∷ names ∷ units ∷ []) lodged_units (col 3 1)
 unfolding understood everything
 lodged_units_join = record {
   asks = λ indexes. record { names = codes "number" ∷ []; command = refl; unlisted = refl; plain = (refl, refl) };
@@ -314,7 +314,7 @@ lodged_units_join = record {
 abbrev pub lodged_rrrs : List Term
 lodged_rrrs = same (col 2 1) (col 1 1) ∷ same (col 3 2) (col 2 2) ∷ same (col 1 2) caller ∷ word (col 1 8) (codes "lodged") ∷ still 1 9 ++ still 2 3 ++ still 3 12
 
-pub lodged_rrrs_join : IsJoin (text_of selection.LodgedEntries) (mutations ∷ names ∷ rrrs ∷ []) lodged_rrrs (col 3 1)
+pub lodged_rrrs_join : IsJoin (selection_text selection.LodgedEntries) (mutations ∷ names ∷ rrrs ∷ []) lodged_rrrs (col 3 1)
 unfolding understood everything
 lodged_rrrs_join = record {
   asks = λ indexes. record { names = codes "number" ∷ []; command = refl; unlisted = refl; plain = (refl, refl) };
@@ -324,7 +324,7 @@ lodged_rrrs_join = record {
   known = λ caller t m n r. refl;
 }
 
-pub lodged_parties_join : IsJoin (text_of selection.LodgedParties) (mutations ∷ names ∷ rrrs ∷ []) lodged_rrrs (col 3 3)
+pub lodged_parties_join : IsJoin (selection_text selection.LodgedParties) (mutations ∷ names ∷ rrrs ∷ []) lodged_rrrs (col 3 3)
 unfolding understood everything
 lodged_parties_join = record {
   asks = λ indexes. record { names = codes "party" ∷ []; command = refl; unlisted = refl; plain = (refl, refl) };

@@ -9,7 +9,7 @@ use Rattle.std.specs.List.{Contains, list_any}
 use Rattle.std.specs.Option.{option_map_or}
 use Rattle.land_core.specs.Contents.{refers_to_unit_where}
 use Rattle.land_core.specs.Entries.{has}
-use Rattle.land_core.specs.Members.{Members, member_of, members_in}
+use Rattle.land_core.specs.Members.{Members, member_with_share, members_in}
 use Rattle.land_core.specs.Register.{is_member}
 use Rattle.land_core.specs.declared.content.Content.{Content}
 use Rattle.land_core.specs.declared.content.Content.TheVariants as content
@@ -36,7 +36,7 @@ abbrev pub Names : (t : ℤ) → History → ℕ × MutationRecord → (ℕ → 
 Names t h e P = (n : Naming) × (IsCurrent t h.namings n × (n.mutation ≡ e.0)) × P n.unit
 
 abbrev in_group : ℕ → ℕ × Ratio → GroupMember
-in_group group e = record { group = group; member = member_of e.0 e.1 }
+in_group group e = record { group = group; member = member_with_share e.0 e.1 }
 
 abbrev naming_of : ℕ → ℕ → Naming
 naming_of mutation unit = record { mutation = mutation; unit = unit }
@@ -62,10 +62,10 @@ module _ (r : Register) (t : ℤ) (h : History) (is : IsRegisterAt t h r) where
       inside members at None got has_it = absurd (false≢true has_it)
       inside members at (Some share) got has_it =
           let one : GroupMember = in_group group (party, share) in
-          let among : Contains (members_in members) (member_of party share) = to_map (λ e. member_of e.0 e.1) (map.entries members) (party, share) (entry_found members party share got) in
+          let among : Contains (members_in members) (member_with_share party share) = to_map (λ e. member_with_share e.0 e.1) (map.entries members) (party, share) (entry_found members party share got) in
           let all : Contains (group_members r.members) one =
           to_flat_map (λ g. map_list (λ m. record { group = g.0; member = m }) (members_in g.1)) (map.entries r.members) (group, members) one (entry_found r.members group members at)
-          (to_map (λ m. record { group = group; member = m }) (members_in members) (member_of party share) among) in
+          (to_map (λ m. record { group = group; member = m }) (members_in members) (member_with_share party share) among) in
           (one, Contains-permutation (group_members r.members) (current_values t h.members) one (IsPermutation-sym (current_values t h.members) (group_members r.members) is.members) all, refl, refl)
 
       found : (o : Option Members) → map.get r.members group ≡ o → option_map_or (λ members. has members party) o false ≡ true → Joins t h group party
@@ -75,7 +75,7 @@ module _ (r : Register) (t : ℤ) (h : History) (is : IsRegisterAt t h r) where
   -- and the converse
   is_shown : (group : ℕ) (members : Members) → map.get r.members group ≡ Some members → (shown : Member) → Contains (members_in members) shown → is_member r group shown.party ≡ true
   is_shown group members at shown among =
-      let entry = from_map (λ e. member_of e.0 e.1) (map.entries members) shown among in
+      let entry = from_map (λ e. member_with_share e.0 e.1) (map.entries members) shown among in
       subst (λ (m : Member). is_member r group m.party ≡ true) entry.2
       (ap (λ o. option_map_or (λ members. has members entry.0.0) o false) at ∙ ap is_some (entry_there members entry.0 entry.1))
 

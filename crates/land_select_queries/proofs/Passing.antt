@@ -3,7 +3,7 @@ use Rattle.std.proofs.Common.{◌≡◌, Bool, true, false, cond, List, [], ◌�
 use Rattle.std.proofs.lemmas.List.Sorted.{IsPermutation-sym}
 use Rattle.std.specs.List.{AllByRecursion}
 use Rattle.land_tables_history.proofs.Permutations.{filter_permuted}
-use Rattle.land_tables_rows.specs.Reading.Readings.{each_of}
+use Rattle.land_tables_rows.specs.Reading.Readings.{each_row}
 use Rattle.land_wire_json.specs.Bodies.WireFaults.{◌>>=◌}
 use Rattle.land_wire_json.specs.declared.bodies.wire_fault.WireFault.{WireFault}
 use Rattle.sqlite_trees.proofs.ListLemmas.{all-permutation}
@@ -22,14 +22,14 @@ module _ {X : Type 0} where
   all_said (x ∷ xs) = ((x, refl), all_said xs)
 
   -- rows that each have a content have all of it
-  pub each_from : (said : Row → Result X WireFault) (rows : List Row) → AllByRecursion IsSaid (map said rows) → (xs : List X) × (each_of said rows ≡ Ok xs)
+  pub each_from : (said : Row → Result X WireFault) (rows : List Row) → AllByRecursion IsSaid (map said rows) → (xs : List X) × (each_row said rows ≡ Ok xs)
   each_from said [] all = ([], refl)
   each_from said (row ∷ rows) all =
       let rest = each_from said rows all.1 in
       (all.0.0 ∷ rest.0, ap₂ (λ a b. a >>= λ first. b >>= λ rest. Ok (first ∷ rest)) all.0.1 rest.1)
 
   -- so they do if a permutation of them has the contents of a list
-  pub some_said : (said : Row → Result X WireFault) (rows : List Row) (xs : List X) → IsPermutation (map said rows) (map fine xs) → (ys : List X) × (each_of said rows ≡ Ok ys)
+  pub some_said : (said : Row → Result X WireFault) (rows : List Row) (xs : List X) → IsPermutation (map said rows) (map fine xs) → (ys : List X) × (each_row said rows ≡ Ok ys)
   some_said said rows xs say = each_from said rows (all-permutation IsSaid (map fine xs) (map said rows) (IsPermutation-sym (map said rows) (map fine xs) say) (all_said xs))
 
 module _ {X : Type 0} (f : Row → Result X WireFault) (p : Row → Bool) (q : X → Bool) (tests : (r : Row) (x : X) → f r ≡ Ok x → p r ≡ q x) where

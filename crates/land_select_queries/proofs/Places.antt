@@ -21,27 +21,27 @@ use Rattle.land_tables_history.specs.declared.version.Version.{Version}
 use Rattle.land_tables_rows.proofs.CellReadings.{end_is, moment_is, number_is}
 use Rattle.land_tables_rows.proofs.Stepping.{same_value, stepped}
 use Rattle.land_tables_rows.specs.Mandate.Reading.{mandate_in}
-use Rattle.land_tables_rows.specs.Mandate.Writing as mandate
+use Rattle.land_tables_rows.specs.Mandate.Writing.{mandate_reading}
 use Rattle.land_tables_rows.specs.Member.Reading.{member_in}
-use Rattle.land_tables_rows.specs.Member.Writing as member
+use Rattle.land_tables_rows.specs.Member.Writing.{member_reading}
 use Rattle.land_tables_rows.specs.Mutation.Reading.{mutation_in}
-use Rattle.land_tables_rows.specs.Mutation.Writing as mutation
+use Rattle.land_tables_rows.specs.Mutation.Writing.{mutation_reading}
 use Rattle.land_tables_rows.specs.Naming.Reading.{naming_in}
-use Rattle.land_tables_rows.specs.Naming.Writing as naming
+use Rattle.land_tables_rows.specs.Naming.Writing.{naming_reading}
 use Rattle.land_tables_rows.specs.Parcel.Reading.{parcel_in}
-use Rattle.land_tables_rows.specs.Parcel.Writing as parcel
+use Rattle.land_tables_rows.specs.Parcel.Writing.{parcel_reading}
 use Rattle.land_tables_rows.specs.Party.Reading.{party_in}
-use Rattle.land_tables_rows.specs.Party.Writing as party
+use Rattle.land_tables_rows.specs.Party.Writing.{party_reading}
 use Rattle.land_tables_rows.specs.Reading.Cells.{end_in, moment_in, name_in, number_in, flag_in, label_in, text_in, title_in, reference_in, share_in}
 use Rattle.land_tables_rows.specs.Reading.Words.{class_word_in, party_kind_in, role_in, source_kind_in, state_in}
 use Rattle.land_tables_rows.specs.Role.Reading.{role_grant_in}
-use Rattle.land_tables_rows.specs.Role.Writing as role
+use Rattle.land_tables_rows.specs.Role.Writing.{role_reading}
 use Rattle.land_tables_rows.specs.Rrr.Reading.{class_by, rrr_in}
-use Rattle.land_tables_rows.specs.Rrr.Writing as rrr
+use Rattle.land_tables_rows.specs.Rrr.Writing.{rrr_reading}
 use Rattle.land_tables_rows.specs.Source.Reading.{source_in}
-use Rattle.land_tables_rows.specs.Source.Writing as source
+use Rattle.land_tables_rows.specs.Source.Writing.{source_reading}
 use Rattle.land_tables_rows.specs.Unit.Reading.{unit_in}
-use Rattle.land_tables_rows.specs.Unit.Writing as unit
+use Rattle.land_tables_rows.specs.Unit.Writing.{unit_reading}
 use Rattle.land_tables_rows.specs.Writing.History.{HoldsHistory}
 use Rattle.land_tables_rows.specs.Writing.Holding.{Keeps, Reading}
 use Rattle.land_tables_schema.specs.Rows.ReadQueries.{columns_from}
@@ -84,16 +84,16 @@ What mandates = Mandate
 
 -- the decoder of its rows
 abbrev pub row_decoder : (p : Place) → Reading (What p)
-row_decoder parties = party.parties
-row_decoder roles = role.roles
-row_decoder members = member.members
-row_decoder units = unit.units
-row_decoder parcels = parcel.parcels
-row_decoder rrrs = rrr.rrrs
-row_decoder sources = source.sources
-row_decoder mutations = mutation.mutations
-row_decoder names = naming.namings
-row_decoder mandates = mandate.mandates
+row_decoder parties = party_reading
+row_decoder roles = role_reading
+row_decoder members = member_reading
+row_decoder units = unit_reading
+row_decoder parcels = parcel_reading
+row_decoder rrrs = rrr_reading
+row_decoder sources = source_reading
+row_decoder mutations = mutation_reading
+row_decoder names = naming_reading
+row_decoder mandates = mandate_reading
 
 abbrev pub tree : Place → ℕ
 tree p = (row_decoder p).table.tree

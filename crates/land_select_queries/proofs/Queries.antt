@@ -7,7 +7,7 @@ use Rattle.land_select_queries.proofs.Tested.{by_number, by_role, decides}
 use Rattle.land_select_queries.specs.Joins.Meaning.{query_parameters}
 use Rattle.land_select_queries.specs.Joins.Execution.{known_or_zero}
 use Rattle.land_select_queries.specs.Lookups.RecordRows.{LookupItem, is_meant, listing_of}
-use Rattle.land_select_queries.specs.Lookups.Texts.{text_of}
+use Rattle.land_select_queries.specs.Lookups.Texts.{lookup_text}
 use Rattle.land_select_queries.specs.declared.lookups.record_lookup.RecordLookup.{RecordLookup}
 use Rattle.land_select_queries.specs.declared.lookups.record_lookup.RecordLookup.TheVariants as record_lookup
 use Rattle.land_tables_history.specs.Standing.{is_current}
@@ -58,7 +58,7 @@ abbrev pub query_of : RecordLookup → Query
 query_of l = plainly (listing_of l).table.tree (filter_of l) (project_of l)
 
 -- each statement is exactly its query
-pub asks : (l : RecordLookup) (indexes : List Index) → Asks (schema_v2_with indexes) (text_of l) (query_of l)
+pub asks : (l : RecordLookup) (indexes : List Index) → Asks (schema_v2_with indexes) (lookup_text l) (query_of l)
 unfolding understood everything
 asks record_lookup.Party indexes = record { names = codes "number" ∷ codes "name" ∷ codes "kind" ∷ codes "since" ∷ codes "until" ∷ []; command = refl; unlisted = refl; plain = (refl, refl) }
 asks record_lookup.Unit indexes = record { names = codes "number" ∷ codes "name" ∷ codes "checked" ∷ codes "since" ∷ codes "until" ∷ []; command = refl; unlisted = refl; plain = (refl, refl) }

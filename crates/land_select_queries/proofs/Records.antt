@@ -13,7 +13,7 @@ use Rattle.land_select_queries.proofs.Queries.{filter_of, project_of, query_of, 
 use Rattle.land_select_queries.proofs.Standing.{entry_found, entry_there}
 use Rattle.land_select_queries.specs.Joins.Meaning.{query_parameters}
 use Rattle.land_select_queries.specs.Joins.Execution.{HoldsNoHistory, HoldsOfHistory, known_or_zero}
-use Rattle.land_select_queries.specs.Lookups.RecordRows.{AreRows, AreRowsOf, AreReadFrom, AreReadByLookup, LookupCannotBeRead, CannotBeRead, LookupItem, IsOneOf, is_meant, listing_of, matching_versions}
+use Rattle.land_select_queries.specs.Lookups.RecordRows.{AreMatchingRows, AreRowsOf, AreReadFrom, AreReadByLookup, LookupCannotBeRead, CannotBeRead, LookupItem, IsValueOfOne, is_meant, listing_of, matching_versions}
 use Rattle.land_select_queries.specs.Lookups.Numbered.{IsFoundBy}
 use Rattle.land_select_queries.specs.Lookups.Parts.{ReadsPart}
 use Rattle.land_select_queries.specs.declared.lookups.record_lookup.RecordLookup.{RecordLookup}
@@ -24,7 +24,7 @@ use Rattle.land_tables_history.specs.declared.version.Version.{Version}
 use Rattle.land_tables_rows.proofs.Readings.{each_all}
 use Rattle.land_tables_rows.proofs.ToldTables.{same_values}
 use Rattle.land_tables_rows.specs.Listing.Reading.{IsRead, Listing, Says}
-use Rattle.land_tables_rows.specs.Reading.Readings.{each_of}
+use Rattle.land_tables_rows.specs.Reading.Readings.{each_row}
 use Rattle.land_tables_rows.specs.declared.listing.fault.ReadFault.{ReadFault}
 use Rattle.land_tables_schema.proofs.Updates.{answer_is, passes, plainly}
 use Rattle.land_wire_json.specs.declared.bodies.wire_fault.WireFault.{WireFault}
@@ -55,7 +55,7 @@ module _ {X : Type 0} (listing : Listing (Version X)) (terms columns : List Term
       (answer_is listing.table.tree terms columns (overlay db []) params rows a))
 
   -- its result has the wanted rows
-  pub are_rows : IsAnswer (plainly listing.table.tree terms columns) (overlay db []) params rows → AreRows listing meant t db rows
+  pub are_rows : IsAnswer (plainly listing.table.tree terms columns) (overlay db []) params rows → AreMatchingRows listing meant t db rows
   are_rows a versions says =
       let whole = db listing.table.tree in
       let said_of : Row → Result (Version X) WireFault = λ r. listing.said (listing.shown r) in
@@ -85,11 +85,11 @@ module _ {X : Type 0} (said : Row → Result X WireFault) (Are : List Row → Ty
 -- rows of wanted versions
 module _ {X : Type 0} (said : Row → Result X WireFault) (rows : List Row) (wants : List X) (are : IsPermutation (map said rows) (map (λ x. Ok x) wants)) where
   -- these are decoded, and nothing else
-  pub all_wanted : (found : List X) → each_of said rows ≡ Ok found → IsPermutation found wants
+  pub all_wanted : (found : List X) → each_row said rows ≡ Ok found → IsPermutation found wants
   all_wanted found read = same_values found wants (subst (λ m. IsPermutation m (map (λ x. Ok x) wants)) (each_all said rows found read) are)
 
   -- they are readable
-  pub can_be_read : ((found : List X) → each_of said rows ≢ Ok found) → ⊥
+  pub can_be_read : ((found : List X) → each_row said rows ≢ Ok found) → ⊥
   can_be_read cannot =
       let read = some_said said rows wants are in
       cannot read.0 read.1
@@ -162,7 +162,7 @@ module _ {V : Type 0} (t : ℤ) (versions : List (Version (ℕ × V))) (m : FinM
   under_number : IsPermutation (map (λ (v : Version (ℕ × V)). v.what) found) (filter (λ e. nat_eq e.0 number) (finite.entries m))
   under_number = found_of t (λ e. nat_eq e.0 number) versions (finite.entries m) part found are
 
-  pub record_is : (o : Option V) → IsOneOf found o → o ≡ finite.get m number
+  pub record_is : (o : Option V) → IsValueOfOne found o → o ≡ finite.get m number
   record_is None none = go (finite.get m number) refl
     where
       go : (o : Option V) → finite.get m number ≡ o → None ≡ finite.get m number
@@ -179,7 +179,7 @@ module _ {V : Type 0} (t : ℤ) (versions : List (Version (ℕ × V))) (m : FinM
 
 -- the record that a lookup returns
 module _ {V : Type 0} (said : Row → Result (Version (ℕ × V)) WireFault) (l : RecordLookup) (part : Register → FinMap nat_cmp V) (by : IsFoundBy said l part) (number : ℕ) (t : ℤ) (db : Trees) where
-  pub is_record : (found : List (Version (ℕ × V))) → AreReadByLookup said l number t db found → (o : Option V) → IsOneOf found o → ReadsPart (λ r. finite.get (part r) number) t db o
+  pub is_record : (found : List (Version (ℕ × V))) → AreReadByLookup said l number t db found → (o : Option V) → IsValueOfOne found o → ReadsPart (λ r. finite.get (part r) number) t db o
   is_record found read o one moments h held r have stands =
       let it = by db moments h held in
       record_is t it.versions (part r) (it.stand t r stands) number found (all_wanted said read.0 (matching_versions (λ e. nat_eq e.0 number) t it.versions) (it.found number t read.0 read.1) found read.2) o one

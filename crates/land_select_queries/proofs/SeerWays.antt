@@ -6,7 +6,7 @@ use Rattle.std.specs.Bool.{Decides}
 use Rattle.std.specs.List.{list_all}
 use Rattle.land_core.specs.declared.mutation.MutationRecord.{MutationRecord}
 use Rattle.land_core.specs.declared.rrr.Class.{Class}
-use Rattle.land_rules.specs.Relations.{is_mortgage}
+use Rattle.land_rules.specs.Relations.{is_mortgage_class}
 use Rattle.land_select_queries.proofs.Joined.{from}
 use Rattle.land_select_queries.proofs.Places.{as_stored, mutations, names, rrrs, shape}
 use Rattle.land_select_queries.proofs.SeerQueries.{filter_of, known_of, places_of, query_of, shown_of}
@@ -16,7 +16,7 @@ use Rattle.land_select_queries.proofs.Shapes.{AreShapes, all_decided, shape_itse
 use Rattle.land_select_queries.proofs.Ways.{Lives, counted, lives, same_bool, three, two, ways_through}
 use Rattle.land_select_queries.specs.Joins.Meaning.{query_parameters}
 use Rattle.land_select_queries.specs.Joins.Execution.{HoldsOfHistory, known_or_zero}
-use Rattle.land_select_queries.specs.Lookups.Viewers.{is_visible_to_creditor, is_visible_to_holder, is_told_to_lodger, count_ways}
+use Rattle.land_select_queries.specs.Lookups.Viewers.{is_shown_to_creditor, is_shown_to_holder, is_told_to_lodger, count_ways}
 use Rattle.land_select_queries.specs.Sights.Selections.{Entry}
 use Rattle.land_select_queries.specs.declared.lookups.relation.Relation.{Relation}
 use Rattle.land_select_queries.specs.declared.lookups.relation.Relation.TheVariants as relation
@@ -30,8 +30,8 @@ use Rattle.sqlite_sql.specs.Term.{Env, holds}
 use Rattle.sqlite_trees.specs.Tree.{Trees}
 use Rattle.sqlite_value.specs.Order.{Row}
 
-word_decides : (c : Class) → Decides (not (is_mortgage c)) (¬ HasWord c (codes "mortgage"))
-word_decides c = Decides-not (is_mortgage c) (a_mortgage c)
+word_decides : (c : Class) → Decides (not (is_mortgage_class c)) (¬ HasWord c (codes "mortgage"))
+word_decides c = Decides-not (is_mortgage_class c) (a_mortgage c)
 
 module _ (party : ℕ) (t : ℤ) where
   -- four tests that hold of current versions of two tables
@@ -72,13 +72,13 @@ module _ (party : ℕ) (t : ℤ) where
   itself : (v w : Version Entry) → AreShapes (two_rows v w) (two_rows v w)
   itself v w = (shape_itself (query_parameters party t), (shape_itself (shape rrrs v), (shape_itself (shape rrrs w), tt)))
 
-  held_so : (v w : Version Entry) → passes relation.Holding (two_rows v w) ≡ (is_current t v && (is_current t w && is_visible_to_holder party v.what w.what))
+  held_so : (v w : Version Entry) → passes relation.Holding (two_rows v w) ≡ (is_current t v && (is_current t w && is_shown_to_holder party v.what w.what))
   held_so v w =
       let known = (and_parts _ _ ((known_of relation.Holding).known party t v w)).0 in
       of_two _ _ _ _ _ v w (Decides-eqb w.what.1.unit v.what.1.unit) (Decides-eqb v.what.1.party party) (a_right w.what.1.class)
       (Decides-or _ _ (word_decides v.what.1.class) (an_ownership w.what.1.class)) (all_decided (filter_of relation.Holding) (two_rows v w) (two_rows v w) (itself v w) known)
 
-  credited_so : (v w : Version Entry) → passes relation.Crediting (two_rows v w) ≡ (is_current t v && (is_current t w && is_visible_to_creditor party v.what w.what))
+  credited_so : (v w : Version Entry) → passes relation.Crediting (two_rows v w) ≡ (is_current t v && (is_current t w && is_shown_to_creditor party v.what w.what))
   credited_so v w =
       let known = (and_parts _ _ ((known_of relation.Crediting).known party t v w)).0 in
       of_two _ _ _ _ _ v w (Decides-eqb w.what.1.unit v.what.1.unit) (Decides-eqb v.what.1.party party) (a_mortgage w.what.1.class)
@@ -97,8 +97,8 @@ module _ (party : ℕ) (t : ℤ) where
 
   -- the matches of the join are these pairs
   told_ways : (relation : Relation) (h : History) → ways_through h (places_of relation) (passes relation) (query_parameters party t ∷ []) ≡ count_ways relation t h party
-  told_ways relation.Holding h = two t true h.rrrs h.rrrs (λ v w. passes relation.Holding (two_rows v w)) (is_visible_to_holder party) held_so
-  told_ways relation.Crediting h = two t true h.rrrs h.rrrs (λ v w. passes relation.Crediting (two_rows v w)) (is_visible_to_creditor party) credited_so
+  told_ways relation.Holding h = two t true h.rrrs h.rrrs (λ v w. passes relation.Holding (two_rows v w)) (is_shown_to_holder party) held_so
+  told_ways relation.Crediting h = two t true h.rrrs h.rrrs (λ v w. passes relation.Crediting (two_rows v w)) (is_shown_to_creditor party) credited_so
   told_ways relation.Awaiting h = three t h.rrrs h.namings h.mutations (λ u v w. passes relation.Awaiting (three_rows u v w)) (is_told_to_lodger party) lodged_so
 
 -- many rows: many pairs

@@ -14,13 +14,13 @@ use Rattle.land_core.specs.declared.mutation.MutationState.TheVariants as state
 use Rattle.land_core.specs.declared.rrr.Class.{Class}
 use Rattle.land_core.specs.declared.rrr.Class.TheVariants.{Right, Restriction, Responsibility, Mortgage}
 use Rattle.land_core.specs.declared.rrr.RightType.TheVariants.{Ownership, Lease, Usufruct}
-use Rattle.land_rules.specs.Relations.{is_mortgage, is_right}
+use Rattle.land_rules.specs.Relations.{is_mortgage_class, is_right}
 use Rattle.land_select_queries.proofs.Joined.{IsJoin, Says, meaning}
 use Rattle.land_select_queries.proofs.Known as known
 use Rattle.land_select_queries.proofs.Places.{Place, parties, members, units, parcels, rrrs, sources, mutations, names}
 use Rattle.land_select_queries.proofs.Words.{entry_word}
 use Rattle.land_select_queries.specs.Joins.Meaning.{TextsSelect}
-use Rattle.land_select_queries.specs.Joins.Texts.{text_of}
+use Rattle.land_select_queries.specs.Joins.Texts.{selection_text}
 use Rattle.land_select_queries.specs.Sights.Selections.{LodgedPending, Credits, Entry, HoldsItself, HoldsThrough, IsPendingEntry, IsVisibleEntry, IsVisibleToCreditor, IsVisibleToHolder, IsCurrent, IsCurrentUnder, selects}
 use Rattle.land_select_queries.specs.declared.sights.selection.Selection.{Selection}
 use Rattle.land_select_queries.specs.declared.sights.selection.Selection.TheVariants as selection
@@ -103,7 +103,7 @@ right_test (Restriction words) = refl
 right_test (Responsibility words) = refl
 right_test (Mortgage amount currency rank) = refl
 
-mortgage_test : (c : Class) → is_mortgage c ≡ bytes_eq (entry_word c) (codes "mortgage")
+mortgage_test : (c : Class) → is_mortgage_class c ≡ bytes_eq (entry_word c) (codes "mortgage")
 mortgage_test (Right Ownership share) = refl
 mortgage_test (Right Lease share) = refl
 mortgage_test (Right Usufruct share) = refl
@@ -128,7 +128,7 @@ a_right c = Decides-at _ _ (right_test c) (Decides-or _ _ (bytes_eq-Decides (ent
 pub an_ownership : (c : Class) → Decides (is_right_of Ownership c) (HasWord c (codes "ownership"))
 an_ownership c = Decides-at _ _ (ownership_test c) (bytes_eq-Decides (entry_word c) (codes "ownership"))
 
-pub a_mortgage : (c : Class) → Decides (is_mortgage c) (HasWord c (codes "mortgage"))
+pub a_mortgage : (c : Class) → Decides (is_mortgage_class c) (HasWord c (codes "mortgage"))
 a_mortgage c = Decides-at _ _ (mortgage_test c) (bytes_eq-Decides (entry_word c) (codes "mortgage"))
 
 pub undecided : (s : MutationState) → Decides (is_open s) (state_word s ≡ codes "lodged")
@@ -139,11 +139,11 @@ is_false true d none = absurd (none (d.0 refl))
 is_false false d none = refl
 
 -- an entry that is not a mortgage
-no_mortgage : (c : Class) → ¬ HasWord c (codes "mortgage") → is_mortgage c ≡ false
-no_mortgage c = is_false (is_mortgage c) (a_mortgage c)
+no_mortgage : (c : Class) → ¬ HasWord c (codes "mortgage") → is_mortgage_class c ≡ false
+no_mortgage c = is_false (is_mortgage_class c) (a_mortgage c)
 
-other_word : (c : Class) → is_mortgage c ≡ false → ¬ HasWord c (codes "mortgage")
-other_word c = not_from_Decides (is_mortgage c) (a_mortgage c)
+other_word : (c : Class) → is_mortgage_class c ≡ false → ¬ HasWord c (codes "mortgage")
+other_word c = not_from_Decides (is_mortgage_class c) (a_mortgage c)
 
 abbrev pub SaysToHolder : (held seen : Class) → Type 0
 SaysToHolder held seen = (¬ HasWord seen (codes "mortgage")) ⊎ HasWord held (codes "ownership")
@@ -656,7 +656,7 @@ shown_of selection.LodgedUnits = col 3 1
 shown_of selection.LodgedEntries = col 3 1
 shown_of selection.LodgedParties = col 3 3
 
-pub join_of : (s : Selection) → IsJoin (text_of s) (places_of s) (filter_of s) (shown_of s)
+pub join_of : (s : Selection) → IsJoin (selection_text s) (places_of s) (filter_of s) (shown_of s)
 join_of (selection.All kind.Party) = known.all_parties_join
 join_of (selection.All kind.Unit) = known.all_units_join
 join_of (selection.All kind.Parcel) = known.all_parcels_join
@@ -710,4 +710,4 @@ selected selection.LodgedParties = lodged_parties
 -- a statement returns what its selection selects
 pub texts_select : TextsSelect
 texts_select s indexes db moments h caller t held =
-    meaning (places_of s) (filter_of s) (shown_of s) (text_of s) (join_of s) indexes db moments h caller t (selects s t h caller) held (selected s h caller t)
+    meaning (places_of s) (filter_of s) (shown_of s) (selection_text s) (join_of s) indexes db moments h caller t (selects s t h caller) held (selected s h caller t)

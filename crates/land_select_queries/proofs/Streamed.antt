@@ -7,11 +7,11 @@ use Rattle.land_select_queries.proofs.Given.{are_rows_of, query_of}
 use Rattle.land_select_queries.proofs.Selected.{join_of}
 use Rattle.land_select_queries.specs.Joins.Execution.{AreNumbersOf, AreRowsOf, HoldsNoHistory, known_or_zero}
 use Rattle.land_select_queries.specs.Joins.Meaning.{query_parameters}
-use Rattle.land_select_queries.specs.Joins.Texts.{text_of}
+use Rattle.land_select_queries.specs.Joins.Texts.{selection_text}
 use Rattle.land_select_queries.specs.Sights.Selections.{selects}
 use Rattle.land_select_queries.specs.declared.sights.selection.Selection.{Selection}
 use Rattle.land_tables_rows.specs.Listing.Faults.{of_wire}
-use Rattle.land_tables_rows.specs.Reading.Readings.{each_of}
+use Rattle.land_tables_rows.specs.Reading.Readings.{each_row}
 use Rattle.land_tables_rows.specs.declared.listing.fault.ReadFault.{ReadFault}
 use Rattle.land_tables_rows.specs.declared.listing.fault.ReadFault.TheVariants as fault
 use Rattle.land_tables_schema.proofs.Asks.{clean_before}
@@ -44,12 +44,12 @@ moved (Ok x) (Err e) c = refl
 moved (Ok x) (Ok xs) (Err e) = refl
 moved (Ok x) (Ok xs) (Ok n) = refl
 
-each_then : (rows : List Row) (row : Row) → each_of counted (rows ++ row ∷ []) ≡ (each_of counted rows >>= λ all. counted row >>= λ n. Ok (all ++ n ∷ []))
+each_then : (rows : List Row) (row : Row) → each_row counted (rows ++ row ∷ []) ≡ (each_row counted rows >>= λ all. counted row >>= λ n. Ok (all ++ n ∷ []))
 each_then [] row = refl
-each_then (r ∷ rs) row = ap (λ b. counted r >>= λ first. b >>= λ rest. Ok (first ∷ rest)) (each_then rs row) ∙ moved (counted r) (each_of counted rs) (counted row)
+each_then (r ∷ rs) row = ap (λ b. counted r >>= λ first. b >>= λ rest. Ok (first ∷ rest)) (each_then rs row) ∙ moved (counted r) (each_row counted rs) (counted row)
 
 -- one more row, and its number
-each_more : (rows : List Row) (row : Row) (found : List ℕ) (n : ℕ) → each_of counted rows ≡ Ok found → counted row ≡ Ok n → each_of counted (rows ++ row ∷ []) ≡ Ok (found ++ n ∷ [])
+each_more : (rows : List Row) (row : Row) (found : List ℕ) (n : ℕ) → each_row counted rows ≡ Ok found → counted row ≡ Ok n → each_row counted (rows ++ row ∷ []) ≡ Ok (found ++ n ∷ [])
 each_more rows row found n all one = each_then rows row ∙ ap₂ (λ a b. a >>= λ all. b >>= λ n. Ok (all ++ n ∷ [])) all one
 
 -- a fault that is not out of memory
@@ -63,10 +63,10 @@ never_both : (c : Result ℕ WireFault) (n : ℕ) (e : WireFault) → c ≡ Ok n
 never_both c n e fine wrong = cc
 
 -- a statement of one query has no recursion
-no_recursion : (s : Selection) (schema : Schema) → IsSchemaV2 schema → (c : Compiled) (db : Database) (params : Row) → understood schema (text_of s) ≡ Ok c → EndsIn c.command db params
+no_recursion : (s : Selection) (schema : Schema) → IsSchemaV2 schema → (c : Compiled) (db : Database) (params : Row) → understood schema (selection_text s) ≡ Ok c → EndsIn c.command db params
 no_recursion s schema has_tables c db params is =
     let asks = (join_of s).asks schema.indexes in
-    let command = ap command_of (sym is) ∙ ap (λ x. command_of (understood x (text_of s))) (but_for_indexes schema has_tables) ∙ asks.command in
+    let command = ap command_of (sym is) ∙ ap (λ x. command_of (understood x (selection_text s))) (but_for_indexes schema has_tables) ∙ asks.command in
     subst (λ k. EndsIn k db params) (sym command) tt
 
 -- an open store is as it was
@@ -78,26 +78,26 @@ module _ {S : Type 0} (g : Ghosts S) (s : Selection) (caller : ℕ) (t : ℤ) wh
   params = query_parameters (known_or_zero caller) t
 
   abbrev Gives : Held S → List Row → Type 0
-  Gives = HasGiven g (text_of s) (query_parameters (known_or_zero caller) t)
+  Gives = HasGiven g (selection_text s) (query_parameters (known_or_zero caller) t)
 
   -- the statement runs, the rows so far are these numbers, and the store is unchanged
   pub record IsUnderWay (old now : Held S) (found : List ℕ) : Type 0 where
-    pub numbers : HasCleanDisk (state g now) → (rows : List Row) × HasGiven g (text_of s) (query_parameters (known_or_zero caller) t) now rows × (each_of counted rows ≡ Ok found)
+    pub numbers : HasCleanDisk (state g now) → (rows : List Row) × HasGiven g (selection_text s) (query_parameters (known_or_zero caller) t) now rows × (each_row counted rows ≡ Ok found)
     pub same : HasCleanDisk (state g now) → IsUnchanged (state g old) (state g now)
     pub survives : Survives (state g old) (state g now) (λ _. ⊥)
     pub autocommit : old.in_transaction ≡ false → now.in_transaction ≡ false
 
-  is_plain : (old : Held S) → IsSchemaV2 old.schema → IsPlain (understood old.schema (text_of s))
-  is_plain old has_tables = plain_now (text_of s) (query_of s) (join_of s).asks params (state g old) (state g old) has_tables
+  is_plain : (old : Held S) → IsSchemaV2 old.schema → IsPlain (understood old.schema (selection_text s))
+  is_plain old has_tables = plain_now (selection_text s) (query_of s) (join_of s).asks params (state g old) (state g old) has_tables
 
-  module _ (old now : Held S) (has_tables : HasRegisterTables g old) (safe : Survives (state g old) (state g now) (CommitsShowing (text_of s) (query_parameters (known_or_zero caller) t) (state g old))) where
-    was_plain : HasCleanDisk (state g now) → IsPlain (understood old.schema (text_of s))
+  module _ (old now : Held S) (has_tables : HasRegisterTables g old) (safe : Survives (state g old) (state g now) (CommitsShowing (selection_text s) (query_parameters (known_or_zero caller) t) (state g old))) where
+    was_plain : HasCleanDisk (state g now) → IsPlain (understood old.schema (selection_text s))
     was_plain clean = is_plain old (has_tables (clean_before safe clean))
 
-    pub begun : (HasCleanDisk (state g now) → HasBegun g (text_of s) (query_parameters (known_or_zero caller) t) old now) → (old.in_transaction ≡ false → now.in_transaction ≡ false) → IsUnderWay old now []
+    pub begun : (HasCleanDisk (state g now) → HasBegun g (selection_text s) (query_parameters (known_or_zero caller) t) old now) → (old.in_transaction ≡ false → now.in_transaction ≡ false) → IsUnderWay old now []
     begun starts mode =
         let both : HasCleanDisk (state g now) → Gives now [] × IsUnchanged (state g old) (state g now) =
-        λ clean. begun_plain g (text_of s) params old now (was_plain clean) (starts clean) in
+        λ clean. begun_plain g (selection_text s) params old now (was_plain clean) (starts clean) in
         record {
           numbers = λ clean. ([], (both clean).0, refl);
           same = λ clean. (both clean).1;
@@ -107,16 +107,16 @@ module _ {S : Type 0} (g : Ghosts S) (s : Selection) (caller : ℕ) (t : ℤ) wh
             counts = safe.counts;
             limit = safe.limit;
             closes = safe.closes;
-            crash = λ clean. (survives_weaker (state g old) (state g now) _ _ (λ _ db. never_commits (text_of s) params (state g old) db (was_plain clean)) safe).crash clean;
+            crash = λ clean. (survives_weaker (state g old) (state g now) _ _ (λ _ db. never_commits (selection_text s) params (state g old) db (was_plain clean)) safe).crash clean;
           };
           autocommit = mode;
         }
 
     -- the statement is refused
-    pub refused : {X F : Type 0} {Q : X → Type 0} (e : Error) (r : Result X F) → IsErr r → (HasCleanDisk (state g now) → FailsToQuery (text_of s) (query_parameters (known_or_zero caller) t) (state g old) (state g now) e) → IsStoreRead r Q (state g old) (state g now)
+    pub refused : {X F : Type 0} {Q : X → Type 0} (e : Error) (r : Result X F) → IsErr r → (HasCleanDisk (state g now) → FailsToQuery (selection_text s) (query_parameters (known_or_zero caller) t) (state g old) (state g now) e) → IsStoreRead r Q (state g old) (state g now)
     refused e r failed fails =
         let none : IsStoreRead {X = List Row} {E = Error} (Err e) (λ _. Unit {0}) (state g old) (state g now) =
-        looks (text_of s) (query_of s) (join_of s).asks params (state g old) (state g now) (λ rows. rows) (Err e) (λ _. Unit {0}) (λ _ _. tt) has_tables (λ _. tt) fails safe in
+        looks (selection_text s) (query_of s) (join_of s).asks params (state g old) (state g now) (λ rows. rows) (Err e) (λ _. Unit {0}) (λ _ _. tt) has_tables (λ _. tt) fails safe in
         look_failed (state g old) (state g now) r failed none
 
   module _ (old mid new : Held S) (has_tables : HasRegisterTables g old) (found : List ℕ) (before : IsUnderWay old mid found) (same : HasCleanDisk (state g new) → IsUnchanged (state g mid) (state g new))
@@ -142,7 +142,7 @@ module _ {S : Type 0} (g : Ghosts S) (s : Selection) (caller : ℕ) (t : ℤ) wh
     goes_on row n mode gives is = record {
       numbers = λ clean.
           let so_far = before.numbers (clean_mid clean) in
-          (so_far.0 ++ row ∷ [], gives clean (text_of s) params so_far.0 so_far.1, each_more so_far.0 row found n so_far.2 is);
+          (so_far.0 ++ row ∷ [], gives clean (selection_text s) params so_far.0 so_far.1, each_more so_far.0 row found n so_far.2 is);
       same = same_still;
       survives = safe_still;
       autocommit = λ none. mode (before.autocommit none);
@@ -161,9 +161,9 @@ module _ {S : Type 0} (g : Ghosts S) (s : Selection) (caller : ℕ) (t : ℤ) wh
         let so_far = before.numbers (clean_mid clean) in
         let rows : List Row = so_far.0 ++ row ∷ [] in
         let n = state g new in
-        let begins = given_begin g (text_of s) params new rows (gives clean (text_of s) params so_far.0 so_far.1) in
-        let all = begins_shown (text_of s) params n n rows begins (itself (state g old) n (same_still clean)) (λ c db statement source. no_recursion s new.schema (has_new clean) c db _ statement.is) in
-        let a = answer (text_of s) (query_of s) (join_of s).asks params n n (has_new clean) (rows ++ all.0) all.1 in
+        let begins = given_begin g (selection_text s) params new rows (gives clean (selection_text s) params so_far.0 so_far.1) in
+        let all = begins_shown (selection_text s) params n n rows begins (itself (state g old) n (same_still clean)) (λ c db statement source. no_recursion s new.schema (has_new clean) c db _ statement.is) in
+        let a = answer (selection_text s) (query_of s) (join_of s).asks params n n (has_new clean) (rows ++ all.0) all.1 in
         let are : AreRowsOf s t caller (state g old).now.trees (rows ++ all.0) =
         subst (λ (d : Database). AreRowsOf s t caller d.trees (rows ++ all.0)) (same_still clean).0.now_is (are_rows_of s t caller n.now.trees (rows ++ all.0) a) in
         let one = (are moments h held).each row (has_left rows all.0 row (has_right so_far.0 (row ∷ []) row (inl refl))) in
@@ -175,9 +175,9 @@ module _ {S : Type 0} (g : Ghosts S) (s : Selection) (caller : ℕ) (t : ℤ) wh
     ended gives = record {
       given = λ clean.
           let so_far = before.numbers (clean_mid clean) in
-          let shown = gives clean (text_of s) params so_far.0 so_far.1 in
+          let shown = gives clean (selection_text s) params so_far.0 so_far.1 in
           let m = state g mid in
-          let a = answer (text_of s) (query_of s) (join_of s).asks params m (state g new) (has_mid clean) so_far.0 shown in
+          let a = answer (selection_text s) (query_of s) (join_of s).asks params m (state g new) (has_mid clean) so_far.0 shown in
           subst (λ (d : Database). AreNumbersOf s t caller d.trees found) (before.same (clean_mid clean)).0.now_is
           (numbers_told (λ h. selects s t h caller) m.now.trees so_far.0 (are_rows_of s t caller m.now.trees so_far.0 a) (Ok found) so_far.2);
       same = same_still;

@@ -2,7 +2,7 @@
 use Rattle.std.proofs.Common.{◌⊎◌, ◌↔◌, inl, inr, ℕ, ℤ, List, [], ◌∷◌, ◌++◌, Ok, Err, Result, IfOk, subst, sym}
 use Rattle.std.specs.List.{Contains}
 use Rattle.land_select_queries.proofs.Containing.{first, first_or_later, in_nothing, later}
-use Rattle.land_select_queries.specs.Joins.Execution.{AnySelectsFor, AreAll, AreNumbersForAny, AreNumbersOf, AreNumbersOfAny}
+use Rattle.land_select_queries.specs.Joins.Execution.{AnySelectsFor, AreExactly, AreNumbersForAny, AreNumbersOf, AreNumbersOfAny}
 use Rattle.land_select_queries.specs.Sights.{AnySelects}
 use Rattle.land_select_queries.specs.declared.sights.selection.Selection.{Selection}
 use Rattle.land_tables_history.specs.declared.history.History.{History}
@@ -52,7 +52,7 @@ one_more ss s t caller db xs ys all more moments h held n =
     )
 
 -- the same numbers, in another order
-pub all_through : (ss : List Selection) (t : ℤ) (caller : ℕ) (db : Trees) (it found : List ℕ) → AreAll it (λ n. Contains found n) → AreNumbersOfAny ss t caller db found → AreNumbersOfAny ss t caller db it
+pub all_through : (ss : List Selection) (t : ℤ) (caller : ℕ) (db : Trees) (it found : List ℕ) → AreExactly it (λ n. Contains found n) → AreNumbersOfAny ss t caller db found → AreNumbersOfAny ss t caller db it
 all_through ss t caller db it found same all moments h held n = ((λ x. (all moments h held n).0 ((same n).0 x)), (λ w. (same n).1 ((all moments h held n).1 w)))
 
 -- ---- a sequence of callers
@@ -102,7 +102,7 @@ one_caller_more ss cs c t db xs ys all more moments h held n =
     )
 
 -- the same numbers, in another order
-pub given_through : (ss : List Selection) (t : ℤ) (cs : List ℕ) (db : Trees) (it found : List ℕ) → AreAll it (λ n. Contains found n) → AreNumbersForAny ss t cs db found → AreNumbersForAny ss t cs db it
+pub given_through : (ss : List Selection) (t : ℤ) (cs : List ℕ) (db : Trees) (it found : List ℕ) → AreExactly it (λ n. Contains found n) → AreNumbersForAny ss t cs db found → AreNumbersForAny ss t cs db it
 given_through ss t cs db it found same all moments h held n = ((λ x. (all moments h held n).0 ((same n).0 x)), (λ w. (same n).1 ((all moments h held n).1 w)))
 
 -- a query with a result, and a known fact, together with their consequence

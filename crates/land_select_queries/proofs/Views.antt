@@ -14,7 +14,7 @@ use Rattle.land_core.specs.declared.rrr.Class.{Class}
 use Rattle.land_core.specs.declared.rrr.Class.TheVariants.{Right, Restriction, Responsibility, Mortgage}
 use Rattle.land_core.specs.declared.rrr.RightType.TheVariants.{Ownership}
 use Rattle.land_core.specs.declared.rrr.RrrRecord.{RrrRecord}
-use Rattle.land_rules.specs.Relations.{holds_under_name, is_creditor_on, is_holder, has_pending_mutation_on, is_mortgage, is_owner, is_right, is_visible_to_creditor, is_visible_to_holder}
+use Rattle.land_rules.specs.Relations.{holds_under_name, is_creditor_on, is_holder, has_pending_mutation_on, is_mortgage_class, is_owner, is_right, is_visible_to_creditor, is_visible_to_holder}
 use Rattle.land_select_queries.proofs.Naming.{Joins, Names, member_decides, names_decides}
 use Rattle.land_select_queries.proofs.Standing.{has_decides, some_decides, there}
 use Rattle.land_select_queries.specs.Sights.Selections.{LodgedPending, Credits, Entry, HoldsItself, HoldsThrough, IsVisibleEntry, IsVisibleToCreditor, IsVisibleToHolder, IsCurrent, IsCurrentUnder, UnitOf}
@@ -138,7 +138,7 @@ module _ (r : Register) (t : ℤ) (h : History) (is : IsRegisterAt t h r) (refer
   telling seen held stands (inr interest) unit yields = inr (record { held = held; interest = interest; stands = stands; unit = sym unit; yields = yields })
 
   abbrev MayBeTold : Entry → Type 0
-  MayBeTold seen = HeldAs t h p is_right seen.1.unit × ((is_mortgage seen.1.class ≡ false) ⊎ HeldAs t h p (is_right_of Ownership) seen.1.unit)
+  MayBeTold seen = HeldAs t h p is_right seen.1.unit × ((is_mortgage_class seen.1.class ≡ false) ⊎ HeldAs t h p (is_right_of Ownership) seen.1.unit)
 
   tell : (seen : Entry) → IsCurrent t h.rrrs seen → MayBeTold seen → ToldToHolder t h p seen
   tell seen stands (held, inl none) = telling seen held.0 stands held.1 held.3 (inl none)
@@ -155,7 +155,7 @@ module _ (r : Register) (t : ℤ) (h : History) (is : IsRegisterAt t h r) (refer
   pub told_to_holder_decides : (seen : Entry) → IsCurrent t h.rrrs seen → Decides (is_visible_to_holder r p seen.1) (ToldToHolder t h p seen)
   told_to_holder_decides seen stands =
       Decides-like (is_visible_to_holder r p seen.1) (tell seen stands) (told seen)
-      (Decides-and _ _ (holder_decides seen.1.unit) (Decides-or _ _ (not_decides (is_mortgage seen.1.class)) (owner_decides seen.1.unit)))
+      (Decides-and _ _ (holder_decides seen.1.unit) (Decides-or _ _ (not_decides (is_mortgage_class seen.1.class)) (owner_decides seen.1.unit)))
 
   -- ---- creditors
 
@@ -165,11 +165,11 @@ module _ (r : Register) (t : ℤ) (h : History) (is : IsRegisterAt t h r) (refer
       (λ it. (it.1.0, record { stands = it.1.1; party = it.1.2.1; class = it.1.2.0.1 }, it.1.2.0.0))
       (λ it. (subst (IsCurrentUnder t h.units) it.2 (unit_exists it.0 it.1.stands), (it.0, it.1.stands, ((it.2, it.1.class), it.1.party))))
       (Decides-and _ _ (has_decides t h.units r.units is.units unit)
-      (some_decides t h.rrrs r.rrrs is.rrrs (λ n e. nat_eq e.unit unit && is_mortgage e.class && nat_eq e.party p) (λ e. ((e.1.unit ≡ unit) × (is_mortgage e.1.class ≡ true)) × (e.1.party ≡ p))
-      (λ e stands. Decides-and _ _ (Decides-and _ _ (Decides-eqb e.1.unit unit) (plain (is_mortgage e.1.class))) (Decides-eqb e.1.party p))))
+      (some_decides t h.rrrs r.rrrs is.rrrs (λ n e. nat_eq e.unit unit && is_mortgage_class e.class && nat_eq e.party p) (λ e. ((e.1.unit ≡ unit) × (is_mortgage_class e.1.class ≡ true)) × (e.1.party ≡ p))
+      (λ e stands. Decides-and _ _ (Decides-and _ _ (Decides-eqb e.1.unit unit) (plain (is_mortgage_class e.1.class))) (Decides-eqb e.1.party p))))
 
   pub told_to_creditor_decides : (seen : Entry) → Decides (is_visible_to_creditor p seen.1) (IsVisibleToCreditor p seen)
-  told_to_creditor_decides seen = Decides-or _ _ (not_decides (is_mortgage seen.1.class)) (Decides-eqb seen.1.party p)
+  told_to_creditor_decides seen = Decides-or _ _ (not_decides (is_mortgage_class seen.1.class)) (Decides-eqb seen.1.party p)
 
   -- ---- lodgers
 

@@ -14,8 +14,8 @@ use Rattle.land_core.specs.declared.rrr.RightType.TheVariants as right
 use Rattle.land_tables_rows.proofs.CellReadings.{text_is}
 use Rattle.land_tables_rows.proofs.Stepping.{same_value, stepped}
 use Rattle.land_tables_rows.specs.Reading.Cells.{number_if, natural_in, null_in, number_in, text_in, amount_in, currency_in, share_in}
-use Rattle.land_tables_rows.specs.Reading.Words.{class_of, class_word_in, role_in, state_in, state_of}
-use Rattle.land_tables_rows.specs.Rrr.Cells.{class_word}
+use Rattle.land_tables_rows.specs.Reading.Words.{entry_class_of, class_word_in, role_in, state_in, mutation_state_of}
+use Rattle.land_tables_rows.specs.Rrr.Cells.{class_column_word}
 use Rattle.land_tables_rows.specs.Rrr.Reading.{burden_in, class_by, mortgage_in, no_mortgage_in, no_right_in, right_in}
 use Rattle.land_tables_rows.specs.declared.reading.words.ClassWord.{ClassWord}
 use Rattle.land_tables_rows.specs.declared.reading.words.ClassWord.TheVariants as word
@@ -59,28 +59,28 @@ no_word wording w y e = let none : ⊥ = cc in absurd none
 no_role : (w : List ℕ) (r : Role) → ◌≡◌ {A = Result Role WireFault} (Err fault.Role) (Ok r) → w ≡ role_word r
 no_role w r e = let none : ⊥ = cc in absurd none
 
-pub state_word_is : (w : List ℕ) (s : MutationState) → state_of w ≡ Ok s → w ≡ state_word s
+pub state_word_is : (w : List ℕ) (s : MutationState) → mutation_state_of w ≡ Ok s → w ≡ state_word s
 state_word_is w s e =
     or_else state_word w (codes "lodged") state.Lodged s _ refl
     (or_else state_word w (codes "approved") state.Approved s _ refl
     (or_else state_word w (codes "refused") state.Refused s _ refl (no_word state_word w s))) e
 
-type_word_is : (w : List ℕ) (t : RightType) → body.type_of w ≡ Ok t → w ≡ right_word t
+type_word_is : (w : List ℕ) (t : RightType) → body.right_type_of w ≡ Ok t → w ≡ right_word t
 type_word_is w t e =
     or_else right_word w (codes "ownership") right.Ownership t _ refl
     (or_else right_word w (codes "lease") right.Lease t _ refl
     (or_else right_word w (codes "usufruct") right.Usufruct t _ refl (no_word right_word w t))) e
 
-right_word_is : (w : List ℕ) (c : ClassWord) → (body.type_of w >>= λ type. Ok (word.Right type)) ≡ Ok c → w ≡ class_word c
+right_word_is : (w : List ℕ) (c : ClassWord) → (body.right_type_of w >>= λ type. Ok (word.Right type)) ≡ Ok c → w ≡ class_column_word c
 right_word_is w c e =
-    let h = stepped (body.type_of w) (λ type. Ok (word.Right type)) c e in
-    type_word_is w h.given h.is ∙ ap class_word (same_value (word.Right h.given) c h.rest)
+    let h = stepped (body.right_type_of w) (λ type. Ok (word.Right type)) c e in
+    type_word_is w h.given h.is ∙ ap class_column_word (same_value (word.Right h.given) c h.rest)
 
-pub class_word_is : (w : List ℕ) (c : ClassWord) → class_of w ≡ Ok c → w ≡ class_word c
+pub class_word_is : (w : List ℕ) (c : ClassWord) → entry_class_of w ≡ Ok c → w ≡ class_column_word c
 class_word_is w c e =
-    or_else class_word w (codes "restriction") word.Restriction c _ refl
-    (or_else class_word w (codes "responsibility") word.Responsibility c _ refl
-    (or_else class_word w (codes "mortgage") word.Mortgage c _ refl (right_word_is w c))) e
+    or_else class_column_word w (codes "restriction") word.Restriction c _ refl
+    (or_else class_column_word w (codes "responsibility") word.Responsibility c _ refl
+    (or_else class_column_word w (codes "mortgage") word.Mortgage c _ refl (right_word_is w c))) e
 
 role_word_is : (w : List ℕ) (r : Role) → body.role_of w ≡ Ok r → w ≡ role_word r
 role_word_is w r e =
@@ -100,13 +100,13 @@ role_cell c r e =
 pub state_cell : (c : Value) (s : MutationState) → state_in c ≡ Ok s → c ≡ Text (state_word s)
 unfolding state_in
 state_cell c s e =
-    let h = stepped (text_in c) state_of s e in
+    let h = stepped (text_in c) mutation_state_of s e in
     text_is c h.given h.is ∙ ap Text (state_word_is h.given s h.rest)
 
-class_cell : (c : Value) (which : ClassWord) → class_word_in c ≡ Ok which → c ≡ Text (class_word which)
+class_cell : (c : Value) (which : ClassWord) → class_word_in c ≡ Ok which → c ≡ Text (class_column_word which)
 unfolding class_word_in
 class_cell c which e =
-    let h = stepped (text_in c) class_of which e in
+    let h = stepped (text_in c) entry_class_of which e in
     text_is c h.given h.is ∙ ap Text (class_word_is h.given which h.rest)
 
 -- ---- the class of an entry
@@ -119,7 +119,7 @@ which_of (class.Responsibility words) = word.Responsibility
 which_of (class.Mortgage amount currency rank) = word.Mortgage
 
 abbrev pub entry_word : Class → List ℕ
-entry_word class = class_word (which_of class)
+entry_word class = class_column_word (which_of class)
 
 which_is : (which : ClassWord) (row : Row) (said : Class) → class_by which row ≡ Ok said → which ≡ which_of said
 unfolding right_in mortgage_in
@@ -143,4 +143,4 @@ which_is word.Mortgage row said e =
     ap which_of (same_value _ said f.rest)
 
 pub entry_cell : (c : Value) (which : ClassWord) (row : Row) (said : Class) → class_word_in c ≡ Ok which → class_by which row ≡ Ok said → c ≡ Text (entry_word said)
-entry_cell c which row said e f = class_cell c which e ∙ ap (λ w. Text (class_word w)) (which_is which row said f)
+entry_cell c which row said e f = class_cell c which e ∙ ap (λ w. Text (class_column_word w)) (which_is which row said f)

@@ -3,7 +3,7 @@ use Rattle.std.proofs.Common.{◌≡◌, ◌-◌, ℕ, List, [], ◌∷◌, leng
 use Rattle.std.proofs.lemmas.Bool.{cases_lt}
 use Rattle.std.specs.List.{AllByRecursion}
 use Rattle.land_shape.specs.Coordinate.{IsCoordinate}
-use Rattle.land_shape.specs.Faults.{SomeOf, HasManyWords, IsNotNumber, IsOutOfRange, Locate, Lists, IsFirstFault, IsOutlineAnswer}
+use Rattle.land_shape.specs.Faults.{SomeOf, HasManyWords, IsNotNumber, IsOutOfRange, Locate, AreLocatedAt, IsFirstFault, IsOutlineAnswer}
 use Rattle.land_shape.specs.Grammar.{Words, Points, Polygon, empty, body, IsPolygon}
 use Rattle.land_shape.specs.Numbers.{coordinate_of}
 use Rattle.land_shape.specs.Outline.{IsNear, doubled_area, ring_of}
@@ -78,7 +78,7 @@ located (x ∷ y ∷ []) two numbers near = go (coordinate_of x) (coordinate_of 
 located (x ∷ y ∷ z ∷ words) two numbers near = absurd (omega arith)
 
 Placed : Points → Type 0
-Placed points = (ps : List Place) × (Lists points ps) × (AllByRecursion IsNear ps)
+Placed points = (ps : List Place) × (AreLocatedAt points ps) × (AllByRecursion IsNear ps)
 
 all_placed : (points : Points) → AllByRecursion HasTwoWords points → ¬ SomeOf (SomeOf IsNotNumber) points → ¬ SomeOf (SomeOf IsOutOfRange) points → Placed points
 unfolding Placed Located

@@ -9,7 +9,7 @@ use mir.Val.{SFits}
 use Rattle.land_shape.specs.Coordinate.{IsCoordinate}
 use Rattle.land_shape.specs.Place.{Place}
 use Rattle.land_shape.specs.Segment.{HaveCommonPoint, MeetOnlyAt}
-use Rattle.land_shape.specs.Simple.{joint, place_at, next_at, MeetOnlyAtJoint}
+use Rattle.land_shape.specs.Simple.{joint, place_at, next_place_at, MeetOnlyAtJoint}
 use Rattle.land_shape.specs.Turns.{Overlap, BoxesOverlap, IsInBox, HoldsEdges}
 use Rattle.land_shape.proofs.Meeting.{common-boxes}
 
@@ -25,13 +25,13 @@ common-reaches least greatest a b c d first second common =
     (wider _ _ _ _ _ _ first.left first.right second.left second.right boxes.0, wider _ _ _ _ _ _ first.low first.high second.low second.high boxes.1)
 
 -- edges with no point in common meet rightly, neighbours or not
-pub apart-rightly : (ps : List Place) (i j : ℕ) → ¬ HaveCommonPoint (place_at ps i) (next_at ps i) (place_at ps j) (next_at ps j) → MeetOnlyAtJoint ps i j
+pub apart-rightly : (ps : List Place) (i j : ℕ) → ¬ HaveCommonPoint (place_at ps i) (next_place_at ps i) (place_at ps j) (next_place_at ps j) → MeetOnlyAtJoint ps i j
 unfolding MeetOnlyAtJoint
 apart-rightly ps i j apart = go (joint (length ps) i j)
   where
     go : (o : Option ℕ) → MatchOption o
-        (¬ HaveCommonPoint (place_at ps i) (next_at ps i) (place_at ps j) (next_at ps j))
-        (λ k. MeetOnlyAt (place_at ps k) (place_at ps i) (next_at ps i) (place_at ps j) (next_at ps j))
+        (¬ HaveCommonPoint (place_at ps i) (next_place_at ps i) (place_at ps j) (next_place_at ps j))
+        (λ k. MeetOnlyAt (place_at ps k) (place_at ps i) (next_place_at ps i) (place_at ps j) (next_place_at ps j))
     go None = apart
     go (Some k) = record {
       x_there = λ q s r one. absurd (apart (record { q = q; s = s; r = r; one = one }));
@@ -39,8 +39,8 @@ apart-rightly ps i j apart = go (joint (length ps) i j)
     }
 
 -- an edge inside a box and one that does not reach the box meet rightly
-pub beside-rightly : (ps : List Place) (i j : ℕ) (least greatest c d : Place) → IsInBox least greatest (place_at ps i) × IsInBox least greatest (next_at ps i)
-    → c ≡ place_at ps j → d ≡ next_at ps j → ¬ BoxesOverlap least greatest c d → MeetOnlyAtJoint ps i j
+pub beside-rightly : (ps : List Place) (i j : ℕ) (least greatest c d : Place) → IsInBox least greatest (place_at ps i) × IsInBox least greatest (next_place_at ps i)
+    → c ≡ place_at ps j → d ≡ next_place_at ps j → ¬ BoxesOverlap least greatest c d → MeetOnlyAtJoint ps i j
 beside-rightly ps i j least greatest c d inside from to beside =
     apart-rightly ps i j
     (λ common. beside (rw (from, to) (common-reaches least greatest _ _ _ _ inside.0 inside.1 common)))
@@ -88,12 +88,12 @@ stretched-still least greatest place low high s p h = record {
 }
 
 pub holds_more : (ps : List Place) (start i : ℕ) (least greatest low high : Place) → HoldsEdges ps start i least greatest
-    → ((p : Place) → IsInBox least greatest p → IsInBox low high p) → IsInBox low high (place_at ps i) → IsInBox low high (next_at ps i)
+    → ((p : Place) → IsInBox least greatest p → IsInBox low high p) → IsInBox low high (place_at ps i) → IsInBox low high (next_place_at ps i)
     → HoldsEdges ps start (i + 1) low high
 holds_more ps start i least greatest low high holds still from to k above below =
     elim (cases_lt k i) [
       | inl lt ↦ (still _ (holds k above lt).0, still _ (holds k above lt).1)
-      | inr ge ↦ (let e : i ≡ k = omega arith in subst (λ (n : ℕ). IsInBox low high (place_at ps n) × IsInBox low high (next_at ps n)) e (from, to))
+      | inr ge ↦ (let e : i ≡ k = omega arith in subst (λ (n : ℕ). IsInBox low high (place_at ps n) × IsInBox low high (next_place_at ps n)) e (from, to))
     ]
 
 -- ---- pairs of edges, by the later one

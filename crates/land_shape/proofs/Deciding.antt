@@ -9,7 +9,7 @@ use lib.Signed.{◌≤ℤ◌}
 use Rattle.land_shape.specs.Coordinate.{cross_of, dot_of}
 use Rattle.land_shape.specs.Place.{Place, area_of, ring_edges}
 use Rattle.land_shape.specs.Segment.{HaveCommonPoint, MeetOnlyAt}
-use Rattle.land_shape.specs.Simple.{place_at, next_at, HaveLength, AllMeetOnlyAtJoints, MeetOnlyAtJoint, IsSimple}
+use Rattle.land_shape.specs.Simple.{place_at, next_place_at, HaveLength, AllMeetOnlyAtJoints, MeetOnlyAtJoint, IsSimple}
 use Rattle.land_shape.specs.Turns.{Overlap, BoxesOverlap, AreInside, AreTurns}
 use Rattle.land_shape.proofs.CornerLemmas.{meet-following, meet-around, meet-apart}
 use Rattle.land_shape.proofs.Folding.{IsAhead, ahead, HasManyWords-ends}
@@ -101,27 +101,27 @@ all_below (suc n) P d = go (all_below n P (λ i h. d i (omega arith))) (d n (ome
     go (inr m) d = inr (λ h. m (λ i k. h i (omega arith)))
 
 have_length : (ps : List Place) → Decided (HaveLength ps)
-have_length ps = all_below (length ps) (λ i. ¬ (place_at ps i ≡ next_at ps i)) (λ i h. neither (place (place_at ps i) (next_at ps i)))
+have_length ps = all_below (length ps) (λ i. ¬ (place_at ps i ≡ next_place_at ps i)) (λ i h. neither (place (place_at ps i) (next_place_at ps i)))
 
 same_number : (i j : ℕ) → Decided (i ≡ j)
 same_number i j = elim (cases_order i j) [ inl e ↦ inl e | inr r ↦ elim r [ inl lt ↦ inr (λ e. omega arith) | inr gt ↦ inr (λ e. omega arith) ] ]
 
-next_is : (ps : List Place) (i : ℕ) → i + 1 < length ps → next_at ps i ≡ place_at ps (i + 1)
+next_is : (ps : List Place) (i : ℕ) → i + 1 < length ps → next_place_at ps i ≡ place_at ps (i + 1)
 next_is ps i h = let e : (i + 1 == length ps) ≡ false = grind (arith, nat_tests) in rw e refl
 
-next_of_last : (ps : List Place) (j : ℕ) → j + 1 ≡ length ps → next_at ps j ≡ place_at ps 0
+next_of_last : (ps : List Place) (j : ℕ) → j + 1 ≡ length ps → next_place_at ps j ≡ place_at ps 0
 next_of_last ps j h = let e : (j + 1 == length ps) ≡ true = grind (arith, nat_tests) in rw e refl
 
 following : (ps : List Place) → HaveLength ps → (i j : ℕ) → j ≡ i + 1 → j < length ps → Decided (MeetOnlyAtJoint ps i j)
 following ps long i j e within =
-    let next : next_at ps i ≡ place_at ps j = next_is ps i (omega arith) ∙ ap (place_at ps) (sym e) in
-    back (meet-following ps i j e within) (at_joint (place_at ps i) (place_at ps j) (next_at ps j) (λ h. long i (omega arith) (h ∙ sym next)))
+    let next : next_place_at ps i ≡ place_at ps j = next_is ps i (omega arith) ∙ ap (place_at ps) (sym e) in
+    back (meet-following ps i j e within) (at_joint (place_at ps i) (place_at ps j) (next_place_at ps j) (λ h. long i (omega arith) (h ∙ sym next)))
 
 around : (ps : List Place) → HaveLength ps → (i j : ℕ) → i ≡ 0 → 1 < j → j + 1 ≡ length ps → Decided (MeetOnlyAtJoint ps i j)
 around ps long i j first above last =
     let P : ℕ → Type 0 = λ k. Decided (MeetOnlyAtJoint ps k j) in
     subst P (sym first)
-    (back (meet-around ps j above last) (at_joint (place_at ps j) (place_at ps 0) (next_at ps 0) (λ h. long j (omega arith) (h ∙ sym (next_of_last ps j last)))))
+    (back (meet-around ps j above last) (at_joint (place_at ps j) (place_at ps 0) (next_place_at ps 0) (λ h. long j (omega arith) (h ∙ sym (next_of_last ps j last)))))
 
 pair : (ps : List Place) → HaveLength ps → (j : ℕ) → j < length ps → (i : ℕ) → i < j → Decided (MeetOnlyAtJoint ps i j)
 pair ps long j within i order = go (same_number j (i + 1)) (both (same_number i 0) (same_number (j + 1) (length ps)))
@@ -129,7 +129,7 @@ pair ps long j within i order = go (same_number j (i + 1)) (both (same_number i 
     go : Decided (j ≡ i + 1) → Decided ((i ≡ 0) × (j + 1 ≡ length ps)) → Decided (MeetOnlyAtJoint ps i j)
     go (inl e) d = following ps long i j e within
     go (inr n) (inl h) = around ps long i j h.0 (elim (cases_lt 1 j) [ inl lt ↦ lt | inr ge ↦ absurd (n (omega (arith, h.0))) ]) h.1
-    go (inr n) (inr m) = back (meet-apart ps i j n m) (neither (common (place_at ps i) (next_at ps i) (place_at ps j) (next_at ps j)))
+    go (inr n) (inr m) = back (meet-apart ps i j n m) (neither (common (place_at ps i) (next_place_at ps i) (place_at ps j) (next_place_at ps j)))
 
 apart : (ps : List Place) → HaveLength ps → Decided (AllMeetOnlyAtJoints ps)
 apart ps long =

@@ -6,8 +6,8 @@ use lib.IntN.{ℤ}
 use Rattle.land_shape.specs.declared.faults.ShapeFault.{ShapeFault}
 use Rattle.land_shape.specs.declared.faults.ShapeFault.TheVariants.{NotPolygon, Empty, Inner, ZOrM, Number, Range, FewPoints, ManyPoints, NotClosed, NotSimple, AreaTooLarge, NoMemory}
 use Rattle.land_shape.specs.Coordinate.{IsCoordinate}
-use Rattle.land_shape.specs.FaultTexts.{number_of}
-use Rattle.land_shape.specs.Faults.{SomeOf, HasPoint, HasWord, HasManyWords, IsNotNumber, IsOutOfRange, Locate, Lists, HasBodyWhere, ListsPlacesWhere, ListsPlaces, HasFault, IsFirstFault, Denotes}
+use Rattle.land_shape.specs.FaultTexts.{shape_fault_number}
+use Rattle.land_shape.specs.Faults.{SomeOf, HasPoint, HasWord, HasManyWords, IsNotNumber, IsOutOfRange, Locate, AreLocatedAt, HasBodyWhere, ListsPlacesWhere, ListsPlaces, HasFault, IsFirstFault, Denotes}
 use Rattle.land_shape.specs.Grammar.{Words, Points, Rings, Polygon, empty, body, IsPolygon}
 use Rattle.land_shape.specs.Outline.{IsNear, IsOutline, ring_of, doubled_area}
 use Rattle.land_shape.specs.Place.{Place}
@@ -37,7 +37,7 @@ same_place (x ∷ y ∷ []) p q h k =
     made e f = cc
 same_place _ p q h k = absurd h
 
-pub same_list : (points : Points) (ps qs : List Place) → Lists points ps → Lists points qs → ps ≡ qs
+pub same_list : (points : Points) (ps qs : List Place) → AreLocatedAt points ps → AreLocatedAt points qs → ps ≡ qs
 same_list [] [] [] h k = refl
 same_list (words ∷ points) (p ∷ ps) (q ∷ qs) h k =
     let e = same_place words p q h.0 k.0 in let f = same_list points ps qs h.1 k.1 in cc
@@ -59,7 +59,7 @@ numbers_in (x ∷ y ∷ []) p l (inr (inl h)) = let e = l.1 in cc
 numbers_in (x ∷ y ∷ []) p l (inr (inr h)) = h
 numbers_in _ p l h = absurd l
 
-pub all_numbers : (points : Points) (ps : List Place) → Lists points ps → ¬ SomeOf (SomeOf IsNotNumber) points
+pub all_numbers : (points : Points) (ps : List Place) → AreLocatedAt points ps → ¬ SomeOf (SomeOf IsNotNumber) points
 all_numbers [] ps l h = h
 all_numbers (words ∷ points) (p ∷ ps) l (inl h) = numbers_in words p l.0 h
 all_numbers (words ∷ points) (p ∷ ps) l (inr h) = all_numbers points ps l.1 h
@@ -71,7 +71,7 @@ near_in (x ∷ y ∷ []) p l n (inr (inl (z, h))) = let e : z ≡ p.y = (let a =
 near_in (x ∷ y ∷ []) p l n (inr (inr h)) = h
 near_in _ p l n h = absurd l
 
-pub all_near : (points : Points) (ps : List Place) → Lists points ps → AllByRecursion IsNear ps → ¬ SomeOf (SomeOf IsOutOfRange) points
+pub all_near : (points : Points) (ps : List Place) → AreLocatedAt points ps → AllByRecursion IsNear ps → ¬ SomeOf (SomeOf IsOutOfRange) points
 all_near [] ps l n h = h
 all_near (words ∷ points) (p ∷ ps) l n (inl h) = near_in words p l.0 n.0 h
 all_near (words ∷ points) (p ∷ ps) l n (inr h) = all_near points ps l.1 n.1 h
@@ -84,7 +84,7 @@ fault_of n =
     cond (n == 110) NotPolygon (cond (n == 111) Empty (cond (n == 112) Inner (cond (n == 113) ZOrM (cond (n == 114) Number (cond (n == 115) Range
     (cond (n == 116) FewPoints (cond (n == 117) ManyPoints (cond (n == 118) NotClosed (cond (n == 119) NotSimple (cond (n == 120) AreaTooLarge NoMemory))))))))))
 
-fault_of-number : (f : ShapeFault) → fault_of (number_of f) ≡ f
+fault_of-number : (f : ShapeFault) → fault_of (shape_fault_number f) ≡ f
 unfolding fault_of
 fault_of-number NotPolygon = refl
 fault_of-number Empty = refl
@@ -99,26 +99,26 @@ fault_of-number NotSimple = refl
 fault_of-number AreaTooLarge = refl
 fault_of-number NoMemory = refl
 
-pub same_fault : (f g : ShapeFault) → number_of f ≡ number_of g → f ≡ g
+pub same_fault : (f g : ShapeFault) → shape_fault_number f ≡ shape_fault_number g → f ≡ g
 same_fault f g e = sym (fault_of-number f) ∙ ap fault_of e ∙ fault_of-number g
 
 -- no fault below a number holds
 abbrev pub NoneBelow : List ℕ → ℕ → Type 0
-NoneBelow text n = (other : ShapeFault) → number_of other < n → ¬ HasFault other text
+NoneBelow text n = (other : ShapeFault) → shape_fault_number other < n → ¬ HasFault other text
 
 below_or_at : (m n : ℕ) → m < n + 1 → (m < n) ⊎ (m ≡ n)
 below_or_at m n h = grind arith
 
-least_number : (f : ShapeFault) → 110 ≤ number_of f
+least_number : (f : ShapeFault) → 110 ≤ shape_fault_number f
 least_number NotPolygon = omega arith
 least_number _ = omega arith
 
 none_below_110 : (text : List ℕ) → NoneBelow text 110
 none_below_110 text other h f = let least = least_number other in absurd (omega arith)
 
-next : (text : List ℕ) (fault : ShapeFault) (n : ℕ) → number_of fault ≡ n → NoneBelow text n → ¬ HasFault fault text → NoneBelow text (n + 1)
+next : (text : List ℕ) (fault : ShapeFault) (n : ℕ) → shape_fault_number fault ≡ n → NoneBelow text n → ¬ HasFault fault text → NoneBelow text (n + 1)
 next text fault n is none not_this other below =
-    elim (below_or_at (number_of other) n below) [
+    elim (below_or_at (shape_fault_number other) n below) [
       | inl less ↦ none other less
       | inr at ↦ (let same = same_fault other fault (at ∙ sym is) in subst (λ (f : ShapeFault). ¬ HasFault f text) (sym same) not_this)
     ]
@@ -206,7 +206,7 @@ pub listed_once : (text : List ℕ) (ps qs : List Place) → ListsPlaces text ps
 listed_once text ps qs k l =
     let e = same_polygon text (body k.tagged (k.points ∷ [])) (body l.tagged (l.points ∷ [])) k.is_polygon l.is_polygon in
     let same : k.points ≡ l.points = cc in
-    same_list l.points ps qs (subst (λ (points : Points). Lists points ps) same k.lists) l.lists
+    same_list l.points ps qs (subst (λ (points : Points). AreLocatedAt points ps) same k.lists) l.lists
 
 -- a property of a list of places holds of the only list
 in_list : (text : List ℕ) (P : List Place → Type 0) (ps : List Place) → ListsPlaces text ps → ListsPlacesWhere text P → P ps

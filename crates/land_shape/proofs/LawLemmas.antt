@@ -9,8 +9,8 @@ use lib.Signed.{◌<ℤ◌, mag}
 use Rattle.land_shape.specs.declared.faults.ShapeFault.{ShapeFault}
 use Rattle.land_shape.specs.declared.tokens.Token.TheVariants.{Word}
 use Rattle.land_shape.specs.Coordinate.{IsCoordinate}
-use Rattle.land_shape.specs.FaultTexts.{number_of}
-use Rattle.land_shape.specs.Faults.{IsFirstFault, Denotes, Lists}
+use Rattle.land_shape.specs.FaultTexts.{shape_fault_number}
+use Rattle.land_shape.specs.Faults.{IsFirstFault, Denotes, AreLocatedAt}
 use Rattle.land_shape.specs.Grammar.{body, IsPoint, IsPolygon}
 use Rattle.land_shape.specs.Laws.{PrintedLaw, OneAnswerLaw}
 use Rattle.land_shape.specs.Outline.{IsNear, IsOutline, counterclockwise_ring, ring_of}
@@ -43,7 +43,7 @@ points_each : (ps : List Place) → AllByRecursion IsPoint (map words_of ps)
 points_each [] = tt
 points_each (p ∷ ps) = ((omega arith, omega arith), points_each ps)
 
-lists_printed : (ps : List Place) → AllByRecursion IsSmall ps → Lists (map words_of ps) ps
+lists_printed : (ps : List Place) → AllByRecursion IsSmall ps → AreLocatedAt (map words_of ps) ps
 lists_printed [] h = tt
 lists_printed (p ∷ ps) h = ((coordinate_printed p.x h.0.0, coordinate_printed p.y h.0.1), lists_printed ps h.1)
 
@@ -115,7 +115,7 @@ less_or_more m n h k = omega arith
 one_fault : (text : List ℕ) (fault other : ShapeFault) → IsFirstFault text fault → IsFirstFault text other → fault ≡ other
 one_fault text fault other f g =
     same_fault fault other
-    (less_or_more (number_of fault) (number_of other) (λ l. g.none_before fault l f.holds) (λ l. f.none_before other l g.holds))
+    (less_or_more (shape_fault_number fault) (shape_fault_number other) (λ l. g.none_before fault l f.holds) (λ l. f.none_before other l g.holds))
 
 pub printed_law : PrintedLaw
 printed_law = record {

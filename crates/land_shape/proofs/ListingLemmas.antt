@@ -7,7 +7,7 @@ use Rattle.land_shape.specs.declared.faults.ShapeFault.{ShapeFault}
 use Rattle.land_shape.specs.declared.faults.ShapeFault.TheVariants.{Number, Range}
 use Rattle.land_shape.specs.declared.plane.Point.{Point}
 use Rattle.land_shape.specs.Grammar.{Words, Points, Rings, IsPoint}
-use Rattle.land_shape.specs.Faults.{SomeOf, HasManyWords, IsNotNumber, IsOutOfRange, Locate, Lists}
+use Rattle.land_shape.specs.Faults.{SomeOf, HasManyWords, IsNotNumber, IsOutOfRange, Locate, AreLocatedAt}
 use Rattle.land_shape.specs.Outline.{IsNear}
 use Rattle.land_shape.specs.Place.{Place}
 use Rattle.land_shape.specs.Simple.{place_of, places}
@@ -58,15 +58,15 @@ wrong_second words x y f h ex ey k = subst (λ (ws : Words). ReadsPoint ws (Err 
 
 -- ---- lists of points
 
-lists-push : (points : Points) (ps : List Place) (words : Words) (p : Place) → Lists points ps → Locate words p
-    → Lists (points ++ words ∷ []) (ps ++ p ∷ [])
+lists-push : (points : Points) (ps : List Place) (words : Words) (p : Place) → AreLocatedAt points ps → Locate words p
+    → AreLocatedAt (points ++ words ∷ []) (ps ++ p ∷ [])
 lists-push [] [] words p h k = (k, tt)
 lists-push (w ∷ points) (q ∷ ps) words p h k = (h.0, lists-push points ps words p h.1 k)
 lists-push [] (q ∷ ps) words p h k = absurd h
 lists-push (w ∷ points) [] words p h k = absurd h
 
 pub lists_more : (ring : Points) (i : ℕ) (words : Words) (ps : List Point) (p : Point) → i < length ring → words ≡ get_or ring i words
-    → Lists (take i ring) (places ps) → Locate words (place_of p) → Lists (take (i + 1) ring) (places (ps ++ p ∷ []))
+    → AreLocatedAt (take i ring) (places ps) → Locate words (place_of p) → AreLocatedAt (take (i + 1) ring) (places (ps ++ p ∷ []))
 lists_more ring i words ps p h is so_far here =
     rw (take_more ring i words h ∙ ap (λ (w : Words). take i ring ++ w ∷ []) (sym is), map-append place_of ps (p ∷ []))
     (lists-push (take i ring) (places ps) words (place_of p) so_far here)

@@ -6,7 +6,7 @@ use Rattle.std.specs.Option.{option_map}
 use Rattle.std.specs.Str.{str_eq_ignore_ascii_case, str_to_ascii_lowercase}
 use Rattle.land_shape.specs.declared.tokens.Token.{Token}
 use Rattle.land_shape.specs.declared.tokens.Token.TheVariants.{Open, Close, Comma, Word}
-use Rattle.land_shape.specs.Grammar.{Rings, Polygon, empty, body, body_tokens, is_keyword, is_tag, is_tagged_keyword, is_empty_word, IsHead, IsBody, IsWritten}
+use Rattle.land_shape.specs.Grammar.{Rings, Polygon, empty, body, body_tokens, is_keyword, is_tag, is_tagged_keyword, is_empty_word, IsHead, IsPolygonBody, IsWritten}
 use Rattle.land_shape.specs.Reader.{split_tag, is_only_empty_word, polygon_after, polygon_of, body_of}
 use Rattle.land_shape.proofs.GrammarLemmas.{either_way, body_written, body_means}
 
@@ -26,7 +26,7 @@ no_tag w h = rw (spelled w (codes "empty") h) refl
 after_empty : (tagged : Bool) (w : List ℕ) → is_empty_word w ≡ true → polygon_after (tagged, Word w ∷ []) ≡ Some empty
 after_empty tagged w h = rw h refl
 
-after_body : (tagged : Bool) (rings : Rings) → IsBody rings → polygon_after (tagged, body_tokens rings) ≡ Some (body tagged rings)
+after_body : (tagged : Bool) (rings : Rings) → IsPolygonBody rings → polygon_after (tagged, body_tokens rings) ≡ Some (body tagged rings)
 after_body tagged rings h = ap (λ (o : Option Rings). option_map (body tagged) o) (body_written rings h)
 
 empty_written : (tagged : Bool) (head : List Token) (w : List ℕ) → IsHead tagged head → is_empty_word w ≡ true
@@ -36,7 +36,7 @@ empty_written true (Word k ∷ []) w h e = rw h (after_empty true w e)
 empty_written true (Word k ∷ Word t ∷ []) w h e = rw (plain_keyword k h.0, h.0, h.1) (after_empty true w e)
 empty_written _ _ w h e = absurd h
 
-bodied_written : (tagged : Bool) (head : List Token) (rings : Rings) → IsHead tagged head → IsBody rings
+bodied_written : (tagged : Bool) (head : List Token) (rings : Rings) → IsHead tagged head → IsPolygonBody rings
     → polygon_of (head ++ body_tokens rings) ≡ Some (body tagged rings)
 bodied_written false (Word k ∷ []) rings h b = rw (plain_keyword k h, h) (after_body false rings b)
 bodied_written true (Word k ∷ []) rings h b = rw h (after_body true rings b)

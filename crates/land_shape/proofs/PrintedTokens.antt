@@ -14,7 +14,7 @@ use Rattle.land_shape.specs.Place.{Place}
 use Rattle.land_shape.specs.Tokens.{is_word_byte, word_of, tokens_after, tokens_of, mark_of}
 use Rattle.land_shape.specs.declared.tokens.Token.{Token}
 use Rattle.land_shape.specs.declared.tokens.Token.TheVariants.{Open, Close, Comma, Word}
-use Rattle.land_shape.specs.Grammar.{Words, with_commas, point_tokens, body_tokens}
+use Rattle.land_shape.specs.Grammar.{Words, parts_with_commas, point_tokens, body_tokens}
 use Rattle.land_shape.specs.Printed.{point_text, points_text, polygon_text}
 
 and_left : (a b : Bool) → (a && b) ≡ true → a ≡ true
@@ -79,7 +79,7 @@ point_ends p b rest h stop =
     ∙ ap (λ (s : List Token). Word (signed_decimal p.x) ∷ s) (word_ends (signed_decimal p.y) rest b y.0 y.1 stop)
 
 points_end : (p : Place) (ps : List Place) (rest : List ℕ) → AllByRecursion IsSmall (p ∷ ps)
-    → tokens_after [] (points_text (p ∷ ps) ++ 41 ∷ rest) ≡ with_commas (map point_tokens (map words_of (p ∷ ps))) ++ Close ∷ tokens_after [] rest
+    → tokens_after [] (points_text (p ∷ ps) ++ 41 ∷ rest) ≡ parts_with_commas (map point_tokens (map words_of (p ∷ ps))) ++ Close ∷ tokens_after [] rest
 points_end p [] rest h = point_ends p 41 rest h.0 refl
 points_end p (q ∷ ps) rest h =
     ap (λ (s : List ℕ). tokens_after [] s) (append_assoc (point_text p) (44 ∷ 32 ∷ points_text (q ∷ ps)) (41 ∷ rest))
@@ -91,4 +91,4 @@ pub printed_tokens : (p : Place) (ps : List Place) → AllByRecursion IsSmall ((
     → tokens_of (polygon_text (p ∷ ps)) ≡ Word (codes "POLYGON") ∷ body_tokens (map words_of ((p ∷ ps) ++ p ∷ []) ∷ [])
 printed_tokens p ps h =
     ap (λ (s : List Token). Word (codes "POLYGON") ∷ Open ∷ Open ∷ s)
-    (points_end p (ps ++ p ∷ []) (41 ∷ []) h ∙ sym (append_assoc (with_commas (map point_tokens (map words_of (p ∷ (ps ++ p ∷ []))))) (Close ∷ []) (Close ∷ [])))
+    (points_end p (ps ++ p ∷ []) (41 ∷ []) h ∙ sym (append_assoc (parts_with_commas (map point_tokens (map words_of (p ∷ (ps ++ p ∷ []))))) (Close ∷ []) (Close ∷ [])))

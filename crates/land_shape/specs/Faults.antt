@@ -6,7 +6,7 @@ use Rattle.land_shape.specs.declared.faults.ShapeFault.TheVariants.{NotPolygon, 
 use Rattle.land_shape.specs.declared.faults.ShapeFault.TheVariants.{Range, FewPoints, ManyPoints, NotClosed}
 use Rattle.land_shape.specs.declared.faults.ShapeFault.TheVariants.{NotSimple, AreaTooLarge, NoMemory}
 use Rattle.land_shape.specs.Coordinate.{IsCoordinate}
-use Rattle.land_shape.specs.FaultTexts.{number_of}
+use Rattle.land_shape.specs.FaultTexts.{shape_fault_number}
 use Rattle.land_shape.specs.Grammar.{Words, Points, Rings, Polygon, empty, body, IsPolygon}
 use Rattle.land_shape.specs.Numbers.{coordinate_of}
 use Rattle.land_shape.specs.Outline.{ring_of, doubled_area}
@@ -41,10 +41,10 @@ Locate (x ∷ y ∷ []) place = (coordinate_of x ≡ Some place.x) × (coordinat
 Locate _ place = ⊥
 
 -- the points are these places
-abbrev pub Lists : Points → List Place → Type 0
-Lists [] [] = Unit {0}
-Lists (words ∷ points) (place ∷ places) = Locate words place × Lists points places
-Lists _ _ = ⊥
+abbrev pub AreLocatedAt : Points → List Place → Type 0
+AreLocatedAt [] [] = Unit {0}
+AreLocatedAt (words ∷ points) (place ∷ places) = Locate words place × AreLocatedAt points places
+AreLocatedAt _ _ = ⊥
 
 -- ---- texts
 
@@ -60,7 +60,7 @@ pub record ListsPlaces (text : List ℕ) (places : List Place) : Type 0 where
   pub tagged : Bool
   pub points : Points
   pub is_polygon : IsPolygon text (body tagged (points ∷ []))
-  pub lists : Lists points places
+  pub lists : AreLocatedAt points places
 
 abbrev pub ListsPlacesWhere : List ℕ → (List Place → Type 0) → Type 0
 ListsPlacesWhere text P = (places : List Place) × (ListsPlaces text places × P places)
@@ -86,7 +86,8 @@ HasFault NoMemory text = ⊥
 -- the fault holds, and none with a lower number does
 pub record IsFirstFault (text : List ℕ) (fault : ShapeFault) : Type 0 where
   pub holds : HasFault fault text
-  pub none_before : (other : ShapeFault) → number_of other < number_of fault → ¬ HasFault other text
+  pub none_before : (other : ShapeFault) → shape_fault_number other < shape_fault_number fault
+      → ¬ HasFault other text
 
 -- no fault holds, and the ring is that of the places that the text lists
 pub record Denotes (text : List ℕ) (ring : List Place) : Type 0 where

@@ -49,13 +49,13 @@ abbrev pub Rings : Type 0
 Rings = List Points
 
 -- parts with commas between them
-abbrev pub with_commas : List (List Token) → List Token
-with_commas [] = []
-with_commas (part ∷ []) = part
-with_commas (part ∷ next ∷ parts) = part ++ Comma ∷ with_commas (next ∷ parts)
+abbrev pub parts_with_commas : List (List Token) → List Token
+parts_with_commas [] = []
+parts_with_commas (part ∷ []) = part
+parts_with_commas (part ∷ next ∷ parts) = part ++ Comma ∷ parts_with_commas (next ∷ parts)
 
 abbrev pub in_parentheses : List (List Token) → List Token
-in_parentheses parts = Open ∷ with_commas parts ++ Close ∷ []
+in_parentheses parts = Open ∷ parts_with_commas parts ++ Close ∷ []
 
 abbrev pub point_tokens : Words → List Token
 point_tokens words = map Word words
@@ -73,8 +73,8 @@ IsPoint words = (2 ≤ length words) × (length words ≤ 4)
 abbrev pub IsRing : Points → Type 0
 IsRing points = (1 ≤ length points) × AllByRecursion IsPoint points
 
-abbrev pub IsBody : Rings → Type 0
-IsBody rings = (1 ≤ length rings) × AllByRecursion IsRing rings
+abbrev pub IsPolygonBody : Rings → Type 0
+IsPolygonBody rings = (1 ≤ length rings) × AllByRecursion IsRing rings
 
 -- ---- whole texts
 
@@ -94,7 +94,7 @@ pub record HasNoBody (tokens : List Token) : Type 0 where
 pub record HasBody (tokens : List Token) (tagged : Bool) (rings : Rings) : Type 0 where
   pub head : List Token
   pub is_head : IsHead tagged head
-  pub is_body : IsBody rings
+  pub is_body : IsPolygonBody rings
   pub whole : tokens ≡ head ++ body_tokens rings
 
 abbrev pub IsWritten : List Token → Polygon → Type 0

@@ -22,5 +22,5 @@ pub record OneAnswerLaw : Type 0 where
       → ¬ IsFirstFault text fault
 
 -- each text has a result: the ring that it denotes, or a first fault
-abbrev pub AnswerLaw : Type 0
-AnswerLaw = (text : List ℕ) → (answer : Result (List Place) ShapeFault) × IsOutlineAnswer text answer
+abbrev pub OutlineAnswerLaw : Type 0
+OutlineAnswerLaw = (text : List ℕ) → (answer : Result (List Place) ShapeFault) × IsOutlineAnswer text answer

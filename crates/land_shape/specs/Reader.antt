@@ -15,33 +15,33 @@ use Rattle.land_shape.specs.Grammar.{Words, Points, Rings, Polygon, empty, body,
 use Rattle.land_shape.specs.Grammar.{is_tagged_keyword, is_empty_word}
 
 -- the state of reading a body
-pub record Reading : Type 0 where
+pub record ReaderState : Type 0 where
   pub at : At
   pub rings : Rings
   pub points : Points
   pub words : Words
 
-abbrev pub progress_of : Progress → Reading
+abbrev pub progress_of : Progress → ReaderState
 progress_of p = record { at = p.at; rings = p.rings.items; points = p.points.items; words = p.words.items }
 
-abbrev pub start_of_body : Reading
+abbrev pub start_of_body : ReaderState
 start_of_body = record { at = BeforeBody; rings = []; points = []; words = [] }
 
 abbrev pub is_point : Words → Bool
 is_point words = nat_le 2 (length words) && nat_le (length words) 4
 
-abbrev pub with_word : Reading → List ℕ → Reading
+abbrev pub with_word : ReaderState → List ℕ → ReaderState
 with_word r w = record r { words = r.words ++ w ∷ [] }
 
 -- the current point is complete
-abbrev pub with_point : Reading → Reading
+abbrev pub with_point : ReaderState → ReaderState
 with_point r = record r { points = r.points ++ r.words ∷ []; words = [] }
 
 -- the current ring is complete
-abbrev pub with_ring : Reading → Reading
+abbrev pub with_ring : ReaderState → ReaderState
 with_ring r = record r { at = AfterRing; rings = r.rings ++ r.points ∷ []; points = [] }
 
-abbrev pub after_token_at : At → Token → Reading → Option Reading
+abbrev pub after_token_at : At → Token → ReaderState → Option ReaderState
 after_token_at BeforeBody Open r = Some (record r { at = BeforeRing })
 after_token_at BeforeRing Open r = Some (record r { at = InPoint })
 after_token_at InPoint (Word w) r = Some (with_word r w)
@@ -52,12 +52,12 @@ after_token_at AfterRing Close r = Some (record r { at = AfterBody })
 after_token_at _ _ r = None
 
 -- the state after one more token; None if a body cannot continue with it
-abbrev pub after : Reading → Token → Option Reading
-after r token = after_token_at r.at token r
+abbrev pub after_token : ReaderState → Token → Option ReaderState
+after_token r token = after_token_at r.at token r
 
-abbrev pub after_all : Reading → List Token → Option Reading
+abbrev pub after_all : ReaderState → List Token → Option ReaderState
 after_all r [] = Some r
-after_all r (t ∷ ts) = option_and_then (λ s. after_all s ts) (after r t)
+after_all r (t ∷ ts) = option_and_then (λ s. after_all s ts) (after_token r t)
 
 abbrev pub rings_at_end : At → Rings → Option Rings
 rings_at_end AfterBody rings = Some rings

@@ -17,8 +17,8 @@ abbrev pub place_at : List Place → ℕ → Place
 place_at ps i = slice_index_or ps i (record { x = pos 0; y = pos 0 })
 
 -- the place after the one at i in a ring
-abbrev pub next_at : List Place → ℕ → Place
-next_at ps i = if i + 1 == length ps then place_at ps 0 else place_at ps (i + 1)
+abbrev pub next_place_at : List Place → ℕ → Place
+next_place_at ps i = if i + 1 == length ps then place_at ps 0 else place_at ps (i + 1)
 
 -- the corner at which the edges from i and from a later j are joined, in a ring of n corners, if they are
 -- neighbours: consecutive edges, and the last edge and the first
@@ -28,8 +28,9 @@ joint n i j = if j == i + 1 then Some j else if i == 0 && j + 1 == n then Some 0
 -- the edges from i and from a later j have no common point except their joint
 unfoldable pub MeetOnlyAtJoint : List Place → ℕ → ℕ → Type 0
 MeetOnlyAtJoint ps i j = MatchOption (joint (length ps) i j)
-    (¬ HaveCommonPoint (place_at ps i) (next_at ps i) (place_at ps j) (next_at ps j))
-    (λ k. MeetOnlyAt (place_at ps k) (place_at ps i) (next_at ps i) (place_at ps j) (next_at ps j))
+    (¬ HaveCommonPoint (place_at ps i) (next_place_at ps i) (place_at ps j) (next_place_at ps j))
+    (λ k. MeetOnlyAt (place_at ps k) (place_at ps i) (next_place_at ps i) (place_at ps j)
+        (next_place_at ps j))
 
 -- no two different edges have a common point except the joint of neighbours
 abbrev pub AllMeetOnlyAtJoints : List Place → Type 0
@@ -37,7 +38,7 @@ AllMeetOnlyAtJoints ps = (i j : ℕ) → i < j → j < length ps → MeetOnlyAtJ
 
 -- each edge has two different ends
 abbrev pub HaveLength : List Place → Type 0
-HaveLength ps = (i : ℕ) → i < length ps → ¬ (place_at ps i ≡ next_at ps i)
+HaveLength ps = (i : ℕ) → i < length ps → ¬ (place_at ps i ≡ next_place_at ps i)
 
 pub record IsSimple (ring : List Place) : Type 0 where
   pub long : HaveLength ring

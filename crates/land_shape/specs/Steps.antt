@@ -8,8 +8,8 @@ use Rattle.land_shape.specs.declared.faults.ShapeFault.TheVariants.{FewPoints, M
 use Rattle.land_shape.specs.declared.faults.ShapeFault.TheVariants.{NotSimple, AreaTooLarge, NoMemory}
 use Rattle.land_shape.specs.declared.plane.Point.{Point}
 use Rattle.land_shape.specs.Coordinate.{IsCoordinate}
-use Rattle.land_shape.specs.Faults.{SomeOf, HasManyWords, IsNotNumber, IsOutOfRange, Locate, Lists}
-use Rattle.land_shape.specs.Grammar.{Words, Points, Rings, Polygon, empty, body, IsBody, IsPolygon}
+use Rattle.land_shape.specs.Faults.{SomeOf, HasManyWords, IsNotNumber, IsOutOfRange, Locate, AreLocatedAt}
+use Rattle.land_shape.specs.Grammar.{Words, Points, Rings, Polygon, empty, body, IsPolygonBody, IsPolygon}
 use Rattle.land_shape.specs.Numbers.{coordinate_of}
 use Rattle.land_shape.specs.Outline.{IsNear, IsOutline, ring_of, doubled_area}
 use Rattle.land_shape.specs.Place.{Place}
@@ -35,7 +35,7 @@ ReadsPoint words _ = ⊥
 -- a body has at least one ring
 abbrev pub IsFull : Polygon → Type 0
 IsFull empty = Unit {0}
-IsFull (body tagged rings) = IsBody rings
+IsFull (body tagged rings) = IsPolygonBody rings
 
 -- the only ring of a polygon without a tag, whose points have two words each; or the fault of the polygon
 abbrev pub PlainRing : Polygon → Result Points ShapeFault → Type 0
@@ -50,7 +50,7 @@ PlainRing polygon _ = ⊥
 
 -- the places of a ring's points, or the fault of their words
 abbrev pub ReadsPoints : Points → Result (List Place) ShapeFault → Type 0
-ReadsPoints points (Ok places) = Lists points places × AllByRecursion IsNear places
+ReadsPoints points (Ok places) = AreLocatedAt points places × AllByRecursion IsNear places
 ReadsPoints points (Err Number) = SomeOf (SomeOf IsNotNumber) points
 ReadsPoints points (Err Range) = (¬ SomeOf (SomeOf IsNotNumber) points) × SomeOf (SomeOf IsOutOfRange) points
 ReadsPoints points (Err NoMemory) = Unit {0}
@@ -61,7 +61,7 @@ pub record IsPlainList (text : List ℕ) (places : List Place) : Type 0 where
   pub points : Points
   pub is_polygon : IsPolygon text (body false (points ∷ []))
   pub two_words : AllByRecursion HasTwoWords points
-  pub lists : Lists points places
+  pub lists : AreLocatedAt points places
   pub near : AllByRecursion IsNear places
 
 abbrev pub IsClosed : List Place → Type 0

@@ -3,7 +3,7 @@ use Rattle.std.specs.Prelude.{◌≡◌, ℕ, ◌<◌, ◌≤◌, ℤ, ◌-ℤ�
 use Rattle.std.specs.Int.{int_min, int_max}
 use Rattle.land_shape.specs.Coordinate.{cross_of}
 use Rattle.land_shape.specs.Place.{Place}
-use Rattle.land_shape.specs.Simple.{place_at, next_at}
+use Rattle.land_shape.specs.Simple.{place_at, next_place_at}
 
 -- on one axis, the segments a b and c d overlap
 pub record Overlap (a b c d : ℤ) : Type 0 where
@@ -38,4 +38,4 @@ pub record IsInBox (least greatest place : Place) : Type 0 where
 abbrev pub HoldsEdges : List Place → (start end : ℕ) → (least greatest : Place) → Type 0
 HoldsEdges ps start end least greatest =
     (i : ℕ) → start ≤ i → i < end → IsInBox least greatest (place_at ps i)
-    × IsInBox least greatest (next_at ps i)
+    × IsInBox least greatest (next_place_at ps i)

@@ -2,7 +2,8 @@
 
 ghost use Rattle.std.specs.Prelude.{◌≡◌, IfOk, OnOk, if◌then◌else◌};
 ghost use Rattle.std.specs.Option.{option_map};
-ghost use Rattle.land_shape.specs.Reader.{progress_of, after, start_of_body, with_point, with_ring, is_point};
+ghost use Rattle.land_shape.specs.Reader.{progress_of, after_token, start_of_body, with_point, with_ring};
+ghost use Rattle.land_shape.specs.Reader.{is_point};
 ghost use Rattle.land_shape.specs.Reader.{body_of};
 
 use crate::tokens::{Token, Word};
@@ -114,7 +115,7 @@ impl<'a> Progress<'a> {
 
     /// Reads one more token. Returns false if a body cannot continue with it.
     fn take(&mut self, alloc: Global, token: &Token<'a>) -> Result<bool, AllocError>
-        ensures { IfOk result (λ goes_on. after (progress_of self.old) token.now
+        ensures { IfOk result (λ goes_on. after_token (progress_of self.old) token.now
             ≡ (if goes_on then Some (progress_of self.new) else None)) }
     {
         match (self.at, token) {

@@ -1,7 +1,7 @@
 //! The corners of a ring.
 
 ghost use Rattle.std.specs.Prelude.{◌≡◌, ◌<◌, length};
-ghost use Rattle.land_shape.specs.Simple.{place_of, places, place_at, next_at};
+ghost use Rattle.land_shape.specs.Simple.{place_of, places, place_at, next_place_at};
 
 use crate::plane::Point;
 
@@ -16,7 +16,7 @@ pub(crate) fn corner(points: &[Point], i: usize) -> Point
 /// Returns the corner after the one at `i`.
 pub(crate) fn corner_after(points: &[Point], i: usize) -> Point
     requires { i < length points.now }
-    ensures { place_of result ≡ next_at (places points.now) i }
+    ensures { place_of result ≡ next_place_at (places points.now) i }
 {
     if i + 1 == points.len() {
         corner(points, 0)

@@ -1,7 +1,7 @@
 //! Errors of outlines.
 
 ghost use Rattle.std.specs.Prelude.{◌≡◌, Some};
-ghost use Rattle.land_shape.specs.FaultTexts.{number_of, text_of};
+ghost use Rattle.land_shape.specs.FaultTexts.{shape_fault_number, shape_fault_text};
 
 use std::alloc::{AllocError, AllocFailed};
 use std::error::Error;
@@ -39,7 +39,7 @@ pub enum ShapeFault {
 impl ShapeFault {
     /// Returns the number of the error: 110 to 120, or 501.
     pub fn number(self) -> u16
-        ensures { result ≡ number_of self }
+        ensures { result ≡ shape_fault_number self }
     {
         match self {
             ShapeFault::NotPolygon => 110,
@@ -59,7 +59,7 @@ impl ShapeFault {
 
     /// Returns the message of the error.
     pub fn text(self) -> &'static str
-        ensures { result.now ≡ text_of self }
+        ensures { result.now ≡ shape_fault_text self }
     {
         match self {
             ShapeFault::NotPolygon => "the outline is not a POLYGON in well-known text",
@@ -79,7 +79,7 @@ impl ShapeFault {
 }
 
 impl fmt::Display for ShapeFault {
-    ghost output = { λ f. Some (text_of f) };
+    ghost output = { λ f. Some (shape_fault_text f) };
 
     fn fmt<W: fmt::Write>(&self, f: &mut fmt::Formatter<W>) -> fmt::Result {
         f.write_str(self.text())

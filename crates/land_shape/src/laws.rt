@@ -1,6 +1,6 @@
 //! Laws of the definitions. Calling a function here gives its law as a fact; it does nothing else.
 
-ghost use Rattle.land_shape.specs.Laws.{PrintedLaw, OneAnswerLaw, AnswerLaw};
+ghost use Rattle.land_shape.specs.Laws.{PrintedLaw, OneAnswerLaw, OutlineAnswerLaw};
 ghost use Rattle.land_shape.specs.Matching.{LiesLaw, MatchingLaw, TestLaw};
 
 /// Proves that the canonical form of a ring denotes that ring and no other.
@@ -15,7 +15,7 @@ pub fn one_answer()
 
 /// Proves that each text has a result: the ring that it denotes, or a first fault.
 pub fn every_text_has_an_answer()
-    ensures { AnswerLaw }
+    ensures { OutlineAnswerLaw }
 {}
 
 /// Proves that a place lies on an edge if and only if it is a point of the edge.

@@ -1,7 +1,7 @@
 //! Simple rings.
 
 ghost use Rattle.std.specs.Prelude.{◌≡◌, ◌↔◌, ◌<◌, ◌≤◌, ◌+◌, length, IsTrue, ℕ};
-ghost use Rattle.land_shape.specs.Simple.{place_of, places, place_at, next_at, MeetOnlyAtJoint};
+ghost use Rattle.land_shape.specs.Simple.{place_of, places, place_at, next_place_at, MeetOnlyAtJoint};
 ghost use Rattle.land_shape.specs.Simple.{AllMeetOnlyAtJoints};
 ghost use Rattle.land_shape.specs.Simple.{HaveLength};
 ghost use Rattle.land_shape.specs.Segment.{MeetOnlyAt, HaveCommonPoint};
@@ -19,8 +19,9 @@ const GROUP_SIZE: usize = 8;
 fn edges_meet(points: &[Point], i: usize, j: usize) -> bool
     requires i_in { i < length points.now }
     requires j_in { j < length points.now }
-    ensures { IsTrue result ↔ HaveCommonPoint (place_at (places points.now) i) (next_at (places points.now) i)
-        (place_at (places points.now) j) (next_at (places points.now) j) }
+    ensures { IsTrue result
+        ↔ HaveCommonPoint (place_at (places points.now) i) (next_place_at (places points.now) i)
+        (place_at (places points.now) j) (next_place_at (places points.now) j) }
 {
     have_common_point(
         corner(points, i),

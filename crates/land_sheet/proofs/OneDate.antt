@@ -8,7 +8,7 @@ use Rattle.jiff_core.specs.Calendar.{IsCivilDate, days_from_civil, day_count}
 use Rattle.land_sheet.specs.Dates.{CivilDate}
 use Rattle.land_sheet.specs.Dates.{day_number}
 use Rattle.land_sheet.specs.Laws.{DatesAreUnique, SheetsAreUnique}
-use Rattle.land_sheet.specs.Sheets.{moment_of, sheet_text}
+use Rattle.land_sheet.specs.Sheets.{view_moment, sheet_text}
 
 same_count : (y y₂ : ℤ) (m d m₂ d₂ n : ℕ) → days_from_civil y m d ≡ pos n → days_from_civil y₂ m₂ d₂ ≡ pos n → day_count y m d ≡ day_count y₂ m₂ d₂
 same_count y y₂ m d m₂ d₂ n e f =
@@ -51,5 +51,5 @@ same_value f a b d e same g h = cc
 -- the date of a view's moment determines its sheet
 pub one_sheet : SheetsAreUnique
 one_sheet view a b h k =
-    let same = one_date (day_number (moment_of view)) h.date k.date h.date_is k.date_is in
-    same_value (λ date. sheet_text view date (moment_of view)) a b h.date k.date same h.text_is k.text_is
+    let same = one_date (day_number (view_moment view)) h.date k.date h.date_is k.date_is in
+    same_value (λ date. sheet_text view date (view_moment view)) a b h.date k.date same h.text_is k.text_is

@@ -5,9 +5,9 @@ use Rattle.land_shape.specs.Outline.{doubled_area}
 use Rattle.land_sheet.specs.Widths.{zeros}
 
 -- twice the total area of parcels, in square millimetres
-abbrev pub doubled_areas : List Parcel → ℕ
-doubled_areas [] = 0
-doubled_areas (parcel ∷ parcels) = doubled_area parcel.outline + doubled_areas parcels
+abbrev pub doubled_parcel_areas : List Parcel → ℕ
+doubled_parcel_areas [] = 0
+doubled_parcel_areas (parcel ∷ parcels) = doubled_area parcel.outline + doubled_parcel_areas parcels
 
 -- an area in square metres, from twice the area in square millimetres: five times that number counts units of
 -- 10^-7 square metres; the result is the integral part, a point, and seven digits

@@ -16,8 +16,8 @@ pub record IsDateOf (number : ℕ) (date : CivilDate) : Type 0 where
   pub number_is : days_from_civil date.year date.month date.day ≡ pos number
 
 -- the date of a value of the calendar crate
-abbrev pub parts_of : Date → CivilDate
-parts_of date = record { year = date.year; month = date.month; day = date.day }
+abbrev pub civil_date : Date → CivilDate
+civil_date date = record { year = date.year; month = date.month; day = date.day }
 
 -- the number of whole days from the start of 1970 to a moment
 abbrev pub day_number : (moment : ℕ) → ℕ

@@ -5,7 +5,7 @@ use Rattle.std.specs.Fmt.{signed_decimal}
 use Rattle.csv.specs.Writing.{default_writer, fields_written, has_written, row_text, text_written}
 use Rattle.csv.specs.Writing.{writer_setup}
 use Rattle.csv.specs.declared.writer.Writer.{Writer}
-use Rattle.land_core.specs.Words.{act_word, class_word, party_word, source_word, state_word}
+use Rattle.land_core.specs.Words.{content_word, class_word, party_word, source_word, state_word}
 use Rattle.land_core.specs.declared.kind.Kind.{Kind}
 use Rattle.land_core.specs.declared.kind.Kind.TheVariants as kind
 use Rattle.land_core.specs.declared.mutation.Mutation.{Mutation}
@@ -18,7 +18,7 @@ use Rattle.land_core.specs.declared.rrr.Class.TheVariants.{Right, Restriction, R
 use Rattle.land_core.specs.declared.rrr.Rrr.{Rrr}
 use Rattle.land_core.specs.declared.source.Source.{Source}
 use Rattle.land_core.specs.declared.unit.Unit.{Unit}
-use Rattle.land_fraction.specs.Text.{text_of}
+use Rattle.land_fraction.specs.Text.{fraction_text}
 use Rattle.land_shape.specs.Outline.{doubled_area}
 use Rattle.land_shape.specs.Place.{Place}
 use Rattle.land_shape.specs.Printed.{polygon_text}
@@ -65,7 +65,7 @@ entry_start entry name =
 
 -- share, amount, currency, rank and words, each empty if the class lacks it
 abbrev pub class_fields : Class → List (List ℕ)
-class_fields (Right type share) = text_of share ∷ [] ∷ [] ∷ [] ∷ [] ∷ []
+class_fields (Right type share) = fraction_text share ∷ [] ∷ [] ∷ [] ∷ [] ∷ []
 class_fields (Restriction words) = [] ∷ [] ∷ [] ∷ [] ∷ words ∷ []
 class_fields (Responsibility words) = [] ∷ [] ∷ [] ∷ [] ∷ words ∷ []
 class_fields (Mortgage amount currency rank) = [] ∷ decimal amount ∷ currency ∷ decimal rank ∷ [] ∷ []
@@ -79,23 +79,23 @@ source_fields source = decimal source.number ∷ source_word source.kind ∷ sou
 unfoldable pub mutation_fields : Mutation → List (List ℕ)
 mutation_fields mutation =
     decimal mutation.number ∷ decimal mutation.lodger ∷ mutation.reference ∷ decimal mutation.source
-    ∷ signed_decimal mutation.lodged ∷ act_word mutation.content ∷ state_word mutation.state ∷ []
+    ∷ signed_decimal mutation.lodged ∷ content_word mutation.content ∷ state_word mutation.state ∷ []
 
 -- the fields of an object; the name is only for an entry
-abbrev pub fields_of : Object → (name : List ℕ) → List (List ℕ)
-fields_of (shown.Party party) name = party_fields party
-fields_of (shown.Unit unit) name = unit_fields unit
-fields_of (shown.Parcel parcel) name = parcel_fields parcel
-fields_of (shown.Rrr entry) name = rrr_fields entry name
-fields_of (shown.Source source) name = source_fields source
-fields_of (shown.Mutation mutation) name = mutation_fields mutation
+abbrev pub object_fields : Object → (name : List ℕ) → List (List ℕ)
+object_fields (shown.Party party) name = party_fields party
+object_fields (shown.Unit unit) name = unit_fields unit
+object_fields (shown.Parcel parcel) name = parcel_fields parcel
+object_fields (shown.Rrr entry) name = rrr_fields entry name
+object_fields (shown.Source source) name = source_fields source
+object_fields (shown.Mutation mutation) name = mutation_fields mutation
 
 -- the first row of an extract, and the row of an object; each ends with a line feed
 abbrev pub header_text : Kind → List ℕ
 header_text kind = row_text default_writer (columns_of kind)
 
 abbrev pub object_row : Object → (name : List ℕ) → List ℕ
-object_row it name = row_text default_writer (fields_of it name)
+object_row it name = row_text default_writer (object_fields it name)
 
 -- a writer with the default settings that is not inside a row
 abbrev pub IsBetweenRows : {W : Type 0} → Writer W → Type 0

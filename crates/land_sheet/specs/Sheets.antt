@@ -6,11 +6,11 @@ use Rattle.land_core.specs.declared.parcel.Parcel.{Parcel}
 use Rattle.land_core.specs.declared.rrr.Class.{Class}
 use Rattle.land_core.specs.declared.rrr.Class.TheVariants.{Right, Restriction, Responsibility, Mortgage}
 use Rattle.land_core.specs.declared.unit.Unit.{Unit}
-use Rattle.land_fraction.specs.Text.{text_of}
+use Rattle.land_fraction.specs.Text.{fraction_text}
 use Rattle.land_keep.specs.declared.view.NamedRrr.{NamedRrr}
 use Rattle.land_keep.specs.declared.view.View.{View}
 use Rattle.land_shape.specs.Outline.{doubled_area}
-use Rattle.land_sheet.specs.Areas.{doubled_areas, square_metres}
+use Rattle.land_sheet.specs.Areas.{doubled_parcel_areas, square_metres}
 use Rattle.land_sheet.specs.Dates.{CivilDate, IsDateOf, date_text, day_number, time_text}
 use Rattle.land_sheet.specs.Widths.{number_right, text_left, text_right}
 
@@ -40,7 +40,7 @@ checked_line false = codes "Shares unchecked\n"
 
 -- the total area of the parcels in square metres
 unfoldable pub area_line : List Parcel → List ℕ
-area_line parcels = codes "Area " ++ (square_metres (doubled_areas parcels) ++ codes "\n")
+area_line parcels = codes "Area " ++ (square_metres (doubled_parcel_areas parcels) ++ codes "\n")
 
 -- ---- the parcels
 
@@ -73,7 +73,7 @@ entry_start entry =
 -- the content of an entry: the share of a right, the words of a restriction or a responsibility, the rank,
 -- the currency and the amount of a mortgage
 abbrev pub class_end : Class → List ℕ
-class_end (Right type share) = text_of share ++ codes "\n"
+class_end (Right type share) = fraction_text share ++ codes "\n"
 class_end (Restriction words) = words ++ codes "\n"
 class_end (Responsibility words) = words ++ codes "\n"
 class_end (Mortgage amount currency rank) =
@@ -90,8 +90,8 @@ entry_lines (entry ∷ entries) = entry_line entry ++ entry_lines entries
 -- ---- the whole sheet
 
 -- a view's moment, which is not negative
-abbrev pub moment_of : View → ℕ
-moment_of view = unsigned_abs view.at
+abbrev pub view_moment : View → ℕ
+view_moment view = unsigned_abs view.at
 
 unfoldable pub head_lines : Unit → CivilDate → (moment : ℕ) → List ℕ
 head_lines unit date moment =
@@ -114,5 +114,5 @@ sheet_text view date moment =
 -- the text is the sheet of a view, with the view's moment and its date
 pub record IsSheet (view : View) (text : List ℕ) : Type 0 where
   pub date : CivilDate
-  pub date_is : IsDateOf (day_number (moment_of view)) date
-  pub text_is : text ≡ sheet_text view date (moment_of view)
+  pub date_is : IsDateOf (day_number (view_moment view)) date
+  pub text_is : text ≡ sheet_text view date (view_moment view)

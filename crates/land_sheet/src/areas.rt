@@ -1,13 +1,13 @@
 //! Areas in square metres.
 ghost use Rattle.std.specs.Prelude.{◌≡◌, ◌≤◌, ◌*◌, ◌^◌, IfOk, string_bytes, length};
-ghost use Rattle.land_sheet.specs.Areas.{doubled_areas, square_metres};
+ghost use Rattle.land_sheet.specs.Areas.{doubled_parcel_areas, square_metres};
 
 use land_core::parcel::Parcel;
 use std::alloc::{AllocError, Global};
 
 /// Returns twice the total area of parcels, in square millimetres. The sum is exact: it cannot overflow.
 pub(crate) fn doubled_areas(parcels: &[Parcel]) -> u128
-    ensures sum { result ≡ doubled_areas parcels.now }
+    ensures sum { result ≡ doubled_parcel_areas parcels.now }
     ensures bounded { result ≤ 2 ^ 64 * 1000000000000000000 }
 {
     let count = parcels.len();

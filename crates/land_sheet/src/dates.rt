@@ -1,6 +1,6 @@
 //! The date of a moment.
 ghost use Rattle.std.specs.Prelude.{◌≡◌, ◌≤◌, ◌/◌};
-ghost use Rattle.land_sheet.specs.Dates.{IsDateOf, parts_of};
+ghost use Rattle.land_sheet.specs.Dates.{IsDateOf, civil_date};
 
 use jiff_core::civil::Date;
 
@@ -8,7 +8,7 @@ use jiff_core::civil::Date;
 /// The day number is the moment divided by the milliseconds of a day, rounded down.
 pub fn date_of(moment: u64) -> Date
     requires { moment ≤ 4102444799999 }
-    ensures { IsDateOf (moment / 86400000) (parts_of result) }
+    ensures { IsDateOf (moment / 86400000) (civil_date result) }
 {
     match Date::from_unix_epoch_day((moment / 86_400_000) as i64) {
         Ok(date) => date,

@@ -2,13 +2,13 @@
 ghost use Rattle.std.specs.Prelude.{◌≡◌, ◌∷◌, [], IfOk, OnOk, Some, decimal, map, string_bytes};
 ghost use Rattle.std.specs.Fmt.{signed_decimal};
 ghost use Rattle.csv.specs.Writing.{default_writer, row_text, text_written};
-ghost use Rattle.land_fraction.specs.Text.{text_of};
+ghost use Rattle.land_fraction.specs.Text.{fraction_text};
 ghost use Rattle.land_shape.specs.Outline.{doubled_area};
 ghost use Rattle.land_shape.specs.Printed.{polygon_text};
 ghost use Rattle.land_sheet.specs.Appending.{AppendsFields};
 ghost use Rattle.land_sheet.specs.Areas.{square_metres};
 ghost use Rattle.land_sheet.specs.Extracts.Writing.{rows_of};
-ghost use Rattle.land_sheet.specs.Rows.{IsBetweenRows, WritesRows, columns_of, fields_of, header_text};
+ghost use Rattle.land_sheet.specs.Rows.{IsBetweenRows, WritesRows, columns_of, object_fields, header_text};
 ghost use Rattle.land_sheet.specs.Rows.{object_row};
 ghost use Rattle.land_sheet.specs.Rows.{class_fields, entry_start, outline_fields, parcel_fields};
 ghost use Rattle.land_sheet.specs.Rows.{parcel_start};
@@ -212,7 +212,7 @@ fn push_moment(fields: &mut Vec<String>, alloc: Global, moment: i64) -> Result<(
 
 /// Writes a share as a field.
 fn push_share(fields: &mut Vec<String>, alloc: Global, share: Fraction) -> Result<(), AllocError>
-    ensures { AppendsFields result fields.old fields.new (text_of share ∷ []) }
+    ensures { AppendsFields result fields.old fields.new (fraction_text share ∷ []) }
 {
     fields.push(format!(in alloc; "{share}")?)?;
     Ok(())
@@ -241,7 +241,7 @@ fn push_object(
     object: &Object,
     name: &str,
 ) -> Result<(), AllocError>
-    ensures { AppendsFields result fields.old fields.new (fields_of object.now name.now) }
+    ensures { AppendsFields result fields.old fields.new (object_fields object.now name.now) }
 {
     match object {
         Object::Party(party) => push_party(fields, alloc, party),
@@ -352,7 +352,7 @@ fn push_class(fields: &mut Vec<String>, alloc: Global, class: &Class) -> Result<
 }
 
 fn push_right(fields: &mut Vec<String>, alloc: Global, share: Fraction) -> Result<(), AllocError>
-    ensures { AppendsFields result fields.old fields.new (text_of share ∷ [] ∷ [] ∷ [] ∷ [] ∷ []) }
+    ensures { AppendsFields result fields.old fields.new (fraction_text share ∷ [] ∷ [] ∷ [] ∷ [] ∷ []) }
 {
     push_share(fields, alloc, share)?;
     push_text(fields, alloc, "")?;

@@ -2,7 +2,7 @@
 ghost use Rattle.std.specs.Prelude.{◌≡◌, IfOk, string_bytes};
 ghost use Rattle.land_core.specs.Numbers.{IsMoment};
 ghost use Rattle.land_sheet.specs.Appending.{AppendsText};
-ghost use Rattle.land_sheet.specs.Dates.{parts_of};
+ghost use Rattle.land_sheet.specs.Dates.{civil_date};
 ghost use Rattle.land_sheet.specs.Sheets.{IsSheet, area_line, checked_line, date_part, end_line, head_lines};
 ghost use Rattle.land_sheet.specs.Sheets.{moment_line};
 ghost use Rattle.land_sheet.specs.Sheets.{parcel_count_line, parcel_line, parcel_lines, parcel_part};
@@ -38,7 +38,7 @@ const SHEET_CAPACITY: usize = 512;
 /// Returns the sheet of a view with a date and a moment.
 #[tactic(auto, unfolding(crate::specs::Sheets::sheet_text))]
 fn sheet_on(alloc: Global, view: &View, date: Date, moment: u64) -> Result<String, AllocError>
-    ensures { IfOk result (λ text. string_bytes text ≡ sheet_text view.now (parts_of date) moment) }
+    ensures { IfOk result (λ text. string_bytes text ≡ sheet_text view.now (civil_date date) moment) }
 {
     let mut text = String::with_capacity(alloc, SHEET_CAPACITY)?;
     push_head(&mut text, &view.unit, date, moment)?;
@@ -51,7 +51,7 @@ fn sheet_on(alloc: Global, view: &View, date: Date, moment: u64) -> Result<Strin
 /// Writes the lines before the area.
 #[tactic(auto, unfolding(crate::specs::Sheets::head_lines))]
 fn push_head(text: &mut String, unit: &Unit, date: Date, moment: u64) -> Result<(), AllocError>
-    ensures { AppendsText result text.old text.new (head_lines unit.now (parts_of date) moment) }
+    ensures { AppendsText result text.old text.new (head_lines unit.now (civil_date date) moment) }
 {
     push_title(text)?;
     push_unit(text, unit)?;
@@ -84,7 +84,7 @@ fn push_unit(text: &mut String, unit: &Unit) -> Result<(), AllocError>
 
 #[tactic(auto, unfolding(crate::specs::Sheets::moment_line))]
 fn push_moment(text: &mut String, date: Date, moment: u64) -> Result<(), AllocError>
-    ensures { AppendsText result text.old text.new (moment_line (parts_of date) moment) }
+    ensures { AppendsText result text.old text.new (moment_line (civil_date date) moment) }
 {
     push_date(text, date)?;
     push_time(text, moment)
@@ -92,7 +92,7 @@ fn push_moment(text: &mut String, date: Date, moment: u64) -> Result<(), AllocEr
 
 #[tactic(auto, unfolding(crate::specs::Sheets::date_part))]
 fn push_date(text: &mut String, date: Date) -> Result<(), AllocError>
-    ensures { AppendsText result text.old text.new (date_part (parts_of date)) }
+    ensures { AppendsText result text.old text.new (date_part (civil_date date)) }
 {
     let year = date.year.unsigned_abs();
     let month = date.month;

@@ -15,7 +15,7 @@ use Rattle.land_tables.specs.Adopting.{HoldsNoRegister, IsReadFrom, IsNotOfVersi
 use Rattle.land_tables.specs.Faults.{of_read}
 use Rattle.land_tables.specs.TableContents.{ReadsMandates, Finds, ReadsTablesV1, IsEditionOf, IsValidated, IsValidWith, FailsTest, DecodesAllRows, DecodesRowsV1, is_one_edition, is_version}
 use Rattle.land_tables.specs.Registers.{HasValidIntervals, IsOfVersion, HasRegisterSchema, HasMandates, MayBeRegister, SchemaVersion, version_2}
-use Rattle.land_tables.specs.Standing.{HoldsTimeline, decoded_timeline, without_mandates}
+use Rattle.land_tables.specs.Standing.{HoldsTimeline, decoded_timeline, without_mandate_rows}
 use Rattle.land_tables.specs.Timelines.{timeline_of}
 use Rattle.land_tables.specs.Timelines.Judging.{OrderKeepsIntervals, SoundTimelinesAreValid}
 use Rattle.land_tables.specs.Timelines.Laws.{LastMomentIsTheLastStamp, ValidHistoriesRepresentTimelines, OrderDoesNotMatter, HistoriesRepresentOneTimeline}
@@ -253,7 +253,7 @@ pub with_mandates_found : (db : Trees) (found : TableContents) (listed : List (L
 with_mandates_found db found listed finds are = record { said = all_said db found listed finds.said are.said; keyed = finds.keyed; mandates = are.keyed }
 
 -- in schema version 1 there are no mandates
-none_said : (db : Trees) (found : TableContents) → DecodesRowsV1 db found → DecodesAllRows (without_mandates db) found
+none_said : (db : Trees) (found : TableContents) → DecodesRowsV1 db found → DecodesAllRows (without_mandate_rows db) found
 none_said db found said = record {
   editions = said.editions;
   moments = said.moments;
@@ -267,11 +267,11 @@ none_said db found said = record {
     sources = said.history.sources;
     mutations = said.history.mutations;
     namings = said.history.namings;
-    mandates = subst (λ (listed : List (LiveSpan Mandate)). Says mandates (without_mandates db) listed) (sym said.history.none) (IsPermutation-refl []);
+    mandates = subst (λ (listed : List (LiveSpan Mandate)). Says mandates (without_mandate_rows db) listed) (sym said.history.none) (IsPermutation-refl []);
   };
 }
 
-none_keyed : (db : Trees) → HaveUniqueRowidsV1 db → HaveUniqueRowidsV1 (without_mandates db)
+none_keyed : (db : Trees) → HaveUniqueRowidsV1 db → HaveUniqueRowidsV1 (without_mandate_rows db)
 none_keyed db keyed = record {
   persons = record { parties = keyed.persons.parties; roles = keyed.persons.roles; members = keyed.persons.members };
   holdings = record { units = keyed.holdings.units; parcels = keyed.holdings.parcels; rrrs = keyed.holdings.rrrs };
@@ -285,7 +285,7 @@ none_apart = tt
 no_rows : AreNumbered []
 no_rows = record { whole = refl; apart = none_apart }
 
-pub first_found : (db : Trees) (found : TableContents) → ReadsTablesV1 db found → Finds (without_mandates db) found
+pub first_found : (db : Trees) (found : TableContents) → ReadsTablesV1 db found → Finds (without_mandate_rows db) found
 first_found db found finds = record { said = none_said db found finds.said; keyed = none_keyed db finds.keyed; mandates = no_rows }
 
 -- mandates that do not decode have no value

@@ -24,7 +24,7 @@ use Rattle.land_tables.proofs.Between.{all_ended, all_later, none_after, none_st
 use Rattle.land_tables.proofs.One.{found_at, registered}
 use Rattle.land_tables.proofs.Rising.{Orderly, in_order_permuted, orderly, rises_from}
 use Rattle.land_tables.proofs.Sorting.{is_late}
-use Rattle.land_tables.specs.Timelines.{sorted_moments, moment_of, version_of}
+use Rattle.land_tables.specs.Timelines.{sorted_moments, version_moment, version_of}
 use Rattle.land_tables.specs.Timelines.Laws.{ValidHistoriesRepresentTimelines}
 use Rattle.land_tables_history.proofs.Distinct.{distinct_standing}
 use Rattle.land_tables_history.proofs.Entered.{made_mandates, made_part, made_roles, no_entries}
@@ -34,7 +34,7 @@ use Rattle.land_tables_history.proofs.NamingLists.{namings_distinct, same_naming
 use Rattle.land_tables_history.proofs.Permutations.{any_permuted}
 use Rattle.land_tables_history.proofs.Proper.{AllProper, Proper, all_proper}
 use Rattle.land_tables_history.specs.History as history
-use Rattle.land_tables_history.specs.History.{IsRegisterAt, namings_of}
+use Rattle.land_tables_history.specs.History.{IsRegisterAt, namings_of, register_of_history}
 use Rattle.land_tables_history.specs.Intervals.{is_same_grant, is_same_mandate, is_same_member, is_same_naming, is_same_number, is_stamp}
 use Rattle.land_tables_history.specs.ValidHistory.{IsValidAt, is_same_stamp, never_decreases}
 use Rattle.land_tables_history.specs.Open.{has_ended, have_ended}
@@ -50,7 +50,7 @@ part_stands : {V : Type 0} (moments : List Moment) (t : ℤ) (vs : List (Version
 part_stands moments t vs p = made_part (current_values t vs) (distinct_standing is_same_number t vs p.apart)
 
 -- at a moment at which a history is valid, its versions represent the register that they form
-stands_there : (moments : List Moment) (h : History) (m : Moment) → AllProper moments h → IsValidAt h m → IsRegisterAt m.stamp h (history.register_at m.stamp h m.next)
+stands_there : (moments : List Moment) (h : History) (m : Moment) → AllProper moments h → IsValidAt h m → IsRegisterAt m.stamp h (register_of_history m.stamp h m.next)
 stands_there moments h m p valid_history = record {
   parties = part_stands moments m.stamp h.parties p.parties;
   roles = made_roles (current_values m.stamp h.roles) (distinct_standing is_same_grant m.stamp h.roles p.roles.apart);
@@ -60,8 +60,8 @@ stands_there moments h m p valid_history = record {
   rrrs = part_stands moments m.stamp h.rrrs p.rrrs;
   sources = part_stands moments m.stamp h.sources p.sources;
   mutations = part_stands moments m.stamp h.mutations p.mutations;
-  namings = same_namings (current_values m.stamp h.namings) (namings_of (history.register_at m.stamp h m.next).mutations)
-      (distinct_standing is_same_naming m.stamp h.namings p.namings.apart) (namings_distinct (history.register_at m.stamp h m.next) valid_history.sound) valid_history.named;
+  namings = same_namings (current_values m.stamp h.namings) (namings_of (register_of_history m.stamp h m.next).mutations)
+      (distinct_standing is_same_naming m.stamp h.namings p.namings.apart) (namings_distinct (register_of_history m.stamp h m.next) valid_history.sound) valid_history.named;
   mandates = made_mandates (current_values m.stamp h.mandates) (distinct_standing is_same_mandate m.stamp h.mandates p.mandates.apart);
 }
 
@@ -125,7 +125,7 @@ stands_at moments h (m ∷ ms) t p rises valid_history most all = go (int_le m.s
     go true on =
         let r = reached (IsValidAt h) h t m ms climbs valid_history (le_from m.stamp t on) in
         subst (λ (o : Option Begun). IsRegisterAt t h (registered o)) (sym r.is)
-        (stands_still moments h r.moment.stamp t (history.register_at r.moment.stamp h r.moment.next) p r.before most (λ u is. r.same u (all u is)) (stands_there moments h r.moment p r.holds))
+        (stands_still moments h r.moment.stamp t (register_of_history r.moment.stamp h r.moment.next) p r.before most (λ u is. r.same u (all u is)) (stands_there moments h r.moment p r.holds))
     go false on =
         subst (λ (o : Option Begun). IsRegisterAt t h (registered o)) (sym (later ms climbs))
         (nothing_stands moments h t p (λ u is. all_later h t m ms (late m.stamp t on) climbs u (all u is)))
@@ -144,7 +144,7 @@ stands_at moments h (m ∷ ms) t p rises valid_history most all = go (int_le m.s
 
 -- ---- the whole timeline
 
-same_moments : (h : History) (ms : List Moment) → map_list moment_of (map_list (version_of h) ms) ≡ ms
+same_moments : (h : History) (ms : List Moment) → map_list version_moment (map_list (version_of h) ms) ≡ ms
 same_moments h [] = refl
 same_moments h (m ∷ ms) = ap (λ l. m ∷ l) (same_moments h ms)
 

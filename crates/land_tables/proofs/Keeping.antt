@@ -5,7 +5,7 @@ use Rattle.land_core.specs.declared.ask.Ask.{Ask}
 use Rattle.land_core.specs.declared.caller.Caller.{Caller}
 use Rattle.land_core.specs.declared.register.Register.{Register}
 use Rattle.land_keep.specs.Keeping.{Closes}
-use Rattle.land_keep.specs.Machine.{moment_of, verdict_at}
+use Rattle.land_keep.specs.Machine.{asked_moment, verdict_at}
 use Rattle.land_keep.specs.Timeline.{IsSoundTimeline, Timeline, last_register, last_stamp, register_at}
 use Rattle.land_keep.specs.declared.store_fault.StoreFault.{StoreFault}
 use Rattle.land_keep.specs.declared.store_fault.StoreFault.TheVariants.{Closed, NoMemory, Store}
@@ -38,7 +38,7 @@ closes_on T {U = U} a b fault (Err f) closes is = handed a fault f closes is
     handed false NoMemory f closes is = subst (λ (e : StoreFault). Closes {T = U} false b (Err e)) (sym is) closes
     handed false Closed f closes is = absurd closes
 
-module _ (tl : Timeline) (caller : Caller) (a : Ask) (now at_moment : ℤ) (is_moment : at_moment ≡ moment_of a now) (newest : Register) (is_last : newest ≡ last_register tl) (v : Verdict) where
+module _ (tl : Timeline) (caller : Caller) (a : Ask) (now at_moment : ℤ) (is_moment : at_moment ≡ asked_moment a now) (newest : Register) (is_last : newest ≡ last_register tl) (v : Verdict) where
   -- from the last stamp on, the current register is the one at the requested time
   pub verdict_now : (last : ℤ) → IsSoundTimeline tl → last ≡ last_stamp tl → last ≤ℤ at_moment → v ≡ verdict_of newest newest caller a (int_lt at_moment now) → v ≡ verdict_at tl caller a now
   verdict_now last sound is_stamp le is =

@@ -15,7 +15,7 @@ use Rattle.land_keep.specs.Timeline.{IsIncreasing, IsSoundTimeline, IncreasesFro
 use Rattle.land_keep.specs.declared.timeline.Version.{Version}
 use Rattle.land_tables.proofs.PutMutations.{accepted_puts}
 use Rattle.land_tables.proofs.WrittenTimelines.{first_before_last, stays_last, written_register}
-use Rattle.land_tables.specs.Timelines.{RepresentsTimeline, moment_of}
+use Rattle.land_tables.specs.Timelines.{RepresentsTimeline, version_moment}
 use Rattle.land_tables.specs.Timelines.Writing.{WritesKeepIntervals}
 use Rattle.land_tables_history.proofs.Kept.{changes_keep_intervals}
 use Rattle.land_tables_history.proofs.MomentOrder.{le_itself}
@@ -31,12 +31,12 @@ use Rattle.land_tables_history.specs.declared.moment.Moment.{Moment}
 before_never : (t : ℤ) → t ≤ℤ last_moment → t <ℤ never
 before_never t le = omega (arith, ints)
 
-all_upto : (v : Version) (vs : Timeline) (t : ℤ) → IncreasesFrom v vs → (last_from v vs).stamp ≤ℤ t → AllByRecursion (λ m. m.stamp ≤ℤ t) (map_list moment_of (v ∷ vs))
+all_upto : (v : Version) (vs : Timeline) (t : ℤ) → IncreasesFrom v vs → (last_from v vs).stamp ≤ℤ t → AllByRecursion (λ m. m.stamp ≤ℤ t) (map_list version_moment (v ∷ vs))
 all_upto v [] t rises le = (le, tt)
 all_upto v (w ∷ ws) t rises le = (first_before_last v (w ∷ ws) t rises le, all_upto w ws t rises.2 le)
 
 -- no moment is after the last stamp
-none_after_last : (tl : Timeline) → IsIncreasing tl → AllByRecursion (λ m. m.stamp ≤ℤ last_stamp tl) (map_list moment_of tl)
+none_after_last : (tl : Timeline) → IsIncreasing tl → AllByRecursion (λ m. m.stamp ≤ℤ last_stamp tl) (map_list version_moment tl)
 none_after_last [] rising = absurd rising
 none_after_last (v ∷ vs) rising = all_upto v vs (last_from v vs).stamp rising (le_itself (last_from v vs).stamp)
 
@@ -52,7 +52,7 @@ module _ (moments : List Moment) (h : History) (tl : Timeline) (sound : IsSoundT
   listed_by_last : AllByRecursion (λ (m : Moment). m.stamp ≤ℤ last_stamp tl) moments
   listed_by_last =
       let upto = λ (m : Moment). m.stamp ≤ℤ last_stamp tl in
-      recursion_from_All upto moments (All-permutation upto (map_list moment_of tl) moments for.moments (All-from_recursion upto (map_list moment_of tl) (none_after_last tl sound.rising)))
+      recursion_from_All upto moments (All-permutation upto (map_list version_moment tl) moments for.moments (All-from_recursion upto (map_list version_moment tl) (none_after_last tl sound.rising)))
 
   last_stands : IsRegisterAt (last_stamp tl) h (last_register tl)
   last_stands = subst (IsRegisterAt (last_stamp tl) h) (stays_last tl (last_stamp tl) sound.rising (le_itself (last_stamp tl))) (for.stands (last_stamp tl) (last_is_moment tl sound))

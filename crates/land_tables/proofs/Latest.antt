@@ -8,9 +8,9 @@ use Rattle.land_core.specs.Register.{empty_register}
 use Rattle.land_keep.specs.Timeline.{IsIncreasing, IncreasesFrom, Timeline, last_from, last_register, last_stamp, register_at, version_at}
 use Rattle.land_keep.specs.declared.timeline.Version.{Version}
 use Rattle.land_tables.proofs.Sorting.{timeline_order}
-use Rattle.land_tables.specs.Timelines.{sorted_moments, moment_of, insert_moment}
+use Rattle.land_tables.specs.Timelines.{sorted_moments, version_moment, insert_moment}
 use Rattle.land_tables_history.proofs.MomentOrder.{lt_through}
-use Rattle.land_tables_history.specs.Moments.{follows, last, latest, latest_from, next_at}
+use Rattle.land_tables_history.specs.Moments.{follows, last, latest, latest_from, next_number_at}
 use Rattle.land_tables_history.specs.declared.moment.Moment.{Moment}
 
 -- ---- the latest moment is the same after sorting by stamp
@@ -91,38 +91,38 @@ rises_on v w (u ∷ us) h = (lt_through v.stamp w.stamp u.stamp h.0 h.2.0, more 
 
 -- the last version whose moment passes a test
 abbrev last_passing : (Moment → Bool) → Option Version → Timeline → Option Version
-last_passing passes found vs = fold (λ found v. if passes (moment_of v) then Some v else found) found vs
+last_passing passes found vs = fold (λ found v. if passes (version_moment v) then Some v else found) found vs
 
 along : (passes : Moment → Bool) (found : Option Version) (vs : Timeline) → After found vs
-    → latest_from passes (option_map moment_of found) (map moment_of vs) ≡ option_map moment_of (last_passing passes found vs)
+    → latest_from passes (option_map version_moment found) (map version_moment vs) ≡ option_map version_moment (last_passing passes found vs)
 unfolding After
 along passes found [] h = refl
-along passes None (w ∷ ws) h = go (passes (moment_of w)) (along passes (Some w) ws h) (along passes None ws (none w ws h))
+along passes None (w ∷ ws) h = go (passes (version_moment w)) (along passes (Some w) ws h) (along passes None ws (none w ws h))
   where
     none : (w : Version) (ws : Timeline) → IncreasesFrom w ws → After None ws
     none w [] h = tt
     none w (u ∷ us) h = h.2
 
-    go : (b : Bool) → latest_from passes (Some (moment_of w)) (map moment_of ws) ≡ option_map moment_of (last_passing passes (Some w) ws)
-        → latest_from passes None (map moment_of ws) ≡ option_map moment_of (last_passing passes None ws)
-        → latest_from passes (cond (b && true) (Some (moment_of w)) None) (map moment_of ws) ≡ option_map moment_of (last_passing passes (cond b (Some w) None) ws)
+    go : (b : Bool) → latest_from passes (Some (version_moment w)) (map version_moment ws) ≡ option_map version_moment (last_passing passes (Some w) ws)
+        → latest_from passes None (map version_moment ws) ≡ option_map version_moment (last_passing passes None ws)
+        → latest_from passes (cond (b && true) (Some (version_moment w)) None) (map version_moment ws) ≡ option_map version_moment (last_passing passes (cond b (Some w) None) ws)
     go true taken left = taken
     go false taken left = left
 along passes (Some v) (w ∷ ws) h =
-    go (passes (moment_of w)) (int_le v.stamp w.stamp) (no_later v.stamp w.stamp h.0) (along passes (Some w) ws h.2) (along passes (Some v) ws (rises_on v w ws h))
+    go (passes (version_moment w)) (int_le v.stamp w.stamp) (no_later v.stamp w.stamp h.0) (along passes (Some w) ws h.2) (along passes (Some v) ws (rises_on v w ws h))
   where
     no_later : (s t : ℤ) → s <ℤ t → int_le s t ≡ true
     no_later s t less = grind (arith, ints)
 
-    go : (b c : Bool) → c ≡ true → latest_from passes (Some (moment_of w)) (map moment_of ws) ≡ option_map moment_of (last_passing passes (Some w) ws)
-        → latest_from passes (Some (moment_of v)) (map moment_of ws) ≡ option_map moment_of (last_passing passes (Some v) ws)
-        → latest_from passes (cond (b && c) (Some (moment_of w)) (Some (moment_of v))) (map moment_of ws) ≡ option_map moment_of (last_passing passes (cond b (Some w) (Some v)) ws)
+    go : (b c : Bool) → c ≡ true → latest_from passes (Some (version_moment w)) (map version_moment ws) ≡ option_map version_moment (last_passing passes (Some w) ws)
+        → latest_from passes (Some (version_moment v)) (map version_moment ws) ≡ option_map version_moment (last_passing passes (Some v) ws)
+        → latest_from passes (cond (b && c) (Some (version_moment w)) (Some (version_moment v))) (map version_moment ws) ≡ option_map version_moment (last_passing passes (cond b (Some w) (Some v)) ws)
     go true true e taken left = taken
     go true false e taken left = absurd (false≢true e)
     go false c e taken left = left
 
-latest_version : (passes : Moment → Bool) (tl : Timeline) (moments : List Moment) → IsIncreasing tl → IsPermutation (map moment_of tl) moments
-    → latest passes moments ≡ option_map moment_of (last_passing passes None tl)
+latest_version : (passes : Moment → Bool) (tl : Timeline) (moments : List Moment) → IsIncreasing tl → IsPermutation (map version_moment tl) moments
+    → latest passes moments ≡ option_map version_moment (last_passing passes None tl)
 unfolding After
 latest_version passes [] moments rises p = absurd rises
 latest_version passes (v ∷ vs) moments rises p =
@@ -131,18 +131,18 @@ latest_version passes (v ∷ vs) moments rises p =
 -- ---- its value
 
 -- the next number of the latest moment up to a time is that of the register at that time
-pub next_is : (tl : Timeline) (moments : List Moment) (t : ℤ) → IsIncreasing tl → IsPermutation (map moment_of tl) moments → next_at moments t ≡ (register_at tl t).next
+pub next_is : (tl : Timeline) (moments : List Moment) (t : ℤ) → IsIncreasing tl → IsPermutation (map version_moment tl) moments → next_number_at moments t ≡ (register_at tl t).next
 next_is tl moments t rises p = ap (λ o. option_map_or (λ (m : Moment). m.next) o 2) (latest_version (λ m. int_le m.stamp t) tl moments rises p) ∙ same (version_at tl t)
   where
-    same : (o : Option Version) → option_map_or (λ (m : Moment). m.next) (option_map moment_of o) 2 ≡ (unwrap_or (option_map (λ (v : Version). v.register) o) empty_register).next
+    same : (o : Option Version) → option_map_or (λ (m : Moment). m.next) (option_map version_moment o) 2 ≡ (unwrap_or (option_map (λ (v : Version). v.register) o) empty_register).next
     same None = refl
     same (Some v) = refl
 
 -- the latest moment has the timeline's last stamp and the next number of its last register
-pub last_is_last : (tl : Timeline) (moments : List Moment) → IsIncreasing tl → IsPermutation (map moment_of tl) moments
+pub last_is_last : (tl : Timeline) (moments : List Moment) → IsIncreasing tl → IsPermutation (map version_moment tl) moments
     → last moments ≡ Some (record { stamp = last_stamp tl; next = (last_register tl).next })
 last_is_last [] moments rises p = absurd rises
-last_is_last (v ∷ vs) moments rises p = latest_version (λ m. true) (v ∷ vs) moments rises p ∙ ap (option_map moment_of) (to_last v vs)
+last_is_last (v ∷ vs) moments rises p = latest_version (λ m. true) (v ∷ vs) moments rises p ∙ ap (option_map version_moment) (to_last v vs)
   where
     to_last : (v : Version) (vs : Timeline) → last_passing (λ m. true) (Some v) vs ≡ Some (last_from v vs)
     to_last v [] = refl

@@ -15,7 +15,7 @@ use Rattle.land_tables.proofs.ReadBack.{before_all, not_before, read_moment}
 use Rattle.land_tables.proofs.ToldIntervals.{told_intervals}
 use Rattle.land_tables.specs.TablesState.{HoldsRegister}
 use Rattle.land_tables.specs.Standing.{decoded_timeline}
-use Rattle.land_tables.specs.Timelines.{moment_of}
+use Rattle.land_tables.specs.Timelines.{version_moment}
 use Rattle.land_tables_history.proofs.Permutations.{any_permuted}
 use Rattle.land_tables_history.proofs.Proper.{all_proper}
 use Rattle.land_tables_history.specs.History.{IsRegisterAt}
@@ -26,11 +26,11 @@ is_after : (s t u : ℤ) → pos 0 ≤ℤ s → t <ℤ pos 0 → int_eq s u ≡ 
 is_after s t u le less is = grind (arith, ints)
 
 -- each stamp is after every time before the first moment
-all_after : (tl : Timeline) (t u : ℤ) → AllByRecursion (λ v. IsMoment v.stamp) tl → t <ℤ pos 0 → is_stamp (map moment_of tl) u ≡ true → int_le u t ≡ false
+all_after : (tl : Timeline) (t u : ℤ) → AllByRecursion (λ v. IsMoment v.stamp) tl → t <ℤ pos 0 → is_stamp (map version_moment tl) u ≡ true → int_le u t ≡ false
 all_after [] t u all less is = absurd (false≢true is)
 all_after (v ∷ vs) t u all less is = go (int_eq v.stamp u) refl is (all_after vs t u all.1 less)
   where
-    go : (b : Bool) → int_eq v.stamp u ≡ b → (b || is_stamp (map moment_of vs) u) ≡ true → (is_stamp (map moment_of vs) u ≡ true → int_le u t ≡ false) → int_le u t ≡ false
+    go : (b : Bool) → int_eq v.stamp u ≡ b → (b || is_stamp (map version_moment vs) u) ≡ true → (is_stamp (map version_moment vs) u ≡ true → int_le u t ≡ false) → int_le u t ≡ false
     go true here is rest = is_after v.stamp t u all.0.0 less here
     go false here is rest = rest is
 
@@ -40,7 +40,7 @@ stands_before s register t less =
     let tl = decoded_timeline s.now.trees in
     let holds = register.holds in
     nothing_stands holds.listed holds.history t (all_proper holds.listed holds.history (sym (told_intervals s.now.trees tl holds) ∙ register.intervals))
-    (λ u is. all_after tl t u register.sound.moments less (sym (any_permuted (λ m. int_eq m.stamp u) (map moment_of tl) holds.listed holds.stands.moments) ∙ is))
+    (λ u is. all_after tl t u register.sound.moments less (sym (any_permuted (λ m. int_eq m.stamp u) (map version_moment tl) holds.listed holds.stands.moments) ∙ is))
 
 before : (t : ℤ) → int_lt t (pos 0) ≡ true → t <ℤ pos 0
 before t h = grind (arith, ints)

@@ -16,7 +16,7 @@ use Rattle.land_tables.specs.Timelines.{RepresentsTimeline}
 use Rattle.land_tables.specs.Timelines.Laws.{ValidHistoriesRepresentTimelines, OrderDoesNotMatter, HistoriesRepresentOneTimeline}
 use Rattle.land_tables_history.proofs.Orders.{no_more}
 use Rattle.land_tables_history.specs.History.{named_units, namings_of}
-use Rattle.land_tables_history.specs.History.{register_at}
+use Rattle.land_tables_history.specs.History.{register_of_history}
 use Rattle.land_tables_history.specs.Intervals.{has_intervals}
 use Rattle.land_tables_history.specs.ValidHistory.{IsValidHistory, IsValidAt, are_same_namings}
 use Rattle.land_tables_history.specs.Standing.{current_values}
@@ -33,13 +33,13 @@ use Rattle.sqlite_trees.specs.Tree.{Trees}
 abbrev first : Moment
 first = record { stamp = pos 0; next = 2 }
 
-register_is : register_at (pos 0) new_history 2 ≡ new_register
+register_is : register_of_history (pos 0) new_history 2 ≡ new_register
 register_is = refl
 
 no_mutations : map.entries (map.empty {X = MutationRecord} {R = nat_cmp}) ≡ []
 no_mutations = no_more _ (sym (map.len-entries map.empty) ∙ map.len-empty nat_cmp MutationRecord)
 
-none_named : are_same_namings (current_values (pos 0) new_history.namings) (namings_of (register_at (pos 0) new_history 2).mutations) ≡ true
+none_named : are_same_namings (current_values (pos 0) new_history.namings) (namings_of (register_of_history (pos 0) new_history 2).mutations) ≡ true
 none_named = ap (λ (entries : List (ℕ × MutationRecord)). are_same_namings [] (flat_map (λ m. map_list (λ unit. record { mutation = m.0; unit = unit }) (named_units m.1.content)) entries)) no_mutations
 
 valid_history : IsValidHistory new_moments new_history

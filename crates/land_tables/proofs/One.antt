@@ -13,13 +13,13 @@ use Rattle.land_keep.specs.declared.timeline.Version.{Version}
 use Rattle.land_tables.proofs.Latest.{last_is_last, next_is}
 use Rattle.land_tables.proofs.Members.{no_members, sound_members}
 use Rattle.land_tables.proofs.Sorting.{is_late, timeline_order}
-use Rattle.land_tables.specs.Timelines.{RepresentsTimeline, moment_of, version_of}
+use Rattle.land_tables.specs.Timelines.{RepresentsTimeline, version_moment, version_of}
 use Rattle.land_tables.specs.Timelines.Laws.{LastMomentIsTheLastStamp, ReadingIsTheRegister, HistoriesRepresentOneTimeline}
 use Rattle.land_tables_history.proofs.MomentOrder.{le_itself, le_then_lt, le_true, lt_is_le}
 use Rattle.land_tables_history.proofs.Registers.{stood}
 use Rattle.land_tables_history.specs.Groups.{HaveMembers}
-use Rattle.land_tables_history.specs.History as history
-use Rattle.land_tables_history.specs.Moments.{next_at}
+use Rattle.land_tables_history.specs.History.{register_of_history}
+use Rattle.land_tables_history.specs.Moments.{next_number_at}
 use Rattle.land_tables_history.specs.declared.history.History.{History}
 use Rattle.land_tables_history.specs.declared.moment.Moment.{Moment}
 
@@ -80,13 +80,13 @@ same_next : (r : Register) (n : ℕ) → n ≡ r.next → record r { next = n } 
 same_next r n e = ap (λ (k : ℕ). let it : Register = record r { next = k } in it) e
 
 pub stands_read : SoundnessByNumber → (moments : List Moment) (versions : History) (tl : Timeline) (t : ℤ) (n : ℕ)
-    → RepresentsTimeline moments versions tl → IsSoundTimeline tl → IsMoment t → n ≡ (register_at tl t).next → history.register_at t versions n ≡ register_at tl t
+    → RepresentsTimeline moments versions tl → IsSoundTimeline tl → IsMoment t → n ≡ (register_at tl t).next → register_of_history t versions n ≡ register_at tl t
 stands_read look_ups moments versions tl t n stands sound is e =
     stood t versions n (register_at tl t) (have_members look_ups tl t sound) (stands.stands t is) ∙ same_next (register_at tl t) n e
 
 pub reads : SoundnessByNumber → ReadingIsTheRegister
 reads look_ups moments versions tl t stands sound is =
-    stands_read look_ups moments versions tl t (next_at moments t) stands sound is (next_is tl moments t sound.rising stands.moments)
+    stands_read look_ups moments versions tl t (next_number_at moments t) stands sound is (next_is tl moments t sound.rising stands.moments)
 
 pub last_is : LastMomentIsTheLastStamp
 last_is moments versions tl stands sound = last_is_last tl moments sound.rising stands.moments
@@ -100,12 +100,12 @@ stands_for_one look_ups moments versions tl stands sound =
     same_version : (v : Version) (r : Register) → r ≡ v.register → let it : Version = record { stamp = v.stamp; register = r } in it ≡ v
     same_version v r e = ap (λ (k : Register). let it : Version = record { stamp = v.stamp; register = k } in it) e
 
-    one : (v : Version) → Found tl v → IsMoment v.stamp → version_of versions (moment_of v) ≡ v
+    one : (v : Version) → Found tl v → IsMoment v.stamp → version_of versions (version_moment v) ≡ v
     one v here is =
         let at : register_at tl v.stamp ≡ v.register = ap registered (here None) in
-        same_version v (history.register_at v.stamp versions v.register.next)
+        same_version v (register_of_history v.stamp versions v.register.next)
         (stands_read look_ups moments versions tl v.stamp v.register.next stands sound is (sym (ap (λ (r : Register). r.next) at)) ∙ at)
 
-    each : (vs : Timeline) → AllByRecursion (Found tl) vs → AllByRecursion (λ v. IsMoment v.stamp) vs → map (version_of versions) (map moment_of vs) ≡ vs
+    each : (vs : Timeline) → AllByRecursion (Found tl) vs → AllByRecursion (λ v. IsMoment v.stamp) vs → map (version_of versions) (map version_moment vs) ≡ vs
     each [] here is = refl
-    each (v ∷ vs) here is = ap (λ w. w ∷ map (version_of versions) (map moment_of vs)) (one v here.0 is.0) ∙ ap (λ ws. v ∷ ws) (each vs here.1 is.1)
+    each (v ∷ vs) here is = ap (λ w. w ∷ map (version_of versions) (map version_moment vs)) (one v here.0 is.0) ∙ ap (λ ws. v ∷ ws) (each vs here.1 is.1)

@@ -13,7 +13,7 @@ use Rattle.land_tables.specs.Adopting.{IsRegisterTo}
 use Rattle.land_tables.specs.Migrating.{IsMigratedFrom, HasNoMandates}
 use Rattle.land_tables.specs.TablesState.{IsConsistentState}
 use Rattle.land_tables.specs.Registers.{IsRegister, version_1}
-use Rattle.land_tables.specs.Standing.{HoldsTimeline, decoded_timeline_v1, decoded_timeline, without_mandates}
+use Rattle.land_tables.specs.Standing.{HoldsTimeline, decoded_timeline_v1, decoded_timeline, without_mandate_rows}
 use Rattle.land_tables.specs.Timelines.{sorted_moments, version_of}
 use Rattle.land_tables.specs.Timelines.Laws.{OrderDoesNotMatter, HistoriesRepresentOneTimeline}
 use Rattle.land_tables_history.proofs.Orders.{no_more}
@@ -40,7 +40,7 @@ none_said : (listed : List (LiveSpan Mandate)) → IsPermutation {X = Result (Li
 none_said listed said = no_more listed (length_permutation [] listed (same_values [] listed said))
 
 -- tables that hold a history without mandates hold it in schema version 1
-first_held : (db : Trees) (listed : List Moment) (h : History) → HoldsHistory (without_mandates db) listed h → HoldsHistoryV1 db listed h
+first_held : (db : Trees) (listed : List Moment) (h : History) → HoldsHistory (without_mandate_rows db) listed h → HoldsHistoryV1 db listed h
 first_held db listed h held = record {
   the_moments = held.the_moments;
   the_parties = record { said = held.the_parties.said; numbered = held.the_parties.numbered };
@@ -77,7 +77,7 @@ module _ (law : MigratedRegistersAreHeld) (old new : Database) (first : IsRegist
   unfolding timeline_raised
   intervals_raised =
       told_intervals new.trees (decoded_timeline_v1 old.trees) timeline_raised
-      ∙ sym (told_intervals (without_mandates old.trees) (decoded_timeline_v1 old.trees) first.holds)
+      ∙ sym (told_intervals (without_mandate_rows old.trees) (decoded_timeline_v1 old.trees) first.holds)
       ∙ first.intervals.intervals
 
 -- a migrated store is consistent
@@ -116,4 +116,4 @@ none_found h none t (m ∷ ms) found so = none_found h none t ms (cond (int_le m
 
 -- tables of schema version 1 represent a timeline without mandates
 pub none_at_first : (db : Trees) → HasNoMandates (decoded_timeline_v1 db)
-none_at_first db t = none_found (decoded_history (without_mandates db)) refl t (sorted_moments (decode_rows moments (without_mandates db))) None refl
+none_at_first db t = none_found (decoded_history (without_mandate_rows db)) refl t (sorted_moments (decode_rows moments (without_mandate_rows db))) None refl

@@ -4,7 +4,7 @@ use Rattle.std.specs.Prelude.{ℤ}
 use Rattle.std.proofs.lemmas.List.Sorted.{IsPermutation-map, IsPermutation-sym, IsPermutation-trans}
 use Rattle.land_core.specs.declared.register.Register.{Register}
 use Rattle.land_keep.specs.Timeline.{last_stamp, register_at}
-use Rattle.land_tables.specs.Timelines.{moment_of}
+use Rattle.land_tables.specs.Timelines.{version_moment}
 use Rattle.land_tables.specs.Timelines.Laws.{IsReordered, OrderDoesNotMatter}
 use Rattle.land_tables_history.proofs.Permutations.{all_permuted, filter_permuted}
 use Rattle.land_tables_history.specs.History.{IsRegisterAt}
@@ -47,7 +47,7 @@ stands_too t one other r same h = record {
 
 pub reordered : OrderDoesNotMatter
 reordered moments others one other tl stands p same = record {
-  moments = IsPermutation-trans (map moment_of tl) moments others stands.moments p;
+  moments = IsPermutation-trans (map version_moment tl) moments others stands.moments p;
   stands = λ t is. stands_too t one other (register_at tl t) same (stands.stands t is);
   ended = ended_too (last_stamp tl) one other same ∙ stands.ended;
 }

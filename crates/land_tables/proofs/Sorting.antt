@@ -10,7 +10,7 @@ use Rattle.land_core.proofs.Booleans.{or_turned}
 use Rattle.land_core.specs.Entries.{are_distinct}
 use Rattle.land_keep.specs.Timeline.{IsIncreasing, IncreasesFrom, Timeline}
 use Rattle.land_keep.specs.declared.timeline.Version.{Version}
-use Rattle.land_tables.specs.Timelines.{sorted_moments, moment_of, insert_moment}
+use Rattle.land_tables.specs.Timelines.{sorted_moments, version_moment, insert_moment}
 use Rattle.land_tables_history.proofs.MomentOrder.{le_itself, le_then_lt}
 use Rattle.land_tables_history.proofs.Permutations.{along_permutation}
 use Rattle.land_tables_history.specs.ValidHistory.{is_same_stamp}
@@ -121,38 +121,38 @@ one_order xs ys p distinct = ((along_permutation Alike itself under over chained
 
 -- ---- the moments of a timeline with increasing stamps
 
-none_before : (s : ℤ) (v : Version) (vs : Timeline) → s ≤ℤ v.stamp → IncreasesFrom v vs → list_any (λ (m : Moment). int_eq s m.stamp) (map moment_of vs) ≡ false
+none_before : (s : ℤ) (v : Version) (vs : Timeline) → s ≤ℤ v.stamp → IncreasesFrom v vs → list_any (λ (m : Moment). int_eq s m.stamp) (map version_moment vs) ≡ false
 none_before s v [] least rises = refl
 none_before s v (w ∷ ws) least rises =
-    ap (λ b. b || list_any (λ (m : Moment). int_eq s m.stamp) (map moment_of ws)) (later_differs s w.stamp (le_then_lt s v.stamp w.stamp least rises.0))
+    ap (λ b. b || list_any (λ (m : Moment). int_eq s m.stamp) (map version_moment ws)) (later_differs s w.stamp (le_then_lt s v.stamp w.stamp least rises.0))
     ∙ none_before s w ws (before s v.stamp w.stamp least rises.0) rises.2
   where
     before : (r s t : ℤ) → r ≤ℤ s → s <ℤ t → r ≤ℤ t
     before r s t less more = omega (arith, ints)
 
-pub distinct : (tl : Timeline) → IsIncreasing tl → are_distinct is_same_stamp (map moment_of tl) ≡ true
+pub distinct : (tl : Timeline) → IsIncreasing tl → are_distinct is_same_stamp (map version_moment tl) ≡ true
 distinct [] rises = absurd rises
 distinct (v ∷ vs) rises = from v vs rises
   where
-    from : (v : Version) (vs : Timeline) → IncreasesFrom v vs → are_distinct is_same_stamp (map moment_of (v ∷ vs)) ≡ true
+    from : (v : Version) (vs : Timeline) → IncreasesFrom v vs → are_distinct is_same_stamp (map version_moment (v ∷ vs)) ≡ true
     from v [] rises = refl
     from v (w ∷ ws) rises =
-        and_from (not (list_any (is_same_stamp (moment_of v)) (map moment_of (w ∷ ws)))) (are_distinct is_same_stamp (map moment_of (w ∷ ws)))
+        and_from (not (list_any (is_same_stamp (version_moment v)) (map version_moment (w ∷ ws)))) (are_distinct is_same_stamp (map version_moment (w ∷ ws)))
         (ap not (none_before v.stamp v (w ∷ ws) (le_itself v.stamp) rises)) (from w ws rises.2)
 
-pub sorted_already : (tl : Timeline) → IsIncreasing tl → sorted_moments (map moment_of tl) ≡ map moment_of tl
+pub sorted_already : (tl : Timeline) → IsIncreasing tl → sorted_moments (map version_moment tl) ≡ map version_moment tl
 sorted_already [] rises = absurd rises
 sorted_already (v ∷ vs) rises = from v vs rises
   where
     first : (s t : ℤ) → s <ℤ t → int_le s t ≡ true
     first s t less = grind (arith, ints)
 
-    from : (v : Version) (vs : Timeline) → IncreasesFrom v vs → sorted_moments (map moment_of (v ∷ vs)) ≡ map moment_of (v ∷ vs)
+    from : (v : Version) (vs : Timeline) → IncreasesFrom v vs → sorted_moments (map version_moment (v ∷ vs)) ≡ map version_moment (v ∷ vs)
     from v [] rises = refl
     from v (w ∷ ws) rises =
-        ap (insert_moment (moment_of v)) (from w ws rises.2)
-        ∙ ap (λ b. cond b (moment_of v ∷ moment_of w ∷ map moment_of ws) (moment_of w ∷ insert_moment (moment_of v) (map moment_of ws))) (first v.stamp w.stamp rises.0)
+        ap (insert_moment (version_moment v)) (from w ws rises.2)
+        ∙ ap (λ b. cond b (version_moment v ∷ version_moment w ∷ map version_moment ws) (version_moment w ∷ insert_moment (version_moment v) (map version_moment ws))) (first v.stamp w.stamp rises.0)
 
 -- a permutation of the moments of a timeline sorts to the timeline's order
-pub timeline_order : (tl : Timeline) (moments : List Moment) → IsIncreasing tl → IsPermutation (map moment_of tl) moments → sorted_moments moments ≡ map moment_of tl
-timeline_order tl moments rises p = sym (one_order (map moment_of tl) moments p (distinct tl rises)) ∙ sorted_already tl rises
+pub timeline_order : (tl : Timeline) (moments : List Moment) → IsIncreasing tl → IsPermutation (map version_moment tl) moments → sorted_moments moments ≡ map version_moment tl
+timeline_order tl moments rises p = sym (one_order (map version_moment tl) moments p (distinct tl rises)) ∙ sorted_already tl rises

@@ -15,7 +15,7 @@ use Rattle.land_keep.specs.Timeline.{IsSoundTimeline, Timeline, last_register, l
 use Rattle.land_keep.specs.declared.timeline.Version.{Version}
 use Rattle.land_tables.proofs.PutMutations.{accepted_puts}
 use Rattle.land_tables.proofs.WrittenTimelines.{stays_last, written_last}
-use Rattle.land_tables.specs.Timelines.{RepresentsTimeline, moment_of}
+use Rattle.land_tables.specs.Timelines.{RepresentsTimeline, version_moment}
 use Rattle.land_tables.specs.Timelines.Writing.{WritesRepresentTimelines}
 use Rattle.land_tables_history.proofs.Changes as changes
 use Rattle.land_tables_history.specs.Changed.{changed_history}
@@ -24,9 +24,9 @@ use Rattle.land_tables_history.specs.Open.{have_ended, never}
 use Rattle.land_tables_history.specs.declared.history.History.{History}
 use Rattle.land_tables_history.specs.declared.moment.Moment.{Moment}
 
-moments_more : (tl : Timeline) (w : Version) → map_list moment_of (tl ++ w ∷ []) ≡ map_list moment_of tl ++ moment_of w ∷ []
+moments_more : (tl : Timeline) (w : Version) → map_list version_moment (tl ++ w ∷ []) ≡ map_list version_moment tl ++ version_moment w ∷ []
 moments_more [] w = refl
-moments_more (v ∷ vs) w = ap (λ l. moment_of v ∷ l) (moments_more vs w)
+moments_more (v ∷ vs) w = ap (λ l. version_moment v ∷ l) (moments_more vs w)
 
 -- a moment comes before the open end
 before_never : (t : ℤ) → t ≤ℤ last_moment → t <ℤ never
@@ -36,12 +36,12 @@ last_before : (last stamp t : ℤ) → last <ℤ stamp → stamp ≤ℤ t → la
 last_before last stamp t less le = omega (arith, ints)
 
 module _ (moments : List Moment) (h : History) (tl : Timeline) (change : Change) (stamp : ℤ) (sound : IsSoundTimeline tl) (for : RepresentsTimeline moments h tl) (can : CanWrite tl change stamp) where
-  moments_stand : IsPermutation (map_list moment_of (written_timeline tl change stamp)) (record { stamp = stamp; next = change.next } ∷ moments)
+  moments_stand : IsPermutation (map_list version_moment (written_timeline tl change stamp)) (record { stamp = stamp; next = change.next } ∷ moments)
   moments_stand =
       let w : Version = record { stamp = stamp; register = after change (last_register tl) } in
-      subst (λ l. IsPermutation l (moment_of w ∷ moments)) (sym (moments_more tl w))
-      (IsPermutation-trans (map_list moment_of tl ++ moment_of w ∷ []) (moment_of w ∷ map_list moment_of tl) (moment_of w ∷ moments)
-      (IsPermutation-to_front (map_list moment_of tl) (moment_of w)) (IsPermutation-cons (moment_of w) (map_list moment_of tl) moments for.moments))
+      subst (λ l. IsPermutation l (version_moment w ∷ moments)) (sym (moments_more tl w))
+      (IsPermutation-trans (map_list version_moment tl ++ version_moment w ∷ []) (version_moment w ∷ map_list version_moment tl) (version_moment w ∷ moments)
+      (IsPermutation-to_front (map_list version_moment tl) (version_moment w)) (IsPermutation-cons (version_moment w) (map_list version_moment tl) moments for.moments))
 
   abbrev after_it : History
   after_it = changed_history (last_register tl).next change stamp h

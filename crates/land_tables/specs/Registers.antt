@@ -3,7 +3,7 @@ use Rattle.std.specs.Prelude.{◌≡◌, ℕ, true, List}
 use Rattle.land_core.specs.declared.mandates.Mandate.{Mandate}
 use Rattle.land_keep.specs.Timeline.{IsSoundTimeline}
 use Rattle.land_tables.specs.TableContents.{DecodesRowsV1, is_one_edition, is_version}
-use Rattle.land_tables.specs.Standing.{HoldsTimeline, decoded_timeline, without_mandates}
+use Rattle.land_tables.specs.Standing.{HoldsTimeline, decoded_timeline, without_mandate_rows}
 use Rattle.land_tables.specs.declared.table_contents.TableContents.{TableContents}
 use Rattle.land_tables_history.specs.Intervals.{has_intervals}
 use Rattle.land_tables_history.specs.declared.version.Version.{Version}
@@ -30,7 +30,7 @@ pub record HasMandates (db : Database) : Type 0 where
 
 -- schema version 1 has no mandates: its tables are exactly the first ones
 abbrev pub version_1 : SchemaVersion
-version_1 = record { version = 1; AreThere = λ db. IsSchemaV1 db.schema; rows = without_mandates }
+version_1 = record { version = 1; AreThere = λ db. IsSchemaV1 db.schema; rows = without_mandate_rows }
 
 -- schema version 2, the current one, has mandates
 abbrev pub version_2 : SchemaVersion

@@ -3,8 +3,8 @@ use Rattle.std.specs.Prelude.{◌≡◌, ℤ, List, []}
 use Rattle.land_core.specs.declared.register.Register.{Register}
 use Rattle.land_keep.specs.Timeline.{Timeline}
 use Rattle.land_tables.specs.Timelines.{RepresentsTimeline, timeline_of}
-use Rattle.land_tables_history.specs.History.{register_at}
-use Rattle.land_tables_history.specs.Moments.{next_at}
+use Rattle.land_tables_history.specs.History.{register_of_history}
+use Rattle.land_tables_history.specs.Moments.{next_number_at}
 use Rattle.land_tables_history.specs.declared.history.History.{History}
 use Rattle.land_tables_history.specs.declared.moment.Moment.{Moment}
 use Rattle.land_tables_rows.specs.Listing.Reading.{Says, DecodesHistory, moments}
@@ -18,12 +18,12 @@ abbrev pub decoded_timeline : Trees → Timeline
 decoded_timeline db = timeline_of (decode_rows moments db) (decoded_history db)
 
 -- the tables as if that of mandates had no rows, since schema version 1 does not have it
-abbrev pub without_mandates : Trees → Trees
-without_mandates db = with_tree db mandate.tree []
+abbrev pub without_mandate_rows : Trees → Trees
+without_mandate_rows db = with_tree db mandate.tree []
 
 -- the timeline that tables of schema version 1 represent, if they represent one
 abbrev pub decoded_timeline_v1 : Trees → Timeline
-decoded_timeline_v1 db = decoded_timeline (without_mandates db)
+decoded_timeline_v1 db = decoded_timeline (without_mandate_rows db)
 
 -- tables represent a timeline: they hold moments and versions that do
 pub record HoldsTimeline (db : Trees) (tl : Timeline) : Type 0 where
@@ -37,4 +37,4 @@ pub record HoldsTimeline (db : Trees) (tl : Timeline) : Type 0 where
 abbrev pub ReadsAt : Trees → ℤ → Register → Type 0
 ReadsAt db t register =
     (listed : List Moment) × (history : History) × Says moments db listed × DecodesHistory db history
-    × (register ≡ register_at t history (next_at listed t))
+    × (register ≡ register_of_history t history (next_number_at listed t))

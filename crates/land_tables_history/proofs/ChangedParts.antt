@@ -18,7 +18,7 @@ use Rattle.land_core.specs.declared.roles.Grant.{Grant}
 use Rattle.land_tables_history.proofs.ChangedVersions.{changed_stand}
 use Rattle.land_tables_history.proofs.Made.{changed_entries}
 use Rattle.land_tables_history.proofs.Permutations.{filter_permuted}
-use Rattle.land_tables_history.specs.Changed.{changed_mandates, changed_part, changed_roles, changed_versions, is_among, is_changed}
+use Rattle.land_tables_history.specs.Changed.{changed_mandates, changed_part, changed_roles, changed_versions, is_key_among, is_changed}
 use Rattle.land_tables_history.specs.Open.{has_ended, never}
 use Rattle.land_tables_history.specs.Standing.{AreMandatesAt, AreRolesAt, IsPartAt, current_values}
 use Rattle.land_tables_history.specs.declared.version.Version.{Version}
@@ -46,7 +46,7 @@ pub numbered_entries : {V : Type 0} (m : FinMap nat_cmp V) (put : List (ℕ × V
     → IsPermutation (put ++ filter (λ e. not (is_changed put ended e.0)) (map.entries m)) (map.entries (with_changes m put ended))
 numbered_entries {V} m put ended once =
     subst (λ (same : ℕ → ℕ → Bool). are_distinct same (map_list (λ e. e.0) put) ≡ true
-    → IsPermutation (put ++ filter (λ e. not (is_among same (map_list (λ e. e.0) put ++ ended) e.0)) (map.entries m)) (map.entries (with_changes m put ended))) same_numbers
+    → IsPermutation (put ++ filter (λ e. not (is_key_among same (map_list (λ e. e.0) put ++ ended) e.0)) (map.entries m)) (map.entries (with_changes m put ended))) same_numbers
     (changed_entries nat_cmp_total nat_cmp-IsAntisymmetric m put ended) (distinct_before nat_eq (map_list (λ e. e.0) put) ended once)
 
 module _ (last stamp t : ℤ) (less : last <ℤ stamp) (since : stamp ≤ℤ t) (early : t <ℤ never) where
@@ -70,11 +70,11 @@ module _ (last stamp t : ℤ) (less : last <ℤ stamp) (since : stamp ≤ℤ t) 
   module _ {K : Type 0} {R : K → K → Ordering} (o : IsTotalOrder R) (exact : IsAntisymmetric R) where
     keys_change : (put ended : List K) (versions : List (Version K)) (set : FinMap R (Unit {0}))
         → list_all (has_ended last) versions ≡ true → are_distinct (eq_by_cmp R) (put ++ ended) ≡ true → IsPermutation (current_values t versions) (map.keys set)
-        → IsPermutation (current_values t (changed_versions put (λ key. is_among (eq_by_cmp R) (put ++ ended) key) stamp versions)) (map.keys (with_changes set (set_entries put) ended))
+        → IsPermutation (current_values t (changed_versions put (λ key. is_key_among (eq_by_cmp R) (put ++ ended) key) stamp versions)) (map.keys (with_changes set (set_entries put) ended))
     keys_change put ended versions set by_then once p =
-        let kept : List K = filter (λ key. not (is_among (eq_by_cmp R) (put ++ ended) key)) (map.keys set) in
-        IsPermutation-trans (current_values t (changed_versions put (λ key. is_among (eq_by_cmp R) (put ++ ended) key) stamp versions)) (put ++ kept) (map.keys (with_changes set (set_entries put) ended))
-        (stand_changed put (λ key. is_among (eq_by_cmp R) (put ++ ended) key) versions (map.keys set) by_then p)
+        let kept : List K = filter (λ key. not (is_key_among (eq_by_cmp R) (put ++ ended) key)) (map.keys set) in
+        IsPermutation-trans (current_values t (changed_versions put (λ key. is_key_among (eq_by_cmp R) (put ++ ended) key) stamp versions)) (put ++ kept) (map.keys (with_changes set (set_entries put) ended))
+        (stand_changed put (λ key. is_key_among (eq_by_cmp R) (put ++ ended) key) versions (map.keys set) by_then p)
         (subst (λ l. IsPermutation l (map.keys (with_changes set (set_entries put) ended))) (listed (put ++ ended) (map.entries set))
         (IsPermutation-map (λ e. e.0) (set_entries put ++ filter (λ e. not (list_any (eq_by_cmp R e.0) (put ++ ended))) (map.entries set)) (map.entries (with_changes set (set_entries put) ended)) entries))
       where
@@ -86,13 +86,13 @@ module _ (last stamp t : ℤ) (less : last <ℤ stamp) (since : stamp ≤ℤ t) 
             (subst (λ (ks : List K). are_distinct (eq_by_cmp R) ks ≡ true) (sym (keys-set_entries put)) (distinct_before (eq_by_cmp R) put ended once)))
 
         keys_kept : (ks : List K) (es : List (K × Unit {0})) → map_list (λ e. e.0) (filter (λ e. not (list_any (eq_by_cmp R e.0) ks)) es)
-            ≡ filter (λ key. not (is_among (eq_by_cmp R) ks key)) (map_list (λ e. e.0) es)
+            ≡ filter (λ key. not (is_key_among (eq_by_cmp R) ks key)) (map_list (λ e. e.0) es)
         keys_kept ks [] = refl
         keys_kept ks (e ∷ es) = go (not (list_any (eq_by_cmp R e.0) ks)) (keys_kept ks es)
           where
-            go : (b : Bool) → map_list (λ e. e.0) (filter (λ e. not (list_any (eq_by_cmp R e.0) ks)) es) ≡ filter (λ key. not (is_among (eq_by_cmp R) ks key)) (map_list (λ e. e.0) es)
+            go : (b : Bool) → map_list (λ e. e.0) (filter (λ e. not (list_any (eq_by_cmp R e.0) ks)) es) ≡ filter (λ key. not (is_key_among (eq_by_cmp R) ks key)) (map_list (λ e. e.0) es)
                 → map_list (λ e. e.0) (cond b (e ∷ filter (λ e. not (list_any (eq_by_cmp R e.0) ks)) es) (filter (λ e. not (list_any (eq_by_cmp R e.0) ks)) es))
-                ≡ cond b (e.0 ∷ filter (λ key. not (is_among (eq_by_cmp R) ks key)) (map_list (λ e. e.0) es)) (filter (λ key. not (is_among (eq_by_cmp R) ks key)) (map_list (λ e. e.0) es))
+                ≡ cond b (e.0 ∷ filter (λ key. not (is_key_among (eq_by_cmp R) ks key)) (map_list (λ e. e.0) es)) (filter (λ key. not (is_key_among (eq_by_cmp R) ks key)) (map_list (λ e. e.0) es))
             go true h = ap (λ l. e.0 ∷ l) h
             go false h = h
 
@@ -101,7 +101,7 @@ module _ (last stamp t : ℤ) (less : last <ℤ stamp) (since : stamp ≤ℤ t) 
         put_before (g ∷ gs) es = ap (λ l. g ∷ l) (put_before gs es)
 
         listed : (ks : List K) (es : List (K × Unit {0})) → map_list (λ e. e.0) (set_entries put ++ filter (λ e. not (list_any (eq_by_cmp R e.0) ks)) es)
-            ≡ put ++ filter (λ key. not (is_among (eq_by_cmp R) ks key)) (map_list (λ e. e.0) es)
+            ≡ put ++ filter (λ key. not (is_key_among (eq_by_cmp R) ks key)) (map_list (λ e. e.0) es)
         listed ks es = put_before put (filter (λ e. not (list_any (eq_by_cmp R e.0) ks)) es) ∙ ap (λ l. put ++ l) (keys_kept ks es)
 
   pub roles_change : (put ended : List Grant) (versions : List (Version Grant)) (grants : Grants)

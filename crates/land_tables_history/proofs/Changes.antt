@@ -10,7 +10,7 @@ use Rattle.land_tables_history.proofs.ChangedGroups.{members_change}
 use Rattle.land_tables_history.proofs.ChangedNamings.{namings_change}
 use Rattle.land_tables_history.proofs.ChangedParts.{mandates_change, part_changes, roles_change}
 use Rattle.land_tables_history.proofs.ChangedVersions.{changed_end, past_versions}
-use Rattle.land_tables_history.specs.Changed.{changed_part, changed_versions, is_among, is_changed, listed_members, named_by, new_mutations}
+use Rattle.land_tables_history.specs.Changed.{changed_part, changed_versions, is_key_among, is_changed, listed_members, named_by, new_mutations}
 use Rattle.land_tables_history.specs.Laws.{ChangesTakeEffect, ChangedHaveEnded, ChangesKeepThePast}
 use Rattle.land_tables_history.specs.Open.{has_ended, have_ended, never}
 use Rattle.land_tables_history.specs.Standing.{current_values}
@@ -78,7 +78,7 @@ changed_have_ended next change last stamp h all less =
     let over = change.ended in
     ten _ _ _ _ _ _ _ _ _ _
     (part_ends put.parties over.parties last stamp less h.parties ended.parties)
-    (changed_end put.roles (λ grant. is_among (eq_by_cmp grant_cmp) (put.roles ++ over.roles) grant) stamp last less h.roles ended.roles)
+    (changed_end put.roles (λ grant. is_key_among (eq_by_cmp grant_cmp) (put.roles ++ over.roles) grant) stamp last less h.roles ended.roles)
     (changed_end (listed_members put.members) (λ e. is_changed put.members over.members e.group) stamp last less h.members ended.members)
     (part_ends put.units over.units last stamp less h.units ended.units)
     (part_ends put.parcels over.parcels last stamp less h.parcels ended.parcels)
@@ -86,7 +86,7 @@ changed_have_ended next change last stamp h all less =
     (part_ends put.sources over.sources last stamp less h.sources ended.sources)
     (part_ends put.mutations over.mutations last stamp less h.mutations ended.mutations)
     (changed_end (named_by (new_mutations next put.mutations)) (λ naming. false) stamp last less h.namings ended.namings)
-    (changed_end put.mandates (λ mandate. is_among (eq_by_cmp mandate_cmp) (put.mandates ++ over.mandates) mandate) stamp last less h.mandates ended.mandates)
+    (changed_end put.mandates (λ mandate. is_key_among (eq_by_cmp mandate_cmp) (put.mandates ++ over.mandates) mandate) stamp last less h.mandates ended.mandates)
 
 -- ---- from the stamp on
 

@@ -8,7 +8,7 @@ use Rattle.std.specs.Option.{option_map_or}
 use Rattle.std.specs.Ordering.{eq_by_cmp, nat_cmp}
 use Rattle.land_core.proofs.FiniteMaps.{is_equal}
 use Rattle.land_core.specs.Entries.{with_entries}
-use Rattle.land_core.specs.Members.{Members, member_of, members_in}
+use Rattle.land_core.specs.Members.{Members, member_with_share, members_in}
 use Rattle.land_core.specs.declared.member.Member.{Member}
 use Rattle.land_fraction.specs.Ratio.{Ratio}
 use Rattle.land_tables_history.proofs.Orders.{at_key, at_once, first_of, found_first, in_any_order, no_more}
@@ -93,7 +93,7 @@ joining_one q (g ∷ gs) =
     go true h = ap (λ l. listed g ++ l) h
     go false h = h
 
-seats : (k : ℕ) (es : List (ℕ × Ratio)) → map_list seat (map_list (λ m. one_of k m) (map_list (λ e. member_of e.0 e.1) es)) ≡ es
+seats : (k : ℕ) (es : List (ℕ × Ratio)) → map_list seat (map_list (λ m. one_of k m) (map_list (λ e. member_with_share e.0 e.1) es)) ≡ es
 seats k [] = refl
 seats k (e ∷ es) = ap (λ l. e ∷ l) (seats k es)
 

@@ -19,7 +19,7 @@ use Rattle.land_tables_history.proofs.KeptVersions.{all_end_by, kept, standing_s
 use Rattle.land_tables_history.proofs.Keys.{grants_flip, mandates_flip, members_flip, namings_flip, numbers_flip}
 use Rattle.land_tables_history.proofs.NamingLists.{namings_distinct}
 use Rattle.land_tables_history.proofs.Proper.{AllProper, Proper, all_proper}
-use Rattle.land_tables_history.specs.Changed.{changed_history, changed_part, changed_versions, is_among, is_changed, listed_members, named_by, new_mutations}
+use Rattle.land_tables_history.specs.Changed.{changed_history, changed_part, changed_versions, is_key_among, is_changed, listed_members, named_by, new_mutations}
 use Rattle.land_tables_history.specs.History.{IsRegisterAt}
 use Rattle.land_tables_history.specs.Intervals.{are_intervals, has_intervals, is_same_grant, is_same_mandate, is_same_member, is_same_naming, is_same_number}
 use Rattle.land_tables_history.specs.Laws.{ChangesKeepIntervals, PutsMutations}
@@ -105,7 +105,7 @@ module _ (moments : List Moment) (last stamp : ℤ) (by : AllByRecursion (λ (m 
           let over = change.ended in
           ten _ _ _ _ _ _ _ _ _ _
           (part_kept change.next put.parties over.parties h.parties now.parties proper.parties stands_now.parties)
-          (versions_kept change.next is_same_grant grants_flip put.roles (λ grant. is_among (eq_by_cmp grant_cmp) (put.roles ++ over.roles) grant)
+          (versions_kept change.next is_same_grant grants_flip put.roles (λ grant. is_key_among (eq_by_cmp grant_cmp) (put.roles ++ over.roles) grant)
           h.roles _ proper.roles stands_now.roles (grants_once now.roles))
           (versions_kept change.next is_same_member members_flip (listed_members put.members) (λ e. is_changed put.members over.members e.group)
           h.members _ proper.members stands_now.members (members_once now.members))
@@ -116,7 +116,7 @@ module _ (moments : List Moment) (last stamp : ℤ) (by : AllByRecursion (λ (m 
           (part_kept change.next put.mutations over.mutations h.mutations now.mutations proper.mutations stands_now.mutations)
           (versions_kept change.next is_same_naming namings_flip (named_by (new_mutations r.next put.mutations)) (λ naming. false)
           h.namings _ proper.namings stands_now.namings (namings_distinct now sound))
-          (versions_kept change.next is_same_mandate mandates_flip put.mandates (λ mandate. is_among (eq_by_cmp mandate_cmp) (put.mandates ++ over.mandates) mandate)
+          (versions_kept change.next is_same_mandate mandates_flip put.mandates (λ mandate. is_key_among (eq_by_cmp mandate_cmp) (put.mandates ++ over.mandates) mandate)
           h.mandates _ proper.mandates stands_now.mandates (mandates_once now.mandates))
 
 pub changes_keep_intervals : ChangesKeepIntervals

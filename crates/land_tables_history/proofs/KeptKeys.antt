@@ -15,7 +15,7 @@ use Rattle.land_core.proofs.Orders.{less_apart}
 use Rattle.land_core.specs.Entries.{are_distinct}
 use Rattle.land_core.specs.Grants.{Grants, grant_cmp, grants_in}
 use Rattle.land_core.specs.Mandates.{Mandates, mandate_cmp, mandates_in}
-use Rattle.land_core.specs.Members.{Members, member_of, members_in}
+use Rattle.land_core.specs.Members.{Members, member_with_share, members_in}
 use Rattle.land_core.specs.declared.mandates.Mandate.{Mandate}
 use Rattle.land_core.specs.declared.member.Member.{Member}
 use Rattle.land_core.specs.declared.roles.Grant.{Grant}
@@ -75,7 +75,7 @@ smaller k n less = grind (arith, nat_tests)
 
 -- a member with a smaller number is not among a group's later members
 later_parties : (k n : ℕ) (share : Ratio) (es : List (ℕ × Ratio)) → below_all nat_cmp n es ≡ true
-    → list_any (is_same_member (of_group k (member_of n share))) (map_list (λ m. of_group k m) (map_list (λ e. member_of e.0 e.1) es)) ≡ false
+    → list_any (is_same_member (of_group k (member_with_share n share))) (map_list (λ m. of_group k m) (map_list (λ e. member_with_share e.0 e.1) es)) ≡ false
 later_parties k n share [] below = refl
 later_parties k n share (e ∷ es) below =
     let parts = and_parts (is_lt (nat_cmp n e.0)) (below_all nat_cmp n es) below in
@@ -84,7 +84,7 @@ later_parties k n share (e ∷ es) below =
 -- members of a group before those of other groups
 one_group : (k : ℕ) (es : List (ℕ × Ratio)) (later : List GroupMember) → is_sorted nat_cmp es ≡ true
     → are_distinct is_same_member later ≡ true → list_any (λ e. nat_eq k e.group) later ≡ false
-    → are_distinct is_same_member (map_list (λ m. of_group k m) (map_list (λ e. member_of e.0 e.1) es) ++ later) ≡ true
+    → are_distinct is_same_member (map_list (λ m. of_group k m) (map_list (λ e. member_with_share e.0 e.1) es) ++ later) ≡ true
 one_group k [] later sorted once apart = once
 one_group k (e ∷ es) later sorted once apart =
     let parts = and_parts (below_all nat_cmp e.0 es) (is_sorted nat_cmp es) sorted in
@@ -96,10 +96,10 @@ one_group k (e ∷ es) later sorted once apart =
     (one_group k es later parts.1 once apart)
   where
     first : GroupMember
-    first = of_group k (member_of e.0 e.1)
+    first = of_group k (member_with_share e.0 e.1)
 
     beside : List GroupMember
-    beside = map_list (λ m. of_group k m) (map_list (λ e. member_of e.0 e.1) es)
+    beside = map_list (λ m. of_group k m) (map_list (λ e. member_with_share e.0 e.1) es)
 
     each : (xs : List GroupMember) → AllByRecursion (λ x. is_same_member first x ≡ true → nat_eq k x.group ≡ true) xs
     each [] = tt

@@ -14,11 +14,11 @@ use Rattle.std.specs.declared.cmp.Ordering.{Ordering}
 use Rattle.std.specs.declared.cmp.Ordering.TheVariants.{Less, Equal, Greater}
 use Rattle.land_core.proofs.Booleans.{T_true, second_false}
 use Rattle.land_core.specs.Entries.{are_distinct}
-use Rattle.land_core.specs.Members.{Members, member_of, members_in}
+use Rattle.land_core.specs.Members.{Members, member_with_share, members_in}
 use Rattle.land_core.specs.declared.member.Member.{Member}
 use Rattle.land_fraction.specs.Ratio.{Ratio}
 use Rattle.land_tables_history.proofs.Entered.{insert_new, no_entries}
-use Rattle.land_tables_history.specs.Groups.{group_members, with_member, joined_members, members_of, with_members}
+use Rattle.land_tables_history.specs.Groups.{group_members, with_member, joined_members, members_of_group, with_members}
 use Rattle.land_tables_history.specs.Intervals.{is_same_member}
 use Rattle.land_tables_history.specs.declared.group_member.GroupMember.{GroupMember}
 
@@ -34,13 +34,13 @@ abbrev pub or_none : Option Members → Members
 or_none o = option_map_or (λ members. members) o map.empty
 
 -- one more member of a group
-seated : (g : ℕ) (old : Members) (p : ℕ) (s : Ratio) → map.get old p ≡ None → IsPermutation (listed (g, map.insert old p s)) (one_of g (member_of p s) ∷ listed (g, old))
+seated : (g : ℕ) (old : Members) (p : ℕ) (s : Ratio) → map.get old p ≡ None → IsPermutation (listed (g, map.insert old p s)) (one_of g (member_with_share p s) ∷ listed (g, old))
 seated g old p s none =
-    IsPermutation-map (one_of g) (members_in (map.insert old p s)) (member_of p s ∷ members_in old)
-    (IsPermutation-map (λ (e : ℕ × Ratio). member_of e.0 e.1) (map.entries (map.insert old p s)) ((p, s) ∷ map.entries old) (insert_new nat_cmp_total old p s none))
+    IsPermutation-map (one_of g) (members_in (map.insert old p s)) (member_with_share p s ∷ members_in old)
+    (IsPermutation-map (λ (e : ℕ × Ratio). member_with_share e.0 e.1) (map.entries (map.insert old p s)) ((p, s) ∷ map.entries old) (insert_new nat_cmp_total old p s none))
 
 nobody : (g : ℕ) → listed (g, map.empty) ≡ []
-nobody g = ap (λ es. map_list (one_of g) (map_list (λ (e : ℕ × Ratio). member_of e.0 e.1) es)) (no_entries nat_cmp Ratio)
+nobody g = ap (λ es. map_list (one_of g) (map_list (λ (e : ℕ × Ratio). member_with_share e.0 e.1) es)) (no_entries nat_cmp Ratio)
 
 between : (g k n : ℕ) → nat_cmp g k ≡ Less → is_lt (nat_cmp k n) ≡ true → eq_by_cmp nat_cmp g n ≡ false
 between g k n less more = grind (arith, nat_tests)
@@ -54,10 +54,10 @@ none_before g k (e ∷ es) less below =
 
 -- one more member of several groups
 put_member : (g p : ℕ) (s : Ratio) (es : List (ℕ × Members)) (old : Members) → or_none (find nat_cmp g es) ≡ old → is_sorted nat_cmp es ≡ true → map.get old p ≡ None
-    → IsPermutation (flat_map listed (put nat_cmp g (map.insert old p s) es)) (one_of g (member_of p s) ∷ flat_map listed es)
+    → IsPermutation (flat_map listed (put nat_cmp g (map.insert old p s) es)) (one_of g (member_with_share p s) ∷ flat_map listed es)
 put_member g p s [] old is sorted none =
-    subst (λ l. IsPermutation l (one_of g (member_of p s) ∷ [])) (sym (append-nil (listed (g, map.insert old p s))))
-    (subst (λ l. IsPermutation (listed (g, map.insert old p s)) (one_of g (member_of p s) ∷ l)) (ap (λ m. listed (g, m)) (sym is) ∙ nobody g) (seated g old p s none))
+    subst (λ l. IsPermutation l (one_of g (member_with_share p s) ∷ [])) (sym (append-nil (listed (g, map.insert old p s))))
+    (subst (λ l. IsPermutation (listed (g, map.insert old p s)) (one_of g (member_with_share p s) ∷ l)) (ap (λ m. listed (g, m)) (sym is) ∙ nobody g) (seated g old p s none))
 put_member g p s (e ∷ es) old is sorted none = go (nat_cmp g e.0) refl (λ same. put_member g p s es old same parts.1 none)
   where
     parts : (below_all nat_cmp e.0 es ≡ true) × (is_sorted nat_cmp es ≡ true)
@@ -67,37 +67,37 @@ put_member g p s (e ∷ es) old is sorted none = go (nat_cmp g e.0) refl (λ sam
     found : (r : Ordering) → nat_cmp g e.0 ≡ r → or_none (cond (is_eq r) (Some e.1) (find nat_cmp g es)) ≡ old
     found r at = ap (λ r. or_none (cond (is_eq r) (Some e.1) (find nat_cmp g es))) (sym at) ∙ is
 
-    first : (old : Members) → map.get old p ≡ None → map.empty ≡ old → IsPermutation (flat_map listed ((g, map.insert old p s) ∷ e ∷ es)) (one_of g (member_of p s) ∷ flat_map listed (e ∷ es))
+    first : (old : Members) → map.get old p ≡ None → map.empty ≡ old → IsPermutation (flat_map listed ((g, map.insert old p s) ∷ e ∷ es)) (one_of g (member_with_share p s) ∷ flat_map listed (e ∷ es))
     first old none empty =
-        subst (λ l. IsPermutation (flat_map listed ((g, map.insert old p s) ∷ e ∷ es)) (one_of g (member_of p s) ∷ (l ++ flat_map listed (e ∷ es)))) (ap (λ m. listed (g, m)) (sym empty) ∙ nobody g)
-        (IsPermutation-append_left (flat_map listed (e ∷ es)) (listed (g, map.insert old p s)) (one_of g (member_of p s) ∷ listed (g, old)) (seated g old p s none))
+        subst (λ l. IsPermutation (flat_map listed ((g, map.insert old p s) ∷ e ∷ es)) (one_of g (member_with_share p s) ∷ (l ++ flat_map listed (e ∷ es)))) (ap (λ m. listed (g, m)) (sym empty) ∙ nobody g)
+        (IsPermutation-append_left (flat_map listed (e ∷ es)) (listed (g, map.insert old p s)) (one_of g (member_with_share p s) ∷ listed (g, old)) (seated g old p s none))
 
     here : (k : ℕ) → g ≡ k → (old : Members) → map.get old p ≡ None
-        → IsPermutation (flat_map listed ((k, map.insert old p s) ∷ es)) (one_of g (member_of p s) ∷ flat_map listed ((k, old) ∷ es))
+        → IsPermutation (flat_map listed ((k, map.insert old p s) ∷ es)) (one_of g (member_with_share p s) ∷ flat_map listed ((k, old) ∷ es))
     here k same old none =
-        subst (λ (x : ℕ). IsPermutation (flat_map listed ((k, map.insert old p s) ∷ es)) (one_of x (member_of p s) ∷ flat_map listed ((k, old) ∷ es))) (sym same)
-        (IsPermutation-append_left (flat_map listed es) (listed (k, map.insert old p s)) (one_of k (member_of p s) ∷ listed (k, old)) (seated k old p s none))
+        subst (λ (x : ℕ). IsPermutation (flat_map listed ((k, map.insert old p s) ∷ es)) (one_of x (member_with_share p s) ∷ flat_map listed ((k, old) ∷ es))) (sym same)
+        (IsPermutation-append_left (flat_map listed es) (listed (k, map.insert old p s)) (one_of k (member_with_share p s) ∷ listed (k, old)) (seated k old p s none))
 
     go : (r : Ordering) → nat_cmp g e.0 ≡ r
-        → (or_none (find nat_cmp g es) ≡ old → IsPermutation (flat_map listed (put nat_cmp g (map.insert old p s) es)) (one_of g (member_of p s) ∷ flat_map listed es))
-        → IsPermutation (flat_map listed (by_order r ((g, map.insert old p s) ∷ e ∷ es) ((e.0, map.insert old p s) ∷ es) (e ∷ put nat_cmp g (map.insert old p s) es))) (one_of g (member_of p s) ∷ flat_map listed (e ∷ es))
+        → (or_none (find nat_cmp g es) ≡ old → IsPermutation (flat_map listed (put nat_cmp g (map.insert old p s) es)) (one_of g (member_with_share p s) ∷ flat_map listed es))
+        → IsPermutation (flat_map listed (by_order r ((g, map.insert old p s) ∷ e ∷ es) ((e.0, map.insert old p s) ∷ es) (e ∷ put nat_cmp g (map.insert old p s) es))) (one_of g (member_with_share p s) ∷ flat_map listed (e ∷ es))
     go Less at rest = first old none (sym (ap or_none (none_before g e.0 es at parts.0)) ∙ found Less at)
     go Equal at rest =
-        subst (λ (m : Members). IsPermutation (flat_map listed ((e.0, map.insert old p s) ∷ es)) (one_of g (member_of p s) ∷ flat_map listed ((e.0, m) ∷ es))) (sym (found Equal at))
+        subst (λ (m : Members). IsPermutation (flat_map listed ((e.0, map.insert old p s) ∷ es)) (one_of g (member_with_share p s) ∷ flat_map listed ((e.0, m) ∷ es))) (sym (found Equal at))
         (here e.0 (nat_cmp-IsAntisymmetric g e.0 at) old none)
     go Greater at rest =
-        IsPermutation-trans (listed e ++ flat_map listed (put nat_cmp g (map.insert old p s) es)) (listed e ++ one_of g (member_of p s) ∷ flat_map listed es) (one_of g (member_of p s) ∷ flat_map listed (e ∷ es))
-        (IsPermutation-append_right (listed e) (flat_map listed (put nat_cmp g (map.insert old p s) es)) (one_of g (member_of p s) ∷ flat_map listed es) (rest (found Greater at)))
-        (IsPermutation-middle (listed e) (one_of g (member_of p s)) (flat_map listed es))
+        IsPermutation-trans (listed e ++ flat_map listed (put nat_cmp g (map.insert old p s) es)) (listed e ++ one_of g (member_with_share p s) ∷ flat_map listed es) (one_of g (member_with_share p s) ∷ flat_map listed (e ∷ es))
+        (IsPermutation-append_right (listed e) (flat_map listed (put nat_cmp g (map.insert old p s) es)) (one_of g (member_with_share p s) ∷ flat_map listed es) (rest (found Greater at)))
+        (IsPermutation-middle (listed e) (one_of g (member_with_share p s)) (flat_map listed es))
 
 -- a member is new to these groups
 abbrev pub IsNew : FinMap nat_cmp Members → GroupMember → Type 0
-IsNew m e = map.get (members_of m e.group) e.member.party ≡ None
+IsNew m e = map.get (members_of_group m e.group) e.member.party ≡ None
 
 joined_one : (m : FinMap nat_cmp Members) (e : GroupMember) → IsNew m e → IsPermutation (group_members (with_member m e)) (e ∷ group_members m)
 joined_one m e new =
     subst (λ l. IsPermutation (flat_map listed l) (e ∷ group_members m)) (sym (map.entries-insert nat_cmp_total m e.group (joined_members m e)))
-    (put_member e.group e.member.party e.member.share (map.entries m) (members_of m e.group) (ap or_none (sym (map.get-entries m e.group))) (T_true (is_sorted nat_cmp (map.entries m)) (map.entries_sorted m)) new)
+    (put_member e.group e.member.party e.member.share (map.entries m) (members_of_group m e.group) (ap or_none (sym (map.get-entries m e.group))) (T_true (is_sorted nat_cmp (map.entries m)) (map.entries_sorted m)) new)
 
 same_numbers : (a b : ℕ) → eq_by_cmp nat_cmp a b ≡ (b == a)
 same_numbers a b = grind (arith, nat_tests)
@@ -108,10 +108,10 @@ new_still m e x apart new = ap (λ o. map.get (or_none o) x.member.party) (map.g
   where
     go : (b : Bool) → eq_by_cmp nat_cmp x.group e.group ≡ b → map.get (or_none (cond b (Some (joined_members m e)) (map.get m x.group))) x.member.party ≡ None
     go true is =
-        map.get-insert nat_cmp_total (members_of m e.group) e.member.party e.member.share x.member.party
-        ∙ ap (λ b. cond b (Some e.member.share) (map.get (members_of m e.group) x.member.party))
+        map.get-insert nat_cmp_total (members_of_group m e.group) e.member.party e.member.share x.member.party
+        ∙ ap (λ b. cond b (Some e.member.share) (map.get (members_of_group m e.group) x.member.party))
         (same_numbers x.member.party e.member.party ∙ second_false (e.group == x.group) (e.member.party == x.member.party) (sym (same_numbers x.group e.group) ∙ is) apart)
-        ∙ ap (λ (g : ℕ). map.get (members_of m g) x.member.party) (eqb-true e.group x.group (sym (same_numbers x.group e.group) ∙ is)) ∙ new
+        ∙ ap (λ (g : ℕ). map.get (members_of_group m g) x.member.party) (eqb-true e.group x.group (sym (same_numbers x.group e.group) ∙ is)) ∙ new
     go false is = new
 
 all_new_still : (m : FinMap nat_cmp Members) (e : GroupMember) (es : List GroupMember) → list_any (is_same_member e) es ≡ false → AllByRecursion (IsNew m) es → AllByRecursion (IsNew (with_member m e)) es

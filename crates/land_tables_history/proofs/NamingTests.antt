@@ -12,13 +12,13 @@ use Rattle.std.specs.Prelude.{ℤ, nat_eq}
 use Rattle.std.proofs.lemmas.Bool.{and_parts, eqb-true}
 use Rattle.std.proofs.lemmas.Cmp.{nat_eq_equiv}
 use Rattle.land_core.proofs.Booleans.{T_true, and_false}
-use Rattle.land_core.specs.Contents.{names_unit}
+use Rattle.land_core.specs.Contents.{content_names_unit}
 use Rattle.land_core.specs.declared.content.Content.{Content}
 use Rattle.land_core.specs.declared.content.Content.TheVariants as content
 use Rattle.land_core.specs.declared.mutation.MutationRecord.{MutationRecord}
 use Rattle.land_tables_history.specs.History.{named_units, namings_of}
 use Rattle.land_tables_history.specs.Intervals.{is_same_naming}
-use Rattle.land_tables_history.specs.ValidHistory.{are_same_namings, is_among, is_told}
+use Rattle.land_tables_history.specs.ValidHistory.{are_same_namings, is_naming_among, is_told}
 use Rattle.land_tables_history.specs.Standing.{current_values, is_current}
 use Rattle.land_tables_history.specs.declared.naming.Naming.{Naming}
 use Rattle.land_tables_history.specs.declared.version.Version.{Version}
@@ -66,7 +66,7 @@ or_false : (b : Bool) → b ≡ (b || false)
 or_false true = refl
 or_false false = refl
 
-in_content : (unit : ℕ) (c : Content) → names_unit unit c ≡ list_any (λ u. nat_eq u unit) (named_units c)
+in_content : (unit : ℕ) (c : Content) → content_names_unit unit c ≡ list_any (λ u. nat_eq u unit) (named_units c)
 in_content unit (content.Transfer it) = or_false (nat_eq it.unit unit)
 in_content unit (content.Subdivision it) = or_false (nat_eq it.unit unit)
 in_content unit (content.Merger it) = refl
@@ -74,11 +74,11 @@ in_content unit (content.Mortgage it) = or_false (nat_eq it.unit unit)
 in_content unit (content.Discharge it) = or_false (nat_eq it.unit unit)
 
 -- some mutation has this reference
-pub any_named : (n : Naming) (es : List (ℕ × MutationRecord)) → list_any (λ e. nat_eq n.mutation e.0 && names_unit n.unit e.1.content) es ≡ list_any (is_same_naming n) (flat_map named_by es)
+pub any_named : (n : Naming) (es : List (ℕ × MutationRecord)) → list_any (λ e. nat_eq n.mutation e.0 && content_names_unit n.unit e.1.content) es ≡ list_any (is_same_naming n) (flat_map named_by es)
 any_named n [] = refl
 any_named n (e ∷ es) =
-    ap (λ b. (nat_eq n.mutation e.0 && b) || list_any (λ (e : ℕ × MutationRecord). nat_eq n.mutation e.0 && names_unit n.unit e.1.content) es) (in_content n.unit e.1.content)
-    ∙ ap (λ b. b || list_any (λ (e : ℕ × MutationRecord). nat_eq n.mutation e.0 && names_unit n.unit e.1.content) es) (listed n e.0 (named_units e.1.content))
+    ap (λ b. (nat_eq n.mutation e.0 && b) || list_any (λ (e : ℕ × MutationRecord). nat_eq n.mutation e.0 && content_names_unit n.unit e.1.content) es) (in_content n.unit e.1.content)
+    ∙ ap (λ b. b || list_any (λ (e : ℕ × MutationRecord). nat_eq n.mutation e.0 && content_names_unit n.unit e.1.content) es) (listed n e.0 (named_units e.1.content))
     ∙ ap (λ b. list_any (is_same_naming n) (named_by e) || b) (any_named n es) ∙ sym (list_any-append (is_same_naming n) (named_by e) (flat_map named_by es))
 
 -- tests that agree
@@ -114,16 +114,16 @@ found_passes {V} n p (e ∷ es) sorted =
     go false is rest = rest
 
 -- some mutation refers to a unit if and only if the one of that number does
-pub told_there : (mutations : FinMap nat_cmp MutationRecord) (n : Naming) → is_told mutations n ≡ option_map_or (λ m. names_unit n.unit m.content) (map.get mutations n.mutation) false
+pub told_there : (mutations : FinMap nat_cmp MutationRecord) (n : Naming) → is_told mutations n ≡ option_map_or (λ m. content_names_unit n.unit m.content) (map.get mutations n.mutation) false
 told_there mutations n =
-    found_passes n.mutation (λ m. names_unit n.unit m.content) (map.entries mutations) (T_true (is_sorted nat_cmp (map.entries mutations)) (map.entries_sorted mutations))
-    ∙ ap (λ o. option_map_or (λ m. names_unit n.unit m.content) o false) (sym (map.get-entries mutations n.mutation))
+    found_passes n.mutation (λ m. content_names_unit n.unit m.content) (map.entries mutations) (T_true (is_sorted nat_cmp (map.entries mutations)) (map.entries_sorted mutations))
+    ∙ ap (λ o. option_map_or (λ m. content_names_unit n.unit m.content) o false) (sym (map.get-entries mutations n.mutation))
 
 -- ---- current namings are the references of mutations
 
 module _ (t : ℤ) (versions : List (Version Naming)) (mutations : FinMap nat_cmp MutationRecord) where
-  pub told_all : list_all (λ v. not (is_current t v) || is_told mutations v.what) versions ≡ list_all (is_among (namings_of mutations)) (current_values t versions)
-  told_all = all_standing t (is_told mutations) versions ∙ all_alike (is_told mutations) (is_among (namings_of mutations)) (λ n. any_named n (map.entries mutations)) (current_values t versions)
+  pub told_all : list_all (λ v. not (is_current t v) || is_told mutations v.what) versions ≡ list_all (is_naming_among (namings_of mutations)) (current_values t versions)
+  told_all = all_standing t (is_told mutations) versions ∙ all_alike (is_told mutations) (is_naming_among (namings_of mutations)) (λ n. any_named n (map.entries mutations)) (current_values t versions)
 
   pub none_told : (one : Bool) → one ≡ false → one ≡ list_all (λ v. not (is_current t v) || is_told mutations v.what) versions → one ≡ are_same_namings (current_values t versions) (namings_of mutations)
-  none_told one is a = is ∙ sym (ap (λ k. k && list_all (is_among (current_values t versions)) (namings_of mutations)) (sym (a ∙ told_all) ∙ is))
+  none_told one is a = is ∙ sym (ap (λ k. k && list_all (is_naming_among (current_values t versions)) (namings_of mutations)) (sym (a ∙ told_all) ∙ is))

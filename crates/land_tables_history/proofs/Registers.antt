@@ -4,7 +4,7 @@ use Rattle.land_core.specs.declared.register.Register.{Register}
 use Rattle.land_tables_history.proofs.GroupOrders.{grouped}
 use Rattle.land_tables_history.proofs.Orders.{given, granted, mandated}
 use Rattle.land_tables_history.specs.Groups.{HaveMembers}
-use Rattle.land_tables_history.specs.History.{IsRegisterAt, register_at}
+use Rattle.land_tables_history.specs.History.{IsRegisterAt, register_of_history}
 use Rattle.land_tables_history.specs.Standing.{current_values}
 use Rattle.land_tables_history.specs.declared.history.History.{History}
 
@@ -15,7 +15,7 @@ nine make a b c d e f g h i = cc
 pub through : {X : Type 0} {a c : X} (b : X) → a ≡ b → b ≡ c → a ≡ c
 through b x y = x ∙ y
 
-pub stood : (t : ℤ) (history : History) (next : ℕ) (r : Register) → HaveMembers r.members → IsRegisterAt t history r → register_at t history next ≡ record r { next = next }
+pub stood : (t : ℤ) (history : History) (next : ℕ) (r : Register) → HaveMembers r.members → IsRegisterAt t history r → register_of_history t history next ≡ record r { next = next }
 stood t history next r have stands = nine
     (λ parties roles members units parcels rrrs sources mutations mandates. record {
       parties = parties;

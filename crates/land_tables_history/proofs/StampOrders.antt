@@ -11,7 +11,7 @@ use Rattle.std.specs.Result.{is_ok}
 use Rattle.std.specs.declared.cmp.Ordering.TheVariants.{Less, Equal, Greater}
 use Rattle.land_core.proofs.Booleans.{or_true}
 use Rattle.land_tables_history.proofs.Permutations.{any_permuted}
-use Rattle.land_tables_history.specs.Intervals.{is_among, is_interval, is_interval_of, is_stamp}
+use Rattle.land_tables_history.specs.Intervals.{is_stamp_among, is_interval, is_interval_of, is_stamp}
 use Rattle.land_tables_history.specs.declared.moment.Moment.{Moment}
 use Rattle.land_tables_history.specs.declared.version.Version.{Version}
 
@@ -36,7 +36,7 @@ is_more s t e = grind (arith, ints)
 either_side : (k i : ℕ) → (k < i) ⊎ (i ≤ k)
 either_side k i = grind arith
 
-pub found_among : (stamps : List ℤ) (t : ℤ) (r : Result ℕ ℕ) → IsSorted int_cmp stamps → IsSearchInRange r (length stamps) → IsBinarySearchResult (λ y. int_cmp y t) stamps r → is_ok r ≡ is_among stamps t
+pub found_among : (stamps : List ℤ) (t : ℤ) (r : Result ℕ ℕ) → IsSorted int_cmp stamps → IsSearchInRange r (length stamps) → IsBinarySearchResult (λ y. int_cmp y t) stamps r → is_ok r ≡ is_stamp_among stamps t
 found_among stamps t (Ok i) sorted bound found = sym (some_from (λ s. int_eq s t) stamps i bound (λ d. is_it (get_or stamps i d) t (found d)))
 found_among stamps t (Err i) sorted bound found =
     let parted = found (searchable_from_sorted int_cmp_total (λ y. y) stamps t sorted) in
@@ -47,11 +47,11 @@ found_among stamps t (Err i) sorted bound found =
     ]))
 
 -- the stamps of commits, in unspecified order
-among_stamps : (moments : List Moment) (t : ℤ) → is_among (map_list (λ m. m.stamp) moments) t ≡ is_stamp moments t
+among_stamps : (moments : List Moment) (t : ℤ) → is_stamp_among (map_list (λ m. m.stamp) moments) t ≡ is_stamp moments t
 among_stamps [] t = refl
 among_stamps (m ∷ ms) t = ap (λ b. int_eq m.stamp t || b) (among_stamps ms t)
 
-pub same_stamps : (moments : List Moment) (stamps : List ℤ) → IsPermutation (map_list (λ m. m.stamp) moments) stamps → (t : ℤ) → is_among stamps t ≡ is_stamp moments t
+pub same_stamps : (moments : List Moment) (stamps : List ℤ) → IsPermutation (map_list (λ m. m.stamp) moments) stamps → (t : ℤ) → is_stamp_among stamps t ≡ is_stamp moments t
 same_stamps moments stamps p t = any_permuted (λ s. int_eq s t) (map_list (λ (m : Moment). m.stamp) moments) stamps p ∙ among_stamps moments t
 
 pub same_interval : {X : Type 0} (moments : List Moment) (stamps : List ℤ) → IsPermutation (map_list (λ m. m.stamp) moments) stamps → (v : Version X) → is_interval_of stamps v ≡ is_interval moments v

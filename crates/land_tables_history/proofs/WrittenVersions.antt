@@ -17,7 +17,7 @@ use Rattle.land_core.specs.Grants.{grant_cmp, grants_in}
 use Rattle.land_core.specs.Mandates.{mandate_cmp, mandates_in}
 use Rattle.land_core.specs.Members.{Members, members_in}
 use Rattle.land_core.specs.Register.{has_group, has_single_party, is_single}
-use Rattle.land_core.specs.Role.{place_of}
+use Rattle.land_core.specs.Role.{role_index}
 use Rattle.land_core.specs.Soundness.{are_dangling_members, has_dangling_member, has_unused, is_dangling_mandate, is_used}
 use Rattle.land_core.specs.declared.mandates.Mandate.{Mandate}
 use Rattle.land_core.specs.declared.member.Member.{Member}
@@ -29,7 +29,7 @@ use Rattle.land_tables_history.proofs.KeptVersions.{open_stands}
 use Rattle.land_tables_history.proofs.NamingTests.{all_standing}
 use Rattle.land_tables_history.proofs.Permutations.{all_permuted}
 use Rattle.land_tables_history.proofs.Proper.{Proper, all_proper}
-use Rattle.land_tables_history.specs.Changed.{changed_mandates, changed_members, changed_namings, changed_part, changed_roles, changed_versions, closed_version, is_among, is_changed, listed_members, opened_version}
+use Rattle.land_tables_history.specs.Changed.{changed_mandates, changed_members, changed_namings, changed_part, changed_roles, changed_versions, closed_version, is_key_among, is_changed, listed_members, opened_version}
 use Rattle.land_tables_history.specs.Groups.{group_members}
 use Rattle.land_tables_history.specs.Intervals.{is_interval, is_same_grant, is_same_mandate, is_same_member, is_same_number}
 use Rattle.land_tables_history.specs.Laws.{WritesCloseAll}
@@ -126,14 +126,14 @@ module _ (next : ℕ) where
       ∙ sym (list_any-append (nat_eq n) (map_list (λ e. e.0) put) ended)
 
   key_changed : {K : Type 0} (same : K → K → Bool) (number : K → ℕ) → ((a b : K) → same a b ≡ true → nat_eq (number a) (number b) ≡ true)
-      → (put ended : List K) (key : K) → nat_lt (number key) next ≡ true → is_among same (existing_records number next put ++ ended) key ≡ is_among same (put ++ ended) key
+      → (put ended : List K) (key : K) → nat_lt (number key) next ≡ true → is_key_among same (existing_records number next put ++ ended) key ≡ is_key_among same (put ++ ended) key
   key_changed same number agrees put ended key less =
       list_any-append (same key) (existing_records number next put) ended
       ∙ ap (λ b. b || list_any (same key) ended) (any_existing (same key) number (λ k is. same_below (number key) (number k) next less (agrees key k is)) put)
       ∙ sym (list_any-append (same key) put ended)
 
 same_party : (a b : Grant) → is_same_grant a b ≡ true → nat_eq a.party b.party ≡ true
-same_party a b same = (and_parts (a.party == b.party) (place_of a.role == place_of b.role) (sym (grants_by_pairs a b) ∙ same)).0
+same_party a b same = (and_parts (a.party == b.party) (role_index a.role == role_index b.role) (sym (grants_by_pairs a b) ∙ same)).0
 
 same_principal : (a b : Mandate) → is_same_mandate a b ≡ true → nat_eq a.principal b.principal ≡ true
 same_principal a b same = (and_parts (a.principal == b.principal) (a.agent == b.agent) (sym (mandates_by_pairs a b) ∙ same)).0
@@ -181,14 +181,14 @@ module _ (moments : List Moment) (last stamp : ℤ) (by : AllByRecursion (λ (m 
     roles_closed : (put ended : List Grant) (vs : List (Version Grant)) (them : List Grant) → Proper is_same_grant moments vs → IsPermutation (current_values last vs) them
         → list_all (λ g. nat_lt g.party next) them ≡ true → written_roles next put ended stamp vs ≡ changed_roles put ended stamp vs
     roles_closed put ended vs them proper p passes =
-        versions_closed (λ grant. is_among (eq_by_cmp grant_cmp) (existing_records (λ x. x.party) next put ++ ended) grant) (λ grant. is_among (eq_by_cmp grant_cmp) (put ++ ended) grant)
+        versions_closed (λ grant. is_key_among (eq_by_cmp grant_cmp) (existing_records (λ x. x.party) next put ++ ended) grant) (λ grant. is_key_among (eq_by_cmp grant_cmp) (put ++ ended) grant)
         (λ g. nat_lt g.party next) (λ g less. key_changed next (eq_by_cmp grant_cmp) (λ x. x.party) same_party put ended g less) put vs them proper p passes
 
     mandates_closed : (put ended : List Mandate) (vs : List (Version Mandate)) (them : List Mandate) → Proper is_same_mandate moments vs → IsPermutation (current_values last vs) them
         → list_all (λ m. nat_lt m.principal next) them ≡ true → written_mandates next put ended stamp vs ≡ changed_mandates put ended stamp vs
     mandates_closed put ended vs them proper p passes =
-        versions_closed (λ mandate. is_among (eq_by_cmp mandate_cmp) (existing_records (λ x. x.principal) next put ++ ended) mandate)
-        (λ mandate. is_among (eq_by_cmp mandate_cmp) (put ++ ended) mandate) (λ m. nat_lt m.principal next)
+        versions_closed (λ mandate. is_key_among (eq_by_cmp mandate_cmp) (existing_records (λ x. x.principal) next put ++ ended) mandate)
+        (λ mandate. is_key_among (eq_by_cmp mandate_cmp) (put ++ ended) mandate) (λ m. nat_lt m.principal next)
         (λ m less. key_changed next (eq_by_cmp mandate_cmp) (λ x. x.principal) same_principal put ended m less) put vs them proper p passes
 
     members_closed : (put : List (ℕ × Members)) (ended : List ℕ) (vs : List (Version GroupMember)) (them : List GroupMember) → Proper is_same_member moments vs

@@ -33,12 +33,12 @@ changed_versions put meant stamp versions =
     map_list (λ x. opened_version x stamp) put ++ map_list (closed_version meant stamp) versions
 
 -- whether a key is among these
-abbrev pub is_among : {K : Type 0} → (same : K → K → Bool) → List K → K → Bool
-is_among same keys key = list_any (same key) keys
+abbrev pub is_key_among : {K : Type 0} → (same : K → K → Bool) → List K → K → Bool
+is_key_among same keys key = list_any (same key) keys
 
 -- whether a number is among the inserted or the ended ones
 abbrev pub is_changed : {V : Type 0} → (put : List (ℕ × V)) → (ended : List ℕ) → ℕ → Bool
-is_changed put ended number = is_among nat_eq (map_list (λ e. e.0) put ++ ended) number
+is_changed put ended number = is_key_among nat_eq (map_list (λ e. e.0) put ++ ended) number
 
 -- records: inserted ones start, and current versions of a changed number end
 abbrev pub changed_part : {V : Type 0} → (put : List (ℕ × V)) → (ended : List ℕ) → (stamp : ℤ)
@@ -49,13 +49,14 @@ changed_part put ended stamp versions = changed_versions put (λ e. is_changed p
 abbrev pub changed_roles : (put ended : List Grant) → (stamp : ℤ) → List (Version Grant)
     → List (Version Grant)
 changed_roles put ended stamp versions =
-    changed_versions put (λ grant. is_among (eq_by_cmp grant_cmp) (put ++ ended) grant) stamp versions
+    changed_versions put (λ grant. is_key_among (eq_by_cmp grant_cmp) (put ++ ended) grant) stamp versions
 
 -- mandates: new ones start, and current versions of new or withdrawn ones end
 abbrev pub changed_mandates : (put ended : List Mandate) → (stamp : ℤ) → List (Version Mandate)
     → List (Version Mandate)
 changed_mandates put ended stamp versions =
-    changed_versions put (λ mandate. is_among (eq_by_cmp mandate_cmp) (put ++ ended) mandate) stamp versions
+    changed_versions put (λ mandate. is_key_among (eq_by_cmp mandate_cmp) (put ++ ended) mandate) stamp
+    versions
 
 -- the members of these groups, each with the number of its group
 abbrev pub listed_members : List (ℕ × Members) → List GroupMember

@@ -24,12 +24,12 @@ abbrev pub AreGroupsAt : ℤ → List (Version GroupMember) → FinMap nat_cmp M
 AreGroupsAt t versions groups = IsPermutation (current_values t versions) (group_members groups)
 
 -- the members of a group, empty if the group does not exist
-abbrev pub members_of : FinMap nat_cmp Members → ℕ → Members
-members_of groups group = option_map_or (λ members. members) (map.get groups group) map.empty
+abbrev pub members_of_group : FinMap nat_cmp Members → ℕ → Members
+members_of_group groups group = option_map_or (λ members. members) (map.get groups group) map.empty
 
 -- the members of a group after another one has joined
 abbrev pub joined_members : FinMap nat_cmp Members → GroupMember → Members
-joined_members groups e = map.insert (members_of groups e.group) e.member.party e.member.share
+joined_members groups e = map.insert (members_of_group groups e.group) e.member.party e.member.share
 
 -- adds a member to its group, which is created with its first member
 abbrev pub with_member : FinMap nat_cmp Members → GroupMember → FinMap nat_cmp Members

@@ -43,8 +43,8 @@ pub record IsRegisterAt (t : ℤ) (history : History) (register : Register) : Ty
   pub mandates : AreMandatesAt t history.mandates register.mandates
 
 -- the register at a moment, with this next number
-abbrev pub register_at : ℤ → History → (next : ℕ) → Register
-register_at t history next = record {
+abbrev pub register_of_history : ℤ → History → (next : ℕ) → Register
+register_of_history t history next = record {
   parties = part_at t history.parties;
   roles = roles_at t history.roles;
   members = groups_at t history.members;

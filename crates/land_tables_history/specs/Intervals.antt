@@ -43,13 +43,14 @@ is_interval moments v =
     int_lt v.since v.until && is_stamp moments v.since && (int_eq v.until never || is_stamp moments v.until)
 
 -- a moment is among these stamps
-abbrev pub is_among : List ℤ → ℤ → Bool
-is_among stamps t = list_any (λ stamp. int_eq stamp t) stamps
+abbrev pub is_stamp_among : List ℤ → ℤ → Bool
+is_stamp_among stamps t = list_any (λ stamp. int_eq stamp t) stamps
 
 -- likewise for stamps only
 abbrev pub is_interval_of : {X : Type 0} → List ℤ → Version X → Bool
 is_interval_of stamps v =
-    int_lt v.since v.until && is_among stamps v.since && (int_eq v.until never || is_among stamps v.until)
+    int_lt v.since v.until && is_stamp_among stamps v.since
+    && (int_eq v.until never || is_stamp_among stamps v.until)
 
 -- two lifespans of one key overlap
 abbrev pub overlap : {X : Type 0} → (X → X → Bool) → Version X → Version X → Bool

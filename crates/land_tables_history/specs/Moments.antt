@@ -23,5 +23,5 @@ abbrev pub last : List Moment → Option Moment
 last moments = latest (λ m. true) moments
 
 -- the next number of the latest commit at or before `t`, or 2 without one
-abbrev pub next_at : List Moment → ℤ → ℕ
-next_at moments t = option_map_or (λ m. m.next) (latest (λ m. int_le m.stamp t) moments) 2
+abbrev pub next_number_at : List Moment → ℤ → ℕ
+next_number_at moments t = option_map_or (λ m. m.next) (latest (λ m. int_le m.stamp t) moments) 2

@@ -4,7 +4,7 @@ use Rattle.std.proofs.lemmas.Bool.Decides.{nat_tests}
 use Rattle.std.specs.Ordering.{eq_by_cmp, is_eq, nat_cmp, ordering_then}
 use Rattle.std.specs.declared.cmp.Ordering.{Ordering}
 use Rattle.std.specs.declared.cmp.Ordering.TheVariants.{Less, Equal, Greater}
-use Rattle.land_core.specs.Role.{place_of}
+use Rattle.land_core.specs.Role.{role_index}
 use Rattle.land_core.specs.declared.mandates.Mandate.{Mandate}
 use Rattle.land_core.specs.declared.roles.Grant.{Grant}
 use Rattle.land_tables_history.specs.Intervals.{is_same_grant, is_same_mandate, is_same_member}
@@ -33,10 +33,10 @@ same_test : (a b : ℕ) → eq_by_cmp nat_cmp a b ≡ (a == b)
 same_test a b = grind (arith, nat_tests)
 
 pub grants_by_pairs : (a b : Grant)
-    → is_same_grant a b ≡ is_same_pair (a.party, place_of a.role) (b.party, place_of b.role)
+    → is_same_grant a b ≡ is_same_pair (a.party, role_index a.role) (b.party, role_index b.role)
 grants_by_pairs a b =
-    eq_then (nat_cmp a.party b.party) (nat_cmp (place_of a.role) (place_of b.role))
-    ∙ ap₂ (λ x y. x && y) (same_test a.party b.party) (same_test (place_of a.role) (place_of b.role))
+    eq_then (nat_cmp a.party b.party) (nat_cmp (role_index a.role) (role_index b.role))
+    ∙ ap₂ (λ x y. x && y) (same_test a.party b.party) (same_test (role_index a.role) (role_index b.role))
 
 pub members_by_pairs : (a b : GroupMember)
     → is_same_member a b ≡ is_same_pair (a.group, a.member.party) (b.group, b.member.party)

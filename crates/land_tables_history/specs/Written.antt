@@ -9,7 +9,7 @@ use Rattle.land_core.specs.Members.{Members}
 use Rattle.land_core.specs.declared.change.Change.{Change}
 use Rattle.land_core.specs.declared.mandates.Mandate.{Mandate}
 use Rattle.land_core.specs.declared.roles.Grant.{Grant}
-use Rattle.land_tables_history.specs.Changed.{changed_namings, changed_versions, is_among, is_changed}
+use Rattle.land_tables_history.specs.Changed.{changed_namings, changed_versions, is_key_among, is_changed}
 use Rattle.land_tables_history.specs.Changed.{listed_members}
 use Rattle.land_tables_history.specs.declared.group_member.GroupMember.{GroupMember}
 use Rattle.land_tables_history.specs.declared.history.History.{History}
@@ -30,7 +30,7 @@ abbrev pub written_roles : (next : ℕ) → (put ended : List Grant) → (stamp 
     → List (Version Grant)
 written_roles next put ended stamp versions =
     changed_versions put
-    (λ grant. is_among (eq_by_cmp grant_cmp) (existing_records (λ x. x.party) next put ++ ended) grant)
+    (λ grant. is_key_among (eq_by_cmp grant_cmp) (existing_records (λ x. x.party) next put ++ ended) grant)
     stamp versions
 
 -- mandates: new ones start, and current versions of withdrawn ones end, or of new ones of existing principals
@@ -39,7 +39,7 @@ abbrev pub written_mandates : (next : ℕ) → (put ended : List Mandate) → (s
 written_mandates next put ended stamp versions =
     changed_versions put
     (λ mandate.
-    is_among (eq_by_cmp mandate_cmp) (existing_records (λ x. x.principal) next put ++ ended) mandate)
+    is_key_among (eq_by_cmp mandate_cmp) (existing_records (λ x. x.principal) next put ++ ended) mandate)
     stamp versions
 
 -- members: those of inserted groups start, and current members of an ended or an existing inserted group end

@@ -4,7 +4,7 @@ ghost use Rattle.std.specs.Ordering.{nat_cmp};
 ghost use Rattle.std.specs.Prelude.{◌≡◌, IfOk};
 ghost use Rattle.land_core.specs.Members.{Members};
 ghost use Rattle.land_tables_history.specs.Groups.{AreGroupsAt, HaveMembers, groups_at, joined_members};
-ghost use Rattle.land_tables_history.specs.Groups.{members_of};
+ghost use Rattle.land_tables_history.specs.Groups.{members_of_group};
 
 use crate::group_member::GroupMember;
 use crate::version::Version;
@@ -49,7 +49,7 @@ fn joined_members(
 
 /// Returns the members of a group, none if there is no group.
 fn members_of(alloc: Global, groups: &Records<Members>, group: u64) -> Result<Members, AllocError>
-    ensures { IfOk result (λ it. it ≡ members_of groups.now group) }
+    ensures { IfOk result (λ it. it ≡ members_of_group groups.now group) }
 {
     match groups.get(group) {
         Some(members) => members.copy(alloc),

@@ -1,6 +1,6 @@
 //! Values with a key. At most one version of a key is current at a moment.
 ghost use Rattle.std.specs.Prelude.{◌≡◌, ℕ, Bool};
-ghost use Rattle.land_core.specs.Role.{place_of};
+ghost use Rattle.land_core.specs.Role.{role_index};
 ghost use Rattle.land_tables_history.specs.Intervals.{is_same_grant, is_same_mandate, is_same_member};
 ghost use Rattle.land_tables_history.specs.Intervals.{is_same_naming, is_same_number};
 ghost use Rattle.land_tables_history.specs.Pairs.{grants_by_pairs, is_same_pair, mandates_by_pairs};
@@ -42,7 +42,7 @@ impl<V> Keyed for (u64, V) {
 impl Keyed for Grant {
     ghost same_key = { is_same_grant };
 
-    ghost key_of = { λ a. (a.party, place_of a.role) };
+    ghost key_of = { λ a. (a.party, role_index a.role) };
 
     ghost by_pairs = { grants_by_pairs };
 

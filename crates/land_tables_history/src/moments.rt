@@ -1,6 +1,6 @@
 //! Finds the latest of a history's commits.
 ghost use Rattle.std.specs.Prelude.{◌≡◌, ◌&&◌, int_le};
-ghost use Rattle.land_tables_history.specs.Moments.{follows, last, latest, next_at};
+ghost use Rattle.land_tables_history.specs.Moments.{follows, last, latest, next_number_at};
 
 use crate::moment::Moment;
 
@@ -20,7 +20,7 @@ pub fn last(moments: &[Moment]) -> Option<Moment>
 /// Returns the number of the next new object at a moment: that of the latest commit at or before it, or 2 if
 /// there is none.
 pub fn next_at(moments: &[Moment], at: i64) -> u64
-    ensures { result ≡ next_at moments.now at }
+    ensures { result ≡ next_number_at moments.now at }
 {
     match latest_at(moments, at) {
         Some(moment) => moment.next,

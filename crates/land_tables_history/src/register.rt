@@ -2,7 +2,7 @@
 ghost use Rattle.std.specs.Prelude.{◌≡◌, IfOk};
 ghost use Rattle.land_core.specs.declared.register.Register.{Register as Registered};
 ghost use Rattle.land_tables_history.specs.Groups.{HaveMembers};
-ghost use Rattle.land_tables_history.specs.History.{IsRegisterAt, register_at};
+ghost use Rattle.land_tables_history.specs.History.{IsRegisterAt, register_of_history};
 
 use crate::groups::groups_at;
 use crate::history::History;
@@ -20,7 +20,7 @@ pub fn register_at(
     at: i64,
     next: u64,
 ) -> Result<Register, AllocError>
-    ensures value { IfOk result (λ it. it ≡ register_at at history.now next) }
+    ensures value { IfOk result (λ it. it ≡ register_of_history at history.now next) }
     ensures stands { IfOk result (λ it. (register : Registered) → HaveMembers register.members
         → IsRegisterAt at history.now register
         → it ≡ record register { next = next }) }

@@ -2,7 +2,7 @@
 ghost use Rattle.std.specs.List.Sorted.{IsPermutation, IsSorted};
 ghost use Rattle.std.specs.Ordering.{int_cmp};
 ghost use Rattle.std.specs.Prelude.{◌≡◌, IfOk, map as map_list};
-ghost use Rattle.land_tables_history.specs.Intervals.{is_among};
+ghost use Rattle.land_tables_history.specs.Intervals.{is_stamp_among};
 
 use crate::moment::Moment;
 use std::alloc::{AllocError, Global};
@@ -30,7 +30,7 @@ fn copy_stamps(alloc: Global, moments: &[Moment]) -> Result<Vec<i64>, AllocError
 /// Returns whether a moment is among sorted stamps, by binary search.
 pub(crate) fn is_among(stamps: &[i64], at: i64) -> bool
     requires { IsSorted int_cmp stamps.now }
-    ensures { result ≡ is_among stamps.now at }
+    ensures { result ≡ is_stamp_among stamps.now at }
 {
     stamps.binary_search(&at).is_ok()
 }

@@ -13,11 +13,11 @@ use Rattle.land_core.specs.declared.content.Content.{Content}
 use Rattle.land_core.specs.declared.content.Content.TheVariants as content
 use Rattle.land_core.specs.declared.subdivision.Part.{Part}
 use Rattle.land_fraction.specs.Ratio.{Ratio, IsFraction}
-use Rattle.land_fraction.specs.Text.{text_of}
+use Rattle.land_fraction.specs.Text.{fraction_text}
 use Rattle.land_tables_rows.proofs.TextReadings.{ascii_is_utf8, printed_is_utf8}
 use Rattle.land_tables_rows.specs.Mutation.Cells.{is_content_kept, is_new_name_kept, is_part_kept}
 use Rattle.land_wire_json.proofs.ContentReading.{exact}
-use Rattle.land_wire_json.specs.Bodies.Stored.{HasOutline, IsExactContent}
+use Rattle.land_wire_json.specs.Bodies.Stored.{HasPartOutline, IsExactContent}
 use Rattle.land_wire_json.specs.Texts.Exact.{are_keys_after, are_exact, is_exact, is_u64, has_increasing_keys}
 use Rattle.land_wire_json.specs.Texts.Mutations.{content_data, content_text}
 use Rattle.land_wire_json.specs.Texts.Subdivisions.{name_members, part_data}
@@ -88,7 +88,7 @@ mutual
 
 -- ---- contents
 
-share_utf8 : (f : Ratio) → IsFraction f → IsUtf8 (text_of f)
+share_utf8 : (f : Ratio) → IsFraction f → IsUtf8 (fraction_text f)
 share_utf8 f h =
     let below : f.denominator ≤ 1000000000 = h.not_too_fine in
     let most : f.numerator ≤ f.denominator = h.proper.at_most_one in
@@ -96,8 +96,8 @@ share_utf8 f h =
     let d : IsUtf8 (decimal f.denominator) = IsUtf8-from_ascii (decimal f.denominator) (IsAscii-decimal f.denominator (omega arith)) in
     IsUtf8-append (decimal f.numerator ++ codes "/") (decimal f.denominator) (IsUtf8-append (decimal f.numerator) (codes "/") n (IsUtf8-are_ascii (codes "/") refl)) d
 
-share_is_utf8 : (f : Ratio) → IsFraction f → is_utf8 (text_of f) ≡ true
-share_is_utf8 f h = is_utf8-from_IsUtf8 (text_of f) (share_utf8 f h)
+share_is_utf8 : (f : Ratio) → IsFraction f → is_utf8 (fraction_text f) ≡ true
+share_is_utf8 f h = is_utf8-from_IsUtf8 (fraction_text f) (share_utf8 f h)
 
 numbers_readable : (numbers : List ℕ) → AreReadable (items_of (map number_data numbers))
 numbers_readable [] = tt
@@ -107,12 +107,12 @@ name_readable : (unit : Option (List ℕ)) → is_new_name_kept unit ≡ true �
 name_readable None e = tt
 name_readable (Some name) e = (refl, e, tt)
 
-part_readable : (part : Part) → is_part_kept part ≡ true → HasOutline part → IsReadable (part_data part)
+part_readable : (part : Part) → is_part_kept part ≡ true → HasPartOutline part → IsReadable (part_data part)
 part_readable part e h =
     let p = and_parts (is_utf8 part.label) (is_new_name_kept part.unit) e in
     (refl, p.0, (refl, printed_is_utf8 part.outline h, name_readable part.unit p.1))
 
-parts_readable : (parts : List Part) → list_all is_part_kept parts ≡ true → AllByRecursion HasOutline parts → AreReadable (items_of (map part_data parts))
+parts_readable : (parts : List Part) → list_all is_part_kept parts ≡ true → AllByRecursion HasPartOutline parts → AreReadable (items_of (map part_data parts))
 parts_readable [] e h = tt
 parts_readable (part ∷ parts) e h =
     let p = and_parts (is_part_kept part) (list_all is_part_kept parts) e in

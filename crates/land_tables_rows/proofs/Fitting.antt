@@ -6,7 +6,7 @@ use Rattle.std.specs.List.{flat_map, list_all}
 use Rattle.std.specs.Prelude.{filter, length, nat_le, not}
 use Rattle.std.proofs.lemmas.Bool.{and_from, and_parts}
 use Rattle.land_core.specs.Contents.{is_amount, is_currency, is_well_formed_content}
-use Rattle.land_core.specs.Members.{Members, member_of, members_in}
+use Rattle.land_core.specs.Members.{Members, member_with_share, members_in}
 use Rattle.land_core.specs.Mergers.{are_merged_parcels, are_other_units, are_ascending_numbers, lists_number, all_above}
 use Rattle.land_core.specs.Numbers.{is_number}
 use Rattle.land_core.specs.Subdivisions.{are_further_parts}
@@ -24,7 +24,7 @@ use Rattle.land_tables_rows.specs.Naming.Writing.{fits_naming}
 use Rattle.land_tables_rows.specs.Parcel.Cells.{fits_parcel}
 use Rattle.land_tables_rows.specs.Party.Writing.{fits_party}
 use Rattle.land_tables_rows.specs.Reading.Cells.{is_next}
-use Rattle.land_tables_rows.specs.Recording.Whole.{fits_change, fits_units_and_entries, fits_group, fits_kind, fits_sources_and_mutations, fits_parties_and_roles, group_members, mutation_names}
+use Rattle.land_tables_rows.specs.Recording.Whole.{fits_change, fits_units_and_entries, fits_group, fits_kind, fits_sources_and_mutations, fits_parties_and_roles, memberships_of_group, mutation_names}
 use Rattle.land_tables_rows.specs.Rrr.Cells.{fits_rrr}
 use Rattle.land_tables_rows.specs.Source.Writing.{fits_source}
 use Rattle.land_tables_rows.specs.Unit.Writing.{fits_unit}
@@ -54,16 +54,16 @@ all_of p t (x ∷ xs) h = go (t x) (and_parts (p x) (list_all p xs) h).0 (all_of
 
 -- ---- groups
 
-group_fits : (g : ℕ × Members) → fits_group g ≡ true → list_all fits_member (group_members g.0 g.1) ≡ true
+group_fits : (g : ℕ × Members) → fits_group g ≡ true → list_all fits_member (memberships_of_group g.0 g.1) ≡ true
 group_fits g h =
     let e = and_parts (is_number g.0) (list_all (λ e. is_number e.0) (map.entries g.1)) h in
     list_all-map fits_member (λ m. record { group = g.0; member = m }) (members_in g.1)
-    ∙ list_all-map (λ m. is_number g.0 && is_number m.party) (λ e. member_of e.0 e.1) (map.entries g.1)
+    ∙ list_all-map (λ m. is_number g.0 && is_number m.party) (λ e. member_with_share e.0 e.1) (map.entries g.1)
     ∙ all_so (λ e. is_number e.0) (λ e. is_number g.0 && is_number e.0) (λ m h. and_from (is_number g.0) (is_number m.0) e.0 h) (map.entries g.1) e.1
 
 -- if groups can be written, so can their members
 pub members_fit : (groups : List (ℕ × Members)) → list_all fits_group groups ≡ true → list_all fits_member (listed_members groups) ≡ true
-members_fit groups h = all_listed fits_group fits_member (λ g. group_members g.0 g.1) group_fits groups h
+members_fit groups h = all_listed fits_group fits_member (λ g. memberships_of_group g.0 g.1) group_fits groups h
 
 -- and so can the numbers of the groups
 pub groups_known : (groups : List (ℕ × Members)) → list_all fits_group groups ≡ true → list_all (λ g. is_number g.0) groups ≡ true

@@ -3,17 +3,17 @@ use Rattle.std.proofs.Common.{◌≡◌, ◌≢◌, ℕ, List, arith}
 use Rattle.land_tables_history.specs.declared.history.History.{History}
 use Rattle.land_tables_history.specs.declared.moment.Moment.{Moment}
 use Rattle.land_tables_history.specs.declared.version.Version.{Version}
-use Rattle.land_tables_rows.specs.Mandate.Writing as mandate
-use Rattle.land_tables_rows.specs.Member.Writing as member
+use Rattle.land_tables_rows.specs.Mandate.Writing.{mandate_reading}
+use Rattle.land_tables_rows.specs.Member.Writing.{member_reading}
 use Rattle.land_tables_rows.specs.Moment.Writing.{HoldsMoments}
-use Rattle.land_tables_rows.specs.Mutation.Writing as mutation
-use Rattle.land_tables_rows.specs.Naming.Writing as naming
-use Rattle.land_tables_rows.specs.Parcel.Writing as parcel
-use Rattle.land_tables_rows.specs.Party.Writing as party
-use Rattle.land_tables_rows.specs.Role.Writing as role
-use Rattle.land_tables_rows.specs.Rrr.Writing as rrr
-use Rattle.land_tables_rows.specs.Source.Writing as source
-use Rattle.land_tables_rows.specs.Unit.Writing as unit
+use Rattle.land_tables_rows.specs.Mutation.Writing.{mutation_reading}
+use Rattle.land_tables_rows.specs.Naming.Writing.{naming_reading}
+use Rattle.land_tables_rows.specs.Parcel.Writing.{parcel_reading}
+use Rattle.land_tables_rows.specs.Party.Writing.{party_reading}
+use Rattle.land_tables_rows.specs.Role.Writing.{role_reading}
+use Rattle.land_tables_rows.specs.Rrr.Writing.{rrr_reading}
+use Rattle.land_tables_rows.specs.Source.Writing.{source_reading}
+use Rattle.land_tables_rows.specs.Unit.Writing.{unit_reading}
 use Rattle.land_tables_rows.specs.Writing.History.{HoldsHistory}
 use Rattle.land_tables_rows.specs.Writing.Holding.{Keeps, Reading}
 use Rattle.land_tables_rows.specs.Writing.Laws.{TableChangesKeepHistory, HoldsWith}
@@ -54,16 +54,16 @@ tree_of Mandates = 20
 -- the versions of a table
 abbrev Holds : Part → Trees → List Moment → History → Type 0
 Holds Moments db moments h = HoldsMoments db moments
-Holds Parties db moments h = Keeps party.parties db h.parties
-Holds Roles db moments h = Keeps role.roles db h.roles
-Holds Members db moments h = Keeps member.members db h.members
-Holds Units db moments h = Keeps unit.units db h.units
-Holds Parcels db moments h = Keeps parcel.parcels db h.parcels
-Holds Rrrs db moments h = Keeps rrr.rrrs db h.rrrs
-Holds Sources db moments h = Keeps source.sources db h.sources
-Holds Mutations db moments h = Keeps mutation.mutations db h.mutations
-Holds Namings db moments h = Keeps naming.namings db h.namings
-Holds Mandates db moments h = Keeps mandate.mandates db h.mandates
+Holds Parties db moments h = Keeps party_reading db h.parties
+Holds Roles db moments h = Keeps role_reading db h.roles
+Holds Members db moments h = Keeps member_reading db h.members
+Holds Units db moments h = Keeps unit_reading db h.units
+Holds Parcels db moments h = Keeps parcel_reading db h.parcels
+Holds Rrrs db moments h = Keeps rrr_reading db h.rrrs
+Holds Sources db moments h = Keeps source_reading db h.sources
+Holds Mutations db moments h = Keeps mutation_reading db h.mutations
+Holds Namings db moments h = Keeps naming_reading db h.namings
+Holds Mandates db moments h = Keeps mandate_reading db h.mandates
 
 each_held : {db : Trees} {moments : List Moment} {h : History} → HoldsHistory db moments h → (part : Part) → Holds part db moments h
 each_held held Moments = held.the_moments
@@ -99,16 +99,16 @@ still_keeps reading old new versions same keeps = record { said = rw same keeps.
 
 still_holds : (old new : Trees) (moments : List Moment) (h : History) (part : Part) → new (tree_of part) ≡ old (tree_of part) → Holds part old moments h → Holds part new moments h
 still_holds old new moments h Moments same held = rw same held
-still_holds old new moments h Parties same held = still_keeps party.parties old new h.parties same held
-still_holds old new moments h Roles same held = still_keeps role.roles old new h.roles same held
-still_holds old new moments h Members same held = still_keeps member.members old new h.members same held
-still_holds old new moments h Units same held = still_keeps unit.units old new h.units same held
-still_holds old new moments h Parcels same held = still_keeps parcel.parcels old new h.parcels same held
-still_holds old new moments h Rrrs same held = still_keeps rrr.rrrs old new h.rrrs same held
-still_holds old new moments h Sources same held = still_keeps source.sources old new h.sources same held
-still_holds old new moments h Mutations same held = still_keeps mutation.mutations old new h.mutations same held
-still_holds old new moments h Namings same held = still_keeps naming.namings old new h.namings same held
-still_holds old new moments h Mandates same held = still_keeps mandate.mandates old new h.mandates same held
+still_holds old new moments h Parties same held = still_keeps party_reading old new h.parties same held
+still_holds old new moments h Roles same held = still_keeps role_reading old new h.roles same held
+still_holds old new moments h Members same held = still_keeps member_reading old new h.members same held
+still_holds old new moments h Units same held = still_keeps unit_reading old new h.units same held
+still_holds old new moments h Parcels same held = still_keeps parcel_reading old new h.parcels same held
+still_holds old new moments h Rrrs same held = still_keeps rrr_reading old new h.rrrs same held
+still_holds old new moments h Sources same held = still_keeps source_reading old new h.sources same held
+still_holds old new moments h Mutations same held = still_keeps mutation_reading old new h.mutations same held
+still_holds old new moments h Namings same held = still_keeps naming_reading old new h.namings same held
+still_holds old new moments h Mandates same held = still_keeps mandate_reading old new h.mandates same held
 
 others_kept : (one : Table) (old new : Trees) → KeepsOthers one old new → (part : Part) → one.tree ≢ tree_of part → new (tree_of part) ≡ old (tree_of part)
 others_kept one old new kept Moments = (are_kept one old new kept).moments
@@ -134,70 +134,70 @@ with_moments old new moments others h held kept here = all_held each
     each Moments = here
     each part = left table.moments old new moments h held kept part (λ e. absurd (omega arith))
 
-with_parties : HoldsWith party.parties (λ vs h. record h { parties = vs })
+with_parties : HoldsWith party_reading (λ vs h. record h { parties = vs })
 with_parties old new moments h vs held kept here = all_held each
   where
     each : (part : Part) → Holds part new moments (record h { parties = vs })
     each Parties = here
     each part = left table.party old new moments h held kept part (λ e. absurd (omega arith))
 
-with_roles : HoldsWith role.roles (λ vs h. record h { roles = vs })
+with_roles : HoldsWith role_reading (λ vs h. record h { roles = vs })
 with_roles old new moments h vs held kept here = all_held each
   where
     each : (part : Part) → Holds part new moments (record h { roles = vs })
     each Roles = here
     each part = left table.role old new moments h held kept part (λ e. absurd (omega arith))
 
-with_members : HoldsWith member.members (λ vs h. record h { members = vs })
+with_members : HoldsWith member_reading (λ vs h. record h { members = vs })
 with_members old new moments h vs held kept here = all_held each
   where
     each : (part : Part) → Holds part new moments (record h { members = vs })
     each Members = here
     each part = left table.member old new moments h held kept part (λ e. absurd (omega arith))
 
-with_units : HoldsWith unit.units (λ vs h. record h { units = vs })
+with_units : HoldsWith unit_reading (λ vs h. record h { units = vs })
 with_units old new moments h vs held kept here = all_held each
   where
     each : (part : Part) → Holds part new moments (record h { units = vs })
     each Units = here
     each part = left table.unit old new moments h held kept part (λ e. absurd (omega arith))
 
-with_parcels : HoldsWith parcel.parcels (λ vs h. record h { parcels = vs })
+with_parcels : HoldsWith parcel_reading (λ vs h. record h { parcels = vs })
 with_parcels old new moments h vs held kept here = all_held each
   where
     each : (part : Part) → Holds part new moments (record h { parcels = vs })
     each Parcels = here
     each part = left table.parcel old new moments h held kept part (λ e. absurd (omega arith))
 
-with_rrrs : HoldsWith rrr.rrrs (λ vs h. record h { rrrs = vs })
+with_rrrs : HoldsWith rrr_reading (λ vs h. record h { rrrs = vs })
 with_rrrs old new moments h vs held kept here = all_held each
   where
     each : (part : Part) → Holds part new moments (record h { rrrs = vs })
     each Rrrs = here
     each part = left table.rrr old new moments h held kept part (λ e. absurd (omega arith))
 
-with_sources : HoldsWith source.sources (λ vs h. record h { sources = vs })
+with_sources : HoldsWith source_reading (λ vs h. record h { sources = vs })
 with_sources old new moments h vs held kept here = all_held each
   where
     each : (part : Part) → Holds part new moments (record h { sources = vs })
     each Sources = here
     each part = left table.source old new moments h held kept part (λ e. absurd (omega arith))
 
-with_mutations : HoldsWith mutation.mutations (λ vs h. record h { mutations = vs })
+with_mutations : HoldsWith mutation_reading (λ vs h. record h { mutations = vs })
 with_mutations old new moments h vs held kept here = all_held each
   where
     each : (part : Part) → Holds part new moments (record h { mutations = vs })
     each Mutations = here
     each part = left table.mutation old new moments h held kept part (λ e. absurd (omega arith))
 
-with_namings : HoldsWith naming.namings (λ vs h. record h { namings = vs })
+with_namings : HoldsWith naming_reading (λ vs h. record h { namings = vs })
 with_namings old new moments h vs held kept here = all_held each
   where
     each : (part : Part) → Holds part new moments (record h { namings = vs })
     each Namings = here
     each part = left table.names old new moments h held kept part (λ e. absurd (omega arith))
 
-with_mandates : HoldsWith mandate.mandates (λ vs h. record h { mandates = vs })
+with_mandates : HoldsWith mandate_reading (λ vs h. record h { mandates = vs })
 with_mandates old new moments h vs held kept here = all_held each
   where
     each : (part : Part) → Holds part new moments (record h { mandates = vs })

@@ -8,7 +8,7 @@ use Rattle.land_tables_history.specs.declared.version.Version.{Version}
 use Rattle.land_tables_rows.proofs.Bounds.{bound, end_reads, moment_reads, same_end, same_moment, same_ok, until_says}
 use Rattle.land_tables_rows.proofs.Writes as write
 use Rattle.land_tables_rows.specs.Reading.Cells.{end_in, moment_in}
-use Rattle.land_tables_rows.specs.Writing.Holding.{Begins, Closes, Reading}
+use Rattle.land_tables_rows.specs.Writing.Holding.{Begins, ClosesVersions, Reading}
 use Rattle.land_tables_schema.specs.Rows.Forms.{InsertsVersion, Form, UpdatesRows}
 use Rattle.land_tables_schema.specs.Rows.ReadQueries.{columns_from}
 use Rattle.land_tables_schema.specs.Rows.Versions as rows
@@ -67,5 +67,5 @@ module _ {C X : Type 0} (table : Table) (count : ℕ) (cells : C → Row) (said 
         closed_so p one.0 one.1 (is_v ∙ ap (λ w. Ok w) (sym is)) (two.1 ∙ ap (λ s. Ok s) (sym since)) ∙ ap (λ w. Ok (closed_version meant_so stamp w)) is
 
     -- the matching versions end
-    pub closes : (old new : Database) → UpdatesRows form (rows.closed_version meant stamp) old new → Closes reading meant_so stamp old new
+    pub closes : (old new : Database) → UpdatesRows form (rows.closed_version meant stamp) old new → ClosesVersions reading meant_so stamp old new
     closes = write.closes table count cells said is.found meant meant_so stamp closed_said

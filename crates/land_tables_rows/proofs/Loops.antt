@@ -12,7 +12,7 @@ use Rattle.land_tables_history.specs.Changed.{opened_version, closed_version}
 use Rattle.land_tables_history.specs.Open.{never}
 use Rattle.land_tables_history.specs.declared.version.Version.{Version}
 use Rattle.land_tables_rows.specs.Recording.{BeginsAll, Changes}
-use Rattle.land_tables_rows.specs.Writing.Holding.{Begins, Closes, Keeps, Reading}
+use Rattle.land_tables_rows.specs.Writing.Holding.{Begins, ClosesVersions, Keeps, Reading}
 use Rattle.land_tables_schema.proofs.Steps.{step_fails, step_then, was_clean}
 use Rattle.land_tables_schema.specs.Schemas.{IsSchemaV2}
 use Rattle.land_tables_schema.specs.Rows.Forms.{KeepsOthers}
@@ -91,7 +91,7 @@ module _ {X : Type 0} (reading : Reading X) where
     }
 
   -- new versions begin after the matching ones have ended
-  pub changes : (put : List X) (meant : X → Bool) (stamp : ℤ) (a b c : Database) → Closes reading meant stamp a b → BeginsAll reading put stamp b c → Changes reading put meant stamp a c
+  pub changes : (put : List X) (meant : X → Bool) (stamp : ℤ) (a b c : Database) → ClosesVersions reading meant stamp a b → BeginsAll reading put stamp b c → Changes reading put meant stamp a c
   changes put meant stamp a b c first next = record {
     schema = next.schema ∙ first.schema;
     held = λ vs keeps. next.held (map (closed_version meant stamp) vs) (first.held vs keeps);
@@ -100,7 +100,7 @@ module _ {X : Type 0} (reading : Reading X) where
 
   module _ {K : Type 0} (has : X → K → Bool) (stamp : ℤ) (moment : IsMoment stamp) where
     abbrev ClosesSome : List K → Database → Database → Type 0
-    ClosesSome keys = Closes reading (λ x. list_any (has x) keys) stamp
+    ClosesSome keys = ClosesVersions reading (λ x. list_any (has x) keys) stamp
 
     abbrev by : List K → List (Version X) → List (Version X)
     by keys vs = map (closed_version (λ x. list_any (has x) keys) stamp) vs
@@ -114,7 +114,7 @@ module _ {X : Type 0} (reading : Reading X) where
     pub none_closed : (db : Database) → ClosesSome [] db db
     none_closed db = record { schema = refl; held = λ vs keeps. subst (Keeps reading db.trees) (one_by_one [] vs) keeps; kept = kept_still reading.table db.trees }
 
-    pub one_closed : (key : K) (a b : Database) → Closes reading (λ x. has x key) stamp a b → ClosesSome (key ∷ []) a b
+    pub one_closed : (key : K) (a b : Database) → ClosesVersions reading (λ x. has x key) stamp a b → ClosesSome (key ∷ []) a b
     one_closed key a b one = record { schema = one.schema; held = λ vs keeps. subst (Keeps reading b.trees) (one_by_one (key ∷ []) vs) (one.held vs keeps); kept = one.kept }
 
     in_turns : (keys more : List K) (vs : List (Version X)) → by more (by keys vs) ≡ by (keys ++ more) vs

@@ -11,7 +11,7 @@ use Rattle.land_tables_rows.proofs.WrittenCells.{cons, end_cell, moment_cell, nu
 use Rattle.land_tables_rows.specs.Member.Reading.{member_in}
 use Rattle.land_tables_rows.specs.Member.Writing.{fits_member}
 use Rattle.land_tables_rows.specs.Reading.Cells.{end_in, moment_in, number_in, share_in}
-use Rattle.land_tables_schema.specs.Rows.Member.{MemberRow, is_member_of, member_cells}
+use Rattle.land_tables_schema.specs.Rows.Member.{MemberRow, is_row_of_group, member_cells}
 use Rattle.land_tables_schema.specs.Rows.Versions as rows
 use Rattle.land_tables_schema.specs.Rows.Versions.{flag, whole}
 use Rattle.land_tables_schema.specs.Tables as table
@@ -59,7 +59,7 @@ what_is e fits share =
     rw (number_reads e.group parts.0, number_reads e.member.party parts.1, share_reads e.member.share share) refl
 
 -- the number of a group decodes to itself
-pub agree : (n : ℕ) (c : MemberRow) (x : GroupMember) → what c ≡ Ok x → nat_eq x.group n ≡ is_member_of n c
+pub agree : (n : ℕ) (c : MemberRow) (x : GroupMember) → what c ≡ Ok x → nat_eq x.group n ≡ is_row_of_group n c
 agree n c x h =
     let one = bound (number_in (whole c.grp)) _ x h in
     let two = bound (number_in (whole c.party)) _ x one.2 in

@@ -4,7 +4,7 @@ use Rattle.std.proofs.lemmas.Bool.{and_parts}
 use Rattle.land_core.specs.Contents.{is_well_formed_content}
 use Rattle.land_core.specs.Numbers.{is_number}
 use Rattle.land_core.specs.Texts.{is_reference}
-use Rattle.land_core.specs.Words.{act_word, state_word}
+use Rattle.land_core.specs.Words.{content_word, state_word}
 use Rattle.land_core.specs.declared.mutation.MutationRecord.{MutationRecord}
 use Rattle.land_tables_history.specs.declared.version.Version.{Version}
 use Rattle.land_tables_rows.proofs.CellReadings.{between_is_read, end_is, ends, kept_is, kept_is_read, moment_is, moment_is_read, never_is_read, number_is, number_is_read, same_end, same_number, text_is, text_is_read}
@@ -18,8 +18,8 @@ use Rattle.land_tables_rows.specs.Cells.Texts.{is_storable}
 use Rattle.land_tables_rows.specs.Mutation.Cells.{is_content_kept, is_moment}
 use Rattle.land_tables_rows.specs.Mutation.Reading.{mutation_in}
 use Rattle.land_tables_rows.specs.Reading.Cells.{end_in, moment_in, number_in, reference_in, text_in}
-use Rattle.land_tables_rows.specs.Reading.Words.{state_in, state_of}
-use Rattle.land_tables_schema.specs.Rows.Mutation.{MutationRow, is_mutation, mutations}
+use Rattle.land_tables_rows.specs.Reading.Words.{state_in, mutation_state_of}
+use Rattle.land_tables_schema.specs.Rows.Mutation.{MutationRow, is_mutation, mutation_form}
 use Rattle.land_tables_schema.specs.Rows.Versions as laid
 use Rattle.land_tables_schema.specs.Rows.Versions.{never, whole}
 use Rattle.land_wire_json.specs.Bodies.Laws.{ContentsRoundTrip}
@@ -97,7 +97,7 @@ mutations_read_back contents e since fits exact moment =
     let l = and_parts (is_moment e.1.lodged) kept s.1 in
     let m = and_parts (int_le (pos 0) e.1.lodged) (int_le e.1.lodged (pos 4102444799999)) l.0 in
     let c = and_parts (is_content_kept e.1.content) (is_well_formed_content e.1.content) l.1 in
-    from_cells (whole e.0) (whole e.1.lodger) (Text e.1.reference) (whole e.1.source) (Int e.1.lodged) (Text (act_word e.1.content)) (Text (content_text e.1.content)) (Text (state_word e.1.state))
+    from_cells (whole e.0) (whole e.1.lodger) (Text e.1.reference) (whole e.1.source) (Int e.1.lodged) (Text (content_word e.1.content)) (Text (content_text e.1.content)) (Text (state_word e.1.state))
     (Int since) (Int never) (record { what = e; since = since; until = never })
     (record {
       the_number = number_is_read e.0 p.0;
@@ -105,7 +105,7 @@ mutations_read_back contents e since fits exact moment =
       the_reference = kept_is_read is_reference e.1.reference r.0;
       the_source = number_is_read e.1.source s.0;
       the_lodged = between_is_read e.1.lodged m.0 m.1;
-      word = act_word e.1.content;
+      word = content_word e.1.content;
       the_word = act_is_read e.1.content;
       text = content_text e.1.content;
       the_text = text_is_read (content_text e.1.content) (content_is_utf8 e.1.content c.1 c.0 exact);
@@ -122,10 +122,10 @@ ten : {a b c d e f g h i j a' b' c' d' e' f' g' h' i' j' : Value} → a ≡ a' �
 ten p q r s t u w x y z = cc
 
 written : (a b c d e f g h i j : Value) (v : Version (ℕ × MutationRecord)) → Told a b c d e f g h i j v
-    → (p : laid.Version MutationRow) × (mutations.cells p ≡ a ∷ b ∷ c ∷ d ∷ e ∷ f ∷ g ∷ h ∷ i ∷ j ∷ [])
+    → (p : laid.Version MutationRow) × (mutation_form.cells p ≡ a ∷ b ∷ c ∷ d ∷ e ∷ f ∷ g ∷ h ∷ i ∷ j ∷ [])
 unfolding state_in
 written a b c d e f g h i j v t =
-    let s = stepped (text_in h) state_of v.what.1.state t.the_state in (
+    let s = stepped (text_in h) mutation_state_of v.what.1.state t.the_state in (
       record {
         what = record {
           number = v.what.0;
@@ -152,12 +152,12 @@ module _ (p : laid.Version MutationRow) where
       Told (whole p.what.number) (whole p.what.lodger) (Text p.what.reference) (whole p.what.source) (Int p.what.lodged) (Text p.what.act) (Text p.what.content) (Text p.what.state)
       (Int p.since) until v
 
-  its_reading : (stamp : ℤ) (v : Version (ℕ × MutationRecord)) → ItsTold (Int stamp) v → mutation_in (mutations.cells (record p { until = stamp })) ≡ Ok v
+  its_reading : (stamp : ℤ) (v : Version (ℕ × MutationRecord)) → ItsTold (Int stamp) v → mutation_in (mutation_form.cells (record p { until = stamp })) ≡ Ok v
   its_reading stamp v =
       from_cells (whole p.what.number) (whole p.what.lodger) (Text p.what.reference) (whole p.what.source) (Int p.what.lodged) (Text p.what.act) (Text p.what.content) (Text p.what.state)
       (Int p.since) (Int stamp) v
 
-  its_cells : (v : Version (ℕ × MutationRecord)) → mutation_in (mutations.cells p) ≡ Ok v → ItsTold (Int p.until) v
+  its_cells : (v : Version (ℕ × MutationRecord)) → mutation_in (mutation_form.cells p) ≡ Ok v → ItsTold (Int p.until) v
   its_cells v =
       to_cells (whole p.what.number) (whole p.what.lodger) (Text p.what.reference) (whole p.what.source) (Int p.what.lodged) (Text p.what.act) (Text p.what.content) (Text p.what.state)
       (Int p.since) (Int p.until) v
@@ -179,7 +179,7 @@ module _ (p : laid.Version MutationRow) where
     the_until = is_end;
   }
 
-  is_read : (v : Version (ℕ × MutationRecord)) (n : ℕ) → ItsTold (Int p.until) v → IsReadAs mutation_in mutations.cells (is_mutation n) (is_numbered n) p v
+  is_read : (v : Version (ℕ × MutationRecord)) (n : ℕ) → ItsTold (Int p.until) v → IsReadAs mutation_in mutation_form.cells (is_mutation n) (is_numbered n) p v
   is_read v n t = record {
     same = ap (λ m. m == n) (same_number p.what.number v.what.0 t.the_number);
     until = same_end p.until v.until t.the_until;
@@ -190,5 +190,5 @@ pub mutation_cells_decode : MutationCellsDecode
 mutation_cells_decode = record {
   found = λ r v e. written (column r 1) (column r 2) (column r 3) (column r 4) (column r 5) (column r 6) (column r 7) (column r 8) (column r 9) (column r 10) v
       (to_cells (column r 1) (column r 2) (column r 3) (column r 4) (column r 5) (column r 6) (column r 7) (column r 8) (column r 9) (column r 10) v e);
-  closes = λ n stamp p v moment e. closing mutation_in mutations.cells (is_mutation n) (is_numbered n) p v stamp (is_read p v n (its_cells p v e)) (ends stamp moment) e;
+  closes = λ n stamp p v moment e. closing mutation_in mutation_form.cells (is_mutation n) (is_numbered n) p v stamp (is_read p v n (its_cells p v e)) (ends stamp moment) e;
 }

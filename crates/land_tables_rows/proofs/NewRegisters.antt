@@ -3,7 +3,7 @@ use Rattle.std.proofs.Common.{◌≡◌, ℕ, pos, List, [], ◌∷◌, ◌++◌
 use Rattle.std.proofs.lemmas.Int.{ints}
 use Rattle.std.proofs.lemmas.Str.{IsUtf8-from_is_utf8}
 use Rattle.std.specs.Str.{IsUtf8, chars, is_utf8}
-use Rattle.land_core.specs.Grants.{grant_of}
+use Rattle.land_core.specs.Grants.{grant_to}
 use Rattle.land_core.specs.Numbers.{IsMoment}
 use Rattle.land_core.specs.declared.kind.PartyKind.TheVariants.{NonNaturalPerson}
 use Rattle.land_core.specs.declared.party.PartyRecord.{PartyRecord}
@@ -64,10 +64,10 @@ unfolding is_utf8 chars lib.Utf8.encode
 office_said = begun_said table.party 3 party_cells party_in party.what party.is_reading (party.row_of 1 office) (1, office) (pos 0)
     (party.what_is 1 office refl (text_is (codes "Land Office") refl) (text_is (codes "nonNaturalPerson") refl)) first_moment
 
-role_said : role_grant_in (role_cells (role.row_of (grant_of 1 StateAdministrator)) ++ Int (pos 0) ∷ Int never ∷ []) ≡ Ok (opened_version (grant_of 1 StateAdministrator) (pos 0))
+role_said : role_grant_in (role_cells (role.row_of (grant_to 1 StateAdministrator)) ++ Int (pos 0) ∷ Int never ∷ []) ≡ Ok (opened_version (grant_to 1 StateAdministrator) (pos 0))
 unfolding is_utf8 chars lib.Utf8.encode
-role_said = begun_said table.role 2 role_cells role_grant_in role.what role.is_reading (role.row_of (grant_of 1 StateAdministrator)) (grant_of 1 StateAdministrator) (pos 0)
-    (role.what_is (grant_of 1 StateAdministrator) refl (text_is (codes "stateAdministrator") refl)) first_moment
+role_said = begun_said table.role 2 role_cells role_grant_in role.what role.is_reading (role.row_of (grant_to 1 StateAdministrator)) (grant_to 1 StateAdministrator) (pos 0)
+    (role.what_is (grant_to 1 StateAdministrator) refl (text_is (codes "stateAdministrator") refl)) first_moment
 
 history_held : (db : Trees) → HoldsRows db new_rows → HoldsHistory db new_moments new_history
 history_held db held = record {

@@ -17,7 +17,7 @@ use Rattle.land_tables_rows.specs.Cells.Laws.{ParcelCellsDecode, ParcelsReadBack
 use Rattle.land_tables_rows.specs.Cells.Texts.{is_storable}
 use Rattle.land_tables_rows.specs.Parcel.Reading.{parcel_in}
 use Rattle.land_tables_rows.specs.Reading.Cells.{end_in, label_in, moment_in, number_in, text_in}
-use Rattle.land_tables_schema.specs.Rows.Parcel.{ParcelRow, is_parcel, parcels}
+use Rattle.land_tables_schema.specs.Rows.Parcel.{ParcelRow, is_parcel, parcel_form}
 use Rattle.land_tables_schema.specs.Rows.Versions as laid
 use Rattle.land_tables_schema.specs.Rows.Versions.{opened_version, never, whole}
 use Rattle.land_wire_json.proofs.ContentReading.{outline_is_read}
@@ -98,7 +98,7 @@ seven : {a b c d e f g a' b' c' d' e' f' g' : Value} → a ≡ a' → b ≡ b' �
     → ◌≡◌ {A = List Value} (a' ∷ b' ∷ c' ∷ d' ∷ e' ∷ f' ∷ g' ∷ []) (a ∷ b ∷ c ∷ d ∷ e ∷ f ∷ g ∷ [])
 seven p q r s t u w = cc
 
-written : (a b c d e f g : Value) (v : Version (ℕ × ParcelRecord)) → Told a b c d e f g v → (p : laid.Version ParcelRow) × (parcels.cells p ≡ a ∷ b ∷ c ∷ d ∷ e ∷ f ∷ g ∷ [])
+written : (a b c d e f g : Value) (v : Version (ℕ × ParcelRecord)) → Told a b c d e f g v → (p : laid.Version ParcelRow) × (parcel_form.cells p ≡ a ∷ b ∷ c ∷ d ∷ e ∷ f ∷ g ∷ [])
 written a b c d e f g v t = (
   record {
     what = record { number = v.what.0; unit = v.what.1.unit; label = v.what.1.label; outline = t.text; source = v.what.1.source };
@@ -109,7 +109,7 @@ written a b c d e f g v t = (
       (number_is e v.what.1.source t.the_source) (moment_is f v.since t.the_since) (end_is g v.until t.the_until),
 )
 
-module _ (p : laid.Version ParcelRow) (v : Version (ℕ × ParcelRecord)) (h : parcel_in (parcels.cells p) ≡ Ok v) where
+module _ (p : laid.Version ParcelRow) (v : Version (ℕ × ParcelRecord)) (h : parcel_in (parcel_form.cells p) ≡ Ok v) where
   the_cells : Told (whole p.what.number) (whole p.what.unit) (Text p.what.label) (Text p.what.outline) (whole p.what.source) (Int p.since) (Int p.until) v
   the_cells = to_cells (whole p.what.number) (whole p.what.unit) (Text p.what.label) (Text p.what.outline) (whole p.what.source) (Int p.since) (Int p.until) v h
 
@@ -128,7 +128,7 @@ module _ (p : laid.Version ParcelRow) (v : Version (ℕ × ParcelRecord)) (h : p
     the_until = is_end;
   }
 
-  is_read : (n : ℕ) → IsReadAs parcel_in parcels.cells (is_parcel n) (is_numbered n) p v
+  is_read : (n : ℕ) → IsReadAs parcel_in parcel_form.cells (is_parcel n) (is_numbered n) p v
   is_read n = record {
     same = ap (λ m. m == n) (same_number p.what.number v.what.0 the_cells.the_number);
     until = same_end p.until v.until the_cells.the_until;
@@ -140,5 +140,5 @@ pub parcel_cells_decode : ParcelCellsDecode
 parcel_cells_decode = record {
   found = λ r v e. written (column r 1) (column r 2) (column r 3) (column r 4) (column r 5) (column r 6) (column r 7) v
       (to_cells (column r 1) (column r 2) (column r 3) (column r 4) (column r 5) (column r 6) (column r 7) v e);
-  closes = λ n stamp p v moment e. closing parcel_in parcels.cells (is_parcel n) (is_numbered n) p v stamp (is_read p v e n) (ends stamp moment) e;
+  closes = λ n stamp p v moment e. closing parcel_in parcel_form.cells (is_parcel n) (is_numbered n) p v stamp (is_read p v e n) (ends stamp moment) e;
 }

@@ -14,7 +14,7 @@ use Rattle.land_tables_rows.proofs.WrittenCells.{limited_reads, number_reads, te
 use Rattle.land_tables_rows.specs.Party.Reading.{party_in}
 use Rattle.land_tables_rows.specs.Party.Writing.{fits_party}
 use Rattle.land_tables_rows.specs.Reading.Cells.{name_in, number_in}
-use Rattle.land_tables_rows.specs.Reading.Words.{kind_of, party_kind_in}
+use Rattle.land_tables_rows.specs.Reading.Words.{party_kind_of, party_kind_in}
 use Rattle.land_tables_schema.specs.Rows.Party.{PartyRow, is_party, party_cells}
 use Rattle.land_tables_schema.specs.Rows.Versions.{whole}
 use Rattle.land_tables_schema.specs.Tables.{party}
@@ -34,7 +34,7 @@ found : (number : ℕ) (x y : Value) (a : List ℕ) (b : PartyKind) → name_in 
 unfolding party_kind_in
 found number x y a b h k =
     let name = word_cell x _ a h in
-    let kind = word_cell y kind_of b k in
+    let kind = word_cell y party_kind_of b k in
     (record { number = number; name = name.0; kind = kind.0 }, refl, name.1, kind.1)
 
 pub is_reading : IsReading party 3 party_cells party_in what

@@ -11,16 +11,16 @@ use Rattle.land_tables_rows.proofs.Writes.{keeps_from}
 use Rattle.land_tables_rows.specs.Edition.Reading.{edition_in}
 use Rattle.land_tables_rows.specs.Edition.Writing.{HoldsEditions, v2_edition, v1_edition}
 use Rattle.land_tables_rows.specs.Mandate.Reading.{mandate_in}
-use Rattle.land_tables_rows.specs.Mandate.Writing as mandate
-use Rattle.land_tables_rows.specs.Member.Writing as member
-use Rattle.land_tables_rows.specs.Mutation.Writing as mutation
-use Rattle.land_tables_rows.specs.Naming.Writing as naming
-use Rattle.land_tables_rows.specs.Parcel.Writing as parcel
-use Rattle.land_tables_rows.specs.Party.Writing as party
-use Rattle.land_tables_rows.specs.Role.Writing as role
-use Rattle.land_tables_rows.specs.Rrr.Writing as rrr
-use Rattle.land_tables_rows.specs.Source.Writing as source
-use Rattle.land_tables_rows.specs.Unit.Writing as unit
+use Rattle.land_tables_rows.specs.Mandate.Writing.{mandate_reading}
+use Rattle.land_tables_rows.specs.Member.Writing.{member_reading}
+use Rattle.land_tables_rows.specs.Mutation.Writing.{mutation_reading}
+use Rattle.land_tables_rows.specs.Naming.Writing.{naming_reading}
+use Rattle.land_tables_rows.specs.Parcel.Writing.{parcel_reading}
+use Rattle.land_tables_rows.specs.Party.Writing.{party_reading}
+use Rattle.land_tables_rows.specs.Role.Writing.{role_reading}
+use Rattle.land_tables_rows.specs.Rrr.Writing.{rrr_reading}
+use Rattle.land_tables_rows.specs.Source.Writing.{source_reading}
+use Rattle.land_tables_rows.specs.Unit.Writing.{unit_reading}
 use Rattle.land_tables_rows.specs.Writing.History.{HoldsHistoryV1, HoldsHistory}
 use Rattle.land_tables_rows.specs.Writing.Holding.{Keeps}
 use Rattle.land_tables_rows.specs.Writing.Laws.{MigratedRegistersAreHeld}
@@ -28,30 +28,30 @@ use Rattle.land_tables_rows.specs.declared.edition.reading.Edition as told
 use Rattle.land_tables_rows.specs.Reading.Cells.{natural_in}
 use Rattle.land_tables_schema.proofs.First.{none_held}
 use Rattle.land_tables_schema.specs.Rows.Edition as rows
-use Rattle.land_tables_schema.specs.Rows.Mandate.{mandate_cells, mandates}
+use Rattle.land_tables_schema.specs.Rows.Mandate.{mandate_cells, mandate_form}
 use Rattle.land_tables_schema.specs.Rows.SchemaMigration.{Migrates}
 use Rattle.land_tables_schema.specs.Tables as table
 use Rattle.sqlite.specs.Effect.{Database}
 use Rattle.sqlite_trees.specs.Tree.{Trees}
 
 -- a table without rows holds no mandates
-none_kept : (db : Trees) (history : History) → db 20 ≡ [] → history.mandates ≡ [] → Keeps mandate.mandates db history.mandates
-none_kept db history empty none = subst (Keeps mandate.mandates db) (sym none) (keeps_from table.mandate 2 mandate_cells mandate_in db [] [] refl (none_held mandates db empty))
+none_kept : (db : Trees) (history : History) → db 20 ≡ [] → history.mandates ≡ [] → Keeps mandate_reading db history.mandates
+none_kept db history empty none = subst (Keeps mandate_reading db) (sym none) (keeps_from table.mandate 2 mandate_cells mandate_in db [] [] refl (none_held mandate_form db empty))
 
 raised_history : (old new : Database) (moments : List Moment) (history : History) → Migrates old new → HoldsHistoryV1 old.trees moments history → HoldsHistory new.trees moments history
 raised_history old new moments history raises held =
     let k = raises.kept in
     record {
       the_moments = rw (k.1.0 (λ e. absurd (omega arith))) held.the_moments;
-      the_parties = still_keeps party.parties old.trees new.trees history.parties (k.1.1.0 (λ e. absurd (omega arith))) held.the_parties;
-      the_roles = still_keeps role.roles old.trees new.trees history.roles (k.1.1.1.0 (λ e. absurd (omega arith))) held.the_roles;
-      the_members = still_keeps member.members old.trees new.trees history.members (k.1.1.1.1.0 (λ e. absurd (omega arith))) held.the_members;
-      the_units = still_keeps unit.units old.trees new.trees history.units (k.1.1.1.1.1.0 (λ e. absurd (omega arith))) held.the_units;
-      the_parcels = still_keeps parcel.parcels old.trees new.trees history.parcels (k.1.1.1.1.1.1.0 (λ e. absurd (omega arith))) held.the_parcels;
-      the_rrrs = still_keeps rrr.rrrs old.trees new.trees history.rrrs (k.1.1.1.1.1.1.1.0 (λ e. absurd (omega arith))) held.the_rrrs;
-      the_sources = still_keeps source.sources old.trees new.trees history.sources (k.1.1.1.1.1.1.1.1.0 (λ e. absurd (omega arith))) held.the_sources;
-      the_mutations = still_keeps mutation.mutations old.trees new.trees history.mutations (k.1.1.1.1.1.1.1.1.1.0 (λ e. absurd (omega arith))) held.the_mutations;
-      the_namings = still_keeps naming.namings old.trees new.trees history.namings (k.1.1.1.1.1.1.1.1.1.1.0 (λ e. absurd (omega arith))) held.the_namings;
+      the_parties = still_keeps party_reading old.trees new.trees history.parties (k.1.1.0 (λ e. absurd (omega arith))) held.the_parties;
+      the_roles = still_keeps role_reading old.trees new.trees history.roles (k.1.1.1.0 (λ e. absurd (omega arith))) held.the_roles;
+      the_members = still_keeps member_reading old.trees new.trees history.members (k.1.1.1.1.0 (λ e. absurd (omega arith))) held.the_members;
+      the_units = still_keeps unit_reading old.trees new.trees history.units (k.1.1.1.1.1.0 (λ e. absurd (omega arith))) held.the_units;
+      the_parcels = still_keeps parcel_reading old.trees new.trees history.parcels (k.1.1.1.1.1.1.0 (λ e. absurd (omega arith))) held.the_parcels;
+      the_rrrs = still_keeps rrr_reading old.trees new.trees history.rrrs (k.1.1.1.1.1.1.1.0 (λ e. absurd (omega arith))) held.the_rrrs;
+      the_sources = still_keeps source_reading old.trees new.trees history.sources (k.1.1.1.1.1.1.1.1.0 (λ e. absurd (omega arith))) held.the_sources;
+      the_mutations = still_keeps mutation_reading old.trees new.trees history.mutations (k.1.1.1.1.1.1.1.1.1.0 (λ e. absurd (omega arith))) held.the_mutations;
+      the_namings = still_keeps naming_reading old.trees new.trees history.namings (k.1.1.1.1.1.1.1.1.1.1.0 (λ e. absurd (omega arith))) held.the_namings;
       the_mandates = none_kept new.trees history raises.mandates held.none;
     }
 

@@ -4,7 +4,7 @@ use Rattle.std.proofs.lemmas.List.Sorted.{IsPermutation-map, IsPermutation-sym, 
 use Rattle.std.specs.List.{AllByRecursion}
 use Rattle.land_tables_rows.specs.Listing.Faults.{is_out_of_memory, of_error}
 use Rattle.land_tables_rows.specs.Listing.Reading.{IsRead, IsUnreadableTable, Listing, Says}
-use Rattle.land_tables_rows.specs.Reading.Readings.{each_of}
+use Rattle.land_tables_rows.specs.Reading.Readings.{each_row}
 use Rattle.land_tables_rows.specs.declared.listing.fault.ReadFault.{ReadFault}
 use Rattle.land_tables_rows.specs.declared.listing.fault.ReadFault.TheVariants.{Unreadable, NoMemory, Store}
 use Rattle.land_tables_schema.proofs.Looking.{look_told}
@@ -19,13 +19,13 @@ use Rattle.sqlite_trees.specs.Tree.{Trees}
 use Rattle.sqlite_value.specs.Order.{Row}
 
 module _ {X : Type 0} (said : Row → Result X WireFault) where
-  pub each_all : (rows : List Row) (xs : List X) → each_of said rows ≡ Ok xs → map said rows ≡ map (λ x. Ok x) xs
+  pub each_all : (rows : List Row) (xs : List X) → each_row said rows ≡ Ok xs → map said rows ≡ map (λ x. Ok x) xs
   each_all [] xs h =
       let same : [] ≡ xs = (let e = h in cc) in
       ap (map (λ x. Ok x)) same
-  each_all (r ∷ rs) xs h = go (said r) (each_of said rs) refl (each_all rs) refl h
+  each_all (r ∷ rs) xs h = go (said r) (each_row said rs) refl (each_all rs) refl h
     where
-      go : (a : Result X WireFault) (b : Result (List X) WireFault) → said r ≡ a → ((ys : List X) → each_of said rs ≡ Ok ys → map said rs ≡ map (λ x. Ok x) ys) → each_of said rs ≡ b
+      go : (a : Result X WireFault) (b : Result (List X) WireFault) → said r ≡ a → ((ys : List X) → each_row said rs ≡ Ok ys → map said rs ≡ map (λ x. Ok x) ys) → each_row said rs ≡ b
           → (a >>= λ first. b >>= λ rest. Ok (first ∷ rest)) ≡ Ok xs → said r ∷ map said rs ≡ map (λ x. Ok x) xs
       go (Ok x) (Ok ys) is later are h =
           let same : x ∷ ys ≡ xs = (let e = h in cc) in
@@ -41,7 +41,7 @@ module _ {X : Type 0} (said : Row → Result X WireFault) where
   all_said [] = tt
   all_said (x ∷ xs) = ((x, refl), all_said xs)
 
-  each_from : (rows : List Row) → AllByRecursion IsSaid (map said rows) → (xs : List X) × (each_of said rows ≡ Ok xs)
+  each_from : (rows : List Row) → AllByRecursion IsSaid (map said rows) → (xs : List X) × (each_row said rows ≡ Ok xs)
   unfolding IsSaid
   each_from [] all = ([], refl)
   each_from (r ∷ rs) all =
@@ -53,16 +53,16 @@ module _ {X : Type 0} (listing : Listing X) (db : Trees) (rows : List Row) (show
   said_of_rows = subst (λ l. IsPermutation l (map listing.said rows)) (map-map listing.said listing.shown (db listing.table.tree))
       (IsPermutation-map listing.said (map listing.shown (db listing.table.tree)) rows shown)
 
-  pub says_read : (xs : List X) → each_of listing.said rows ≡ Ok xs → Says listing db xs
+  pub says_read : (xs : List X) → each_row listing.said rows ≡ Ok xs → Says listing db xs
   says_read xs h = subst (IsPermutation (map (λ r. listing.said (listing.shown r)) (db listing.table.tree))) (each_all listing.said rows xs h) said_of_rows
 
-  pub some_each : (xs : List X) → Says listing db xs → (ys : List X) × (each_of listing.said rows ≡ Ok ys)
+  pub some_each : (xs : List X) → Says listing db xs → (ys : List X) × (each_row listing.said rows ≡ Ok ys)
   some_each xs says = each_from listing.said rows (all-permutation (IsSaid listing.said) (map (λ x. Ok x) xs) (map listing.said rows)
       (IsPermutation-trans (map (λ x. Ok x) xs) (map (λ r. listing.said (listing.shown r)) (db listing.table.tree)) (map listing.said rows)
       (IsPermutation-sym (map (λ r. listing.said (listing.shown r)) (db listing.table.tree)) (map (λ x. Ok x) xs) says) said_of_rows)
       (all_said listing.said xs))
 
-  pub none_says : ((xs : List X) → each_of listing.said rows ≢ Ok xs) → (xs : List X) → ¬ Says listing db xs
+  pub none_says : ((xs : List X) → each_row listing.said rows ≢ Ok xs) → (xs : List X) → ¬ Says listing db xs
   none_says none xs says =
       let found = some_each xs says in
       none found.0 found.1

@@ -20,19 +20,19 @@ use Rattle.land_tables_history.specs.declared.version.Version.{Version}
 use Rattle.land_tables_rows.proofs.Loops.{step_after}
 use Rattle.land_tables_rows.specs.Edition.Reading.{edition_in}
 use Rattle.land_tables_rows.specs.Edition.Writing.{HoldsEditions}
-use Rattle.land_tables_rows.specs.Mandate.Writing.{mandates}
-use Rattle.land_tables_rows.specs.Member.Writing.{members}
+use Rattle.land_tables_rows.specs.Mandate.Writing.{mandate_reading}
+use Rattle.land_tables_rows.specs.Member.Writing.{member_reading}
 use Rattle.land_tables_rows.specs.Moment.Writing.{InsertsMoment}
-use Rattle.land_tables_rows.specs.Mutation.Writing.{mutations}
-use Rattle.land_tables_rows.specs.Naming.Writing.{namings}
-use Rattle.land_tables_rows.specs.Parcel.Writing.{parcels}
-use Rattle.land_tables_rows.specs.Party.Writing.{parties}
+use Rattle.land_tables_rows.specs.Mutation.Writing.{mutation_reading}
+use Rattle.land_tables_rows.specs.Naming.Writing.{naming_reading}
+use Rattle.land_tables_rows.specs.Parcel.Writing.{parcel_reading}
+use Rattle.land_tables_rows.specs.Party.Writing.{party_reading}
 use Rattle.land_tables_rows.specs.Recording.{BeginsAll, Changes}
 use Rattle.land_tables_rows.specs.Recording.Whole.{RewritesTables, WritesChange}
-use Rattle.land_tables_rows.specs.Role.Writing.{roles}
-use Rattle.land_tables_rows.specs.Rrr.Writing.{rrrs}
-use Rattle.land_tables_rows.specs.Source.Writing.{sources}
-use Rattle.land_tables_rows.specs.Unit.Writing.{units}
+use Rattle.land_tables_rows.specs.Role.Writing.{role_reading}
+use Rattle.land_tables_rows.specs.Rrr.Writing.{rrr_reading}
+use Rattle.land_tables_rows.specs.Source.Writing.{source_reading}
+use Rattle.land_tables_rows.specs.Unit.Writing.{unit_reading}
 use Rattle.land_tables_rows.specs.Writing.History.{HoldsHistory}
 use Rattle.land_tables_rows.specs.Writing.Holding.{Keeps, Reading}
 use Rattle.land_tables_rows.specs.Writing.Laws.{TableChangesKeepHistory, HoldsWith}
@@ -87,51 +87,51 @@ module _ {X : Type 0} (reading : Reading X) (insert_moment : List (Version X) �
   kind_edits put meant stamp a b done = one_edits (changed_versions put meant stamp) a b done.schema done.held done.kept
 
 module _ (laws : TableChangesKeepHistory) (stamp : ℤ) (a b : Database) where
-  pub parties_edit : (next : ℕ) (put : List (ℕ × PartyRecord)) (ended : List ℕ) → Changes parties put (λ e. is_changed (existing_records (λ x. x.0) next put) ended e.0) stamp a b → RewritesTables (λ h. record h { parties = written_part next put ended stamp h.parties }) a b
-  parties_edit next put ended done = kind_edits parties (λ vs h. record h { parties = vs }) (λ h. h.parties) laws.parties (λ db moments h holds. holds.the_parties) (λ e. absurd (omega arith)) put (λ e. is_changed (existing_records (λ x. x.0) next put) ended e.0) stamp a b done
+  pub parties_edit : (next : ℕ) (put : List (ℕ × PartyRecord)) (ended : List ℕ) → Changes party_reading put (λ e. is_changed (existing_records (λ x. x.0) next put) ended e.0) stamp a b → RewritesTables (λ h. record h { parties = written_part next put ended stamp h.parties }) a b
+  parties_edit next put ended done = kind_edits party_reading (λ vs h. record h { parties = vs }) (λ h. h.parties) laws.parties (λ db moments h holds. holds.the_parties) (λ e. absurd (omega arith)) put (λ e. is_changed (existing_records (λ x. x.0) next put) ended e.0) stamp a b done
 
-  pub members_edit : (next : ℕ) (put : List (ℕ × Members)) (ended : List ℕ) → Changes members (listed_members put) (λ e. is_changed (existing_records (λ x. x.0) next put) ended e.group) stamp a b → RewritesTables (λ h. record h { members = written_members next put ended stamp h.members }) a b
-  members_edit next put ended done = kind_edits members (λ vs h. record h { members = vs }) (λ h. h.members) laws.members (λ db moments h holds. holds.the_members) (λ e. absurd (omega arith)) (listed_members put) (λ e. is_changed (existing_records (λ x. x.0) next put) ended e.group) stamp a b done
+  pub members_edit : (next : ℕ) (put : List (ℕ × Members)) (ended : List ℕ) → Changes member_reading (listed_members put) (λ e. is_changed (existing_records (λ x. x.0) next put) ended e.group) stamp a b → RewritesTables (λ h. record h { members = written_members next put ended stamp h.members }) a b
+  members_edit next put ended done = kind_edits member_reading (λ vs h. record h { members = vs }) (λ h. h.members) laws.members (λ db moments h holds. holds.the_members) (λ e. absurd (omega arith)) (listed_members put) (λ e. is_changed (existing_records (λ x. x.0) next put) ended e.group) stamp a b done
 
-  pub units_edit : (next : ℕ) (put : List (ℕ × UnitRecord)) (ended : List ℕ) → Changes units put (λ e. is_changed (existing_records (λ x. x.0) next put) ended e.0) stamp a b → RewritesTables (λ h. record h { units = written_part next put ended stamp h.units }) a b
-  units_edit next put ended done = kind_edits units (λ vs h. record h { units = vs }) (λ h. h.units) laws.units (λ db moments h holds. holds.the_units) (λ e. absurd (omega arith)) put (λ e. is_changed (existing_records (λ x. x.0) next put) ended e.0) stamp a b done
+  pub units_edit : (next : ℕ) (put : List (ℕ × UnitRecord)) (ended : List ℕ) → Changes unit_reading put (λ e. is_changed (existing_records (λ x. x.0) next put) ended e.0) stamp a b → RewritesTables (λ h. record h { units = written_part next put ended stamp h.units }) a b
+  units_edit next put ended done = kind_edits unit_reading (λ vs h. record h { units = vs }) (λ h. h.units) laws.units (λ db moments h holds. holds.the_units) (λ e. absurd (omega arith)) put (λ e. is_changed (existing_records (λ x. x.0) next put) ended e.0) stamp a b done
 
-  pub parcels_edit : (next : ℕ) (put : List (ℕ × ParcelRecord)) (ended : List ℕ) → Changes parcels put (λ e. is_changed (existing_records (λ x. x.0) next put) ended e.0) stamp a b → RewritesTables (λ h. record h { parcels = written_part next put ended stamp h.parcels }) a b
-  parcels_edit next put ended done = kind_edits parcels (λ vs h. record h { parcels = vs }) (λ h. h.parcels) laws.parcels (λ db moments h holds. holds.the_parcels) (λ e. absurd (omega arith)) put (λ e. is_changed (existing_records (λ x. x.0) next put) ended e.0) stamp a b done
+  pub parcels_edit : (next : ℕ) (put : List (ℕ × ParcelRecord)) (ended : List ℕ) → Changes parcel_reading put (λ e. is_changed (existing_records (λ x. x.0) next put) ended e.0) stamp a b → RewritesTables (λ h. record h { parcels = written_part next put ended stamp h.parcels }) a b
+  parcels_edit next put ended done = kind_edits parcel_reading (λ vs h. record h { parcels = vs }) (λ h. h.parcels) laws.parcels (λ db moments h holds. holds.the_parcels) (λ e. absurd (omega arith)) put (λ e. is_changed (existing_records (λ x. x.0) next put) ended e.0) stamp a b done
 
-  pub rrrs_edit : (next : ℕ) (put : List (ℕ × RrrRecord)) (ended : List ℕ) → Changes rrrs put (λ e. is_changed (existing_records (λ x. x.0) next put) ended e.0) stamp a b → RewritesTables (λ h. record h { rrrs = written_part next put ended stamp h.rrrs }) a b
-  rrrs_edit next put ended done = kind_edits rrrs (λ vs h. record h { rrrs = vs }) (λ h. h.rrrs) laws.rrrs (λ db moments h holds. holds.the_rrrs) (λ e. absurd (omega arith)) put (λ e. is_changed (existing_records (λ x. x.0) next put) ended e.0) stamp a b done
+  pub rrrs_edit : (next : ℕ) (put : List (ℕ × RrrRecord)) (ended : List ℕ) → Changes rrr_reading put (λ e. is_changed (existing_records (λ x. x.0) next put) ended e.0) stamp a b → RewritesTables (λ h. record h { rrrs = written_part next put ended stamp h.rrrs }) a b
+  rrrs_edit next put ended done = kind_edits rrr_reading (λ vs h. record h { rrrs = vs }) (λ h. h.rrrs) laws.rrrs (λ db moments h holds. holds.the_rrrs) (λ e. absurd (omega arith)) put (λ e. is_changed (existing_records (λ x. x.0) next put) ended e.0) stamp a b done
 
-  pub sources_edit : (next : ℕ) (put : List (ℕ × SourceRecord)) (ended : List ℕ) → Changes sources put (λ e. is_changed (existing_records (λ x. x.0) next put) ended e.0) stamp a b → RewritesTables (λ h. record h { sources = written_part next put ended stamp h.sources }) a b
-  sources_edit next put ended done = kind_edits sources (λ vs h. record h { sources = vs }) (λ h. h.sources) laws.sources (λ db moments h holds. holds.the_sources) (λ e. absurd (omega arith)) put (λ e. is_changed (existing_records (λ x. x.0) next put) ended e.0) stamp a b done
+  pub sources_edit : (next : ℕ) (put : List (ℕ × SourceRecord)) (ended : List ℕ) → Changes source_reading put (λ e. is_changed (existing_records (λ x. x.0) next put) ended e.0) stamp a b → RewritesTables (λ h. record h { sources = written_part next put ended stamp h.sources }) a b
+  sources_edit next put ended done = kind_edits source_reading (λ vs h. record h { sources = vs }) (λ h. h.sources) laws.sources (λ db moments h holds. holds.the_sources) (λ e. absurd (omega arith)) put (λ e. is_changed (existing_records (λ x. x.0) next put) ended e.0) stamp a b done
 
-  pub mutations_edit : (next : ℕ) (put : List (ℕ × MutationRecord)) (ended : List ℕ) → Changes mutations put (λ e. is_changed (existing_records (λ x. x.0) next put) ended e.0) stamp a b → RewritesTables (λ h. record h { mutations = written_part next put ended stamp h.mutations }) a b
-  mutations_edit next put ended done = kind_edits mutations (λ vs h. record h { mutations = vs }) (λ h. h.mutations) laws.mutations (λ db moments h holds. holds.the_mutations) (λ e. absurd (omega arith)) put (λ e. is_changed (existing_records (λ x. x.0) next put) ended e.0) stamp a b done
+  pub mutations_edit : (next : ℕ) (put : List (ℕ × MutationRecord)) (ended : List ℕ) → Changes mutation_reading put (λ e. is_changed (existing_records (λ x. x.0) next put) ended e.0) stamp a b → RewritesTables (λ h. record h { mutations = written_part next put ended stamp h.mutations }) a b
+  mutations_edit next put ended done = kind_edits mutation_reading (λ vs h. record h { mutations = vs }) (λ h. h.mutations) laws.mutations (λ db moments h holds. holds.the_mutations) (λ e. absurd (omega arith)) put (λ e. is_changed (existing_records (λ x. x.0) next put) ended e.0) stamp a b done
 
   -- ---- roles: each grant is its own key
 
-  pub roles_edit : (next : ℕ) (put ended : List Grant) → Changes roles put (λ grant. list_any (is_same_grant grant) (map (λ g. g) (existing_records (λ x. x.party) next put) ++ ended)) stamp a b
+  pub roles_edit : (next : ℕ) (put ended : List Grant) → Changes role_reading put (λ grant. list_any (is_same_grant grant) (map (λ g. g) (existing_records (λ x. x.party) next put) ++ ended)) stamp a b
       → RewritesTables (λ h. record h { roles = written_roles next put ended stamp h.roles }) a b
   roles_edit next put ended done =
       subst (λ (keys : List Grant). RewritesTables (λ h. record h { roles = changed_versions put (λ grant. list_any (is_same_grant grant) (keys ++ ended)) stamp h.roles }) a b) (all_same (existing_records (λ x. x.party) next put))
-      (kind_edits roles (λ vs h. record h { roles = vs }) (λ h. h.roles) laws.roles (λ db moments h holds. holds.the_roles) (λ e. absurd (omega arith)) put
+      (kind_edits role_reading (λ vs h. record h { roles = vs }) (λ h. h.roles) laws.roles (λ db moments h holds. holds.the_roles) (λ e. absurd (omega arith)) put
       (λ grant. list_any (is_same_grant grant) (map (λ g. g) (existing_records (λ x. x.party) next put) ++ ended)) stamp a b done)
 
   -- ---- mandates: each mandate is its own key
 
-  pub mandates_edit : (next : ℕ) (put ended : List Mandate) → Changes mandates put (λ mandate. list_any (is_same_mandate mandate) (map (λ m. m) (existing_records (λ x. x.principal) next put) ++ ended)) stamp a b
+  pub mandates_edit : (next : ℕ) (put ended : List Mandate) → Changes mandate_reading put (λ mandate. list_any (is_same_mandate mandate) (map (λ m. m) (existing_records (λ x. x.principal) next put) ++ ended)) stamp a b
       → RewritesTables (λ h. record h { mandates = written_mandates next put ended stamp h.mandates }) a b
   mandates_edit next put ended done =
       subst (λ (keys : List Mandate). RewritesTables (λ h. record h { mandates = changed_versions put (λ mandate. list_any (is_same_mandate mandate) (keys ++ ended)) stamp h.mandates }) a b) (all_same (existing_records (λ x. x.principal) next put))
-      (kind_edits mandates (λ vs h. record h { mandates = vs }) (λ h. h.mandates) laws.mandates (λ db moments h holds. holds.the_mandates) (λ e. absurd (omega arith)) put
+      (kind_edits mandate_reading (λ vs h. record h { mandates = vs }) (λ h. h.mandates) laws.mandates (λ db moments h holds. holds.the_mandates) (λ e. absurd (omega arith)) put
       (λ mandate. list_any (is_same_mandate mandate) (map (λ m. m) (existing_records (λ x. x.principal) next put) ++ ended)) stamp a b done)
 
   -- ---- links of mutations to units: none ends
 
-  pub namings_edit : (next : ℕ) (put : List (ℕ × MutationRecord)) → BeginsAll namings (named_by (new_mutations next put)) stamp a b → RewritesTables (λ h. record h { namings = changed_namings next put stamp h.namings }) a b
+  pub namings_edit : (next : ℕ) (put : List (ℕ × MutationRecord)) → BeginsAll naming_reading (named_by (new_mutations next put)) stamp a b → RewritesTables (λ h. record h { namings = changed_namings next put stamp h.namings }) a b
   namings_edit next put done =
-      one_edits namings (λ vs h. record h { namings = vs }) (λ h. h.namings) laws.namings (λ db moments h holds. holds.the_namings) (λ e. absurd (omega arith)) (changed_namings next put stamp) a b done.schema
-      (λ vs keeps. subst (λ ws. Keeps namings b.trees (map (λ x. opened_version x stamp) (named_by (new_mutations next put)) ++ ws)) (sym (none_closed stamp vs)) (done.held vs keeps)) done.kept
+      one_edits naming_reading (λ vs h. record h { namings = vs }) (λ h. h.namings) laws.namings (λ db moments h holds. holds.the_namings) (λ e. absurd (omega arith)) (changed_namings next put stamp) a b done.schema
+      (λ vs keeps. subst (λ ws. Keeps naming_reading b.trees (map (λ x. opened_version x stamp) (named_by (new_mutations next put)) ++ ws)) (sym (none_closed stamp vs)) (done.held vs keeps)) done.kept
 
 -- ---- several steps
 

@@ -18,12 +18,12 @@ use Rattle.land_tables_rows.specs.Cells.Closable.{is_numbered}
 use Rattle.land_tables_rows.specs.Cells.Laws.{RrrCellsDecode, RrrsReadBack}
 use Rattle.land_tables_rows.specs.Cells.Texts.{is_storable}
 use Rattle.land_tables_rows.specs.Reading.Cells.{amount_in, currency_in, end_in, moment_in, natural_in, null_in, number_in, share_in, text_in, words_in}
-use Rattle.land_tables_rows.specs.Reading.Words.{class_of, class_word_in}
-use Rattle.land_tables_rows.specs.Rrr.Cells.{IsExactClass, class_word, fits_class, rrr_row_of}
+use Rattle.land_tables_rows.specs.Reading.Words.{entry_class_of, class_word_in}
+use Rattle.land_tables_rows.specs.Rrr.Cells.{IsExactClass, class_column_word, fits_class, rrr_row_of}
 use Rattle.land_tables_rows.specs.Rrr.Reading.{burden_in, class_by, mortgage_in, no_mortgage_in, no_right_in, right_in, rrr_in}
 use Rattle.land_tables_rows.specs.declared.reading.words.ClassWord.{ClassWord}
 use Rattle.land_tables_rows.specs.declared.reading.words.ClassWord.TheVariants as word
-use Rattle.land_tables_schema.specs.Rows.Rrr.{RrrRow, is_rrr, rrrs}
+use Rattle.land_tables_schema.specs.Rows.Rrr.{RrrRow, is_rrr, rrr_form}
 use Rattle.land_tables_schema.specs.Rows.Versions as laid
 use Rattle.land_tables_schema.specs.Rows.Versions.{opened_version, never, whole}
 use Rattle.land_wire_json.specs.Bodies.WireFaults.{◌>>=◌}
@@ -217,10 +217,10 @@ record AreNumbers (number unit party source : ℕ) : Type 0 where
 
 module _ (shares : SameFractionLaw) (number unit party source : ℕ) (since : ℤ) (numbers : AreNumbers number unit party source) (moment : IsMoment since) where
   with_class : (which : ClassWord) (said : Class) (num den amount currency place words : Value) → classed which num den amount currency place words ≡ Ok said
-      → rrr_in (whole number ∷ whole unit ∷ whole party ∷ Text (class_word which) ∷ num ∷ den ∷ amount ∷ currency ∷ place ∷ words ∷ whole source ∷ Int since ∷ Int never ∷ [])
+      → rrr_in (whole number ∷ whole unit ∷ whole party ∷ Text (class_column_word which) ∷ num ∷ den ∷ amount ∷ currency ∷ place ∷ words ∷ whole source ∷ Int since ∷ Int never ∷ [])
       ≡ Ok (record { what = entry_of number unit party source said; since = since; until = never })
   with_class which said num den amount currency place words is_class =
-      from_cells (whole number) (whole unit) (whole party) (Text (class_word which)) num den amount currency place words (whole source) (Int since) (Int never)
+      from_cells (whole number) (whole unit) (whole party) (Text (class_column_word which)) num den amount currency place words (whole source) (Int since) (Int never)
       (record { what = entry_of number unit party source said; since = since; until = never })
       (record {
         which = which;
@@ -235,7 +235,7 @@ module _ (shares : SameFractionLaw) (number unit party source : ℕ) (since : �
       })
 
   by_class : (said : Class) → fits_class said ≡ true → IsExactClass said
-      → rrr_in (rrrs.cells (opened_version (rrr_row_of (entry_of number unit party source said)) since)) ≡ Ok (record { what = entry_of number unit party source said; since = since; until = never })
+      → rrr_in (rrr_form.cells (opened_version (rrr_row_of (entry_of number unit party source said)) since)) ≡ Ok (record { what = entry_of number unit party source said; since = since; until = never })
   by_class (class.Right type share) fits exact =
       with_class (word.Right type) (class.Right type share) (whole share.numerator) (whole share.denominator) Null Null Null Null (rw (share_is_read shares share exact) refl)
   by_class (class.Restriction words) fits exact =
@@ -263,10 +263,10 @@ thirteen : {a b c d e f g h i j k l m a' b' c' d' e' f' g' h' i' j' k' l' m' : V
 thirteen a b c d e f g h i j k l m = cc
 
 written : (a b c d e f g h i j k l m : Value) (v : Version (ℕ × RrrRecord)) → Told a b c d e f g h i j k l m v
-    → (p : laid.Version RrrRow) × (rrrs.cells p ≡ a ∷ b ∷ c ∷ d ∷ e ∷ f ∷ g ∷ h ∷ i ∷ j ∷ k ∷ l ∷ m ∷ [])
+    → (p : laid.Version RrrRow) × (rrr_form.cells p ≡ a ∷ b ∷ c ∷ d ∷ e ∷ f ∷ g ∷ h ∷ i ∷ j ∷ k ∷ l ∷ m ∷ [])
 unfolding class_word_in
 written a b c d e f g h i j k l m v t =
-    let w = stepped (text_in d) class_of t.which t.the_word in
+    let w = stepped (text_in d) entry_class_of t.which t.the_word in
     let x = are_written e f g h i j t.which v.what.1.class t.the_class in (
       record {
         what = record {
@@ -297,12 +297,12 @@ module _ (p : laid.Version RrrRow) where
       Told (whole p.what.number) (whole p.what.unit) (whole p.what.party) (Text p.what.class) (or_null whole p.what.num) (or_null whole p.what.den) (or_null whole p.what.amount)
       (or_null Text p.what.currency) (or_null whole p.what.place) (or_null Text p.what.words) (whole p.what.source) (Int p.since) until v
 
-  its_reading : (stamp : ℤ) (v : Version (ℕ × RrrRecord)) → ItsTold (Int stamp) v → rrr_in (rrrs.cells (record p { until = stamp })) ≡ Ok v
+  its_reading : (stamp : ℤ) (v : Version (ℕ × RrrRecord)) → ItsTold (Int stamp) v → rrr_in (rrr_form.cells (record p { until = stamp })) ≡ Ok v
   its_reading stamp v =
       from_cells (whole p.what.number) (whole p.what.unit) (whole p.what.party) (Text p.what.class) (or_null whole p.what.num) (or_null whole p.what.den) (or_null whole p.what.amount)
       (or_null Text p.what.currency) (or_null whole p.what.place) (or_null Text p.what.words) (whole p.what.source) (Int p.since) (Int stamp) v
 
-  its_cells : (v : Version (ℕ × RrrRecord)) → rrr_in (rrrs.cells p) ≡ Ok v → ItsTold (Int p.until) v
+  its_cells : (v : Version (ℕ × RrrRecord)) → rrr_in (rrr_form.cells p) ≡ Ok v → ItsTold (Int p.until) v
   its_cells v =
       to_cells (whole p.what.number) (whole p.what.unit) (whole p.what.party) (Text p.what.class) (or_null whole p.what.num) (or_null whole p.what.den) (or_null whole p.what.amount)
       (or_null Text p.what.currency) (or_null whole p.what.place) (or_null Text p.what.words) (whole p.what.source) (Int p.since) (Int p.until) v
@@ -320,7 +320,7 @@ module _ (p : laid.Version RrrRow) where
     the_until = is_end;
   }
 
-  is_read : (v : Version (ℕ × RrrRecord)) (n : ℕ) → ItsTold (Int p.until) v → IsReadAs rrr_in rrrs.cells (is_rrr n) (is_numbered n) p v
+  is_read : (v : Version (ℕ × RrrRecord)) (n : ℕ) → ItsTold (Int p.until) v → IsReadAs rrr_in rrr_form.cells (is_rrr n) (is_numbered n) p v
   is_read v n t = record {
     same = ap (λ m. m == n) (same_number p.what.number v.what.0 t.the_number);
     until = same_end p.until v.until t.the_until;
@@ -331,5 +331,5 @@ pub rrr_cells_decode : RrrCellsDecode
 rrr_cells_decode = record {
   found = λ r v e. written (column r 1) (column r 2) (column r 3) (column r 4) (column r 5) (column r 6) (column r 7) (column r 8) (column r 9) (column r 10) (column r 11) (column r 12) (column r 13) v
       (to_cells (column r 1) (column r 2) (column r 3) (column r 4) (column r 5) (column r 6) (column r 7) (column r 8) (column r 9) (column r 10) (column r 11) (column r 12) (column r 13) v e);
-  closes = λ n stamp p v moment e. closing rrr_in rrrs.cells (is_rrr n) (is_numbered n) p v stamp (is_read p v n (its_cells p v e)) (ends stamp moment) e;
+  closes = λ n stamp p v moment e. closing rrr_in rrr_form.cells (is_rrr n) (is_numbered n) p v stamp (is_read p v n (its_cells p v e)) (ends stamp moment) e;
 }

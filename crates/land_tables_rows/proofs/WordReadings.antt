@@ -2,7 +2,7 @@
 use Rattle.std.proofs.Common.{◌≡◌, ℕ, List, true, codes, Result, Ok, refl, ap, ◌∙◌}
 use Rattle.std.specs.Str.{is_utf8}
 use Rattle.json.proofs.Printed.Utf8.{are_ascii}
-use Rattle.land_core.specs.Words.{act_word, party_word, role_word, source_word, state_word}
+use Rattle.land_core.specs.Words.{content_word, party_word, role_word, source_word, state_word}
 use Rattle.land_core.specs.declared.content.Content.{Content}
 use Rattle.land_core.specs.declared.content.Content.TheVariants as content
 use Rattle.land_core.specs.declared.kind.PartyKind.{PartyKind}
@@ -18,8 +18,8 @@ use Rattle.land_tables_rows.proofs.CellReadings.{text_is_read}
 use Rattle.land_tables_rows.proofs.TextReadings.{ascii_is_utf8}
 use Rattle.land_tables_rows.specs.Cells.Laws.{WordsAreRead}
 use Rattle.land_tables_rows.specs.Reading.Cells.{text_in}
-use Rattle.land_tables_rows.specs.Reading.Words.{class_of, class_word_in, kind_of, party_kind_in, role_in, source_kind_in, source_kind_of, state_in, state_of}
-use Rattle.land_tables_rows.specs.Rrr.Cells.{class_word}
+use Rattle.land_tables_rows.specs.Reading.Words.{entry_class_of, class_word_in, party_kind_of, party_kind_in, role_in, source_kind_in, source_kind_of, state_in, mutation_state_of}
+use Rattle.land_tables_rows.specs.Rrr.Cells.{class_column_word}
 use Rattle.land_tables_rows.specs.declared.reading.words.ClassWord.{ClassWord}
 use Rattle.land_tables_rows.specs.declared.reading.words.ClassWord.TheVariants as class
 use Rattle.land_wire_json.specs.Bodies.WireFaults.{◌>>=◌}
@@ -32,9 +32,9 @@ word_is_read read word x ascii e = ap (λ m. m >>= read) (text_is_read word (asc
 
 pub kind_is_read : (it : PartyKind) → party_kind_in (Text (party_word it)) ≡ Ok it
 unfolding party_kind_in
-kind_is_read kind.NaturalPerson = word_is_read kind_of (codes "naturalPerson") kind.NaturalPerson refl refl
-kind_is_read kind.NonNaturalPerson = word_is_read kind_of (codes "nonNaturalPerson") kind.NonNaturalPerson refl refl
-kind_is_read kind.Group = word_is_read kind_of (codes "group") kind.Group refl refl
+kind_is_read kind.NaturalPerson = word_is_read party_kind_of (codes "naturalPerson") kind.NaturalPerson refl refl
+kind_is_read kind.NonNaturalPerson = word_is_read party_kind_of (codes "nonNaturalPerson") kind.NonNaturalPerson refl refl
+kind_is_read kind.Group = word_is_read party_kind_of (codes "group") kind.Group refl refl
 
 pub role_is_read : (it : Role) → role_in (Text (role_word it)) ≡ Ok it
 unfolding role_in
@@ -52,32 +52,32 @@ source_is_read source.Spatial = word_is_read source_kind_of (codes "spatial") so
 
 pub state_is_read : (it : MutationState) → state_in (Text (state_word it)) ≡ Ok it
 unfolding state_in
-state_is_read state.Lodged = word_is_read state_of (codes "lodged") state.Lodged refl refl
-state_is_read state.Approved = word_is_read state_of (codes "approved") state.Approved refl refl
-state_is_read state.Refused = word_is_read state_of (codes "refused") state.Refused refl refl
+state_is_read state.Lodged = word_is_read mutation_state_of (codes "lodged") state.Lodged refl refl
+state_is_read state.Approved = word_is_read mutation_state_of (codes "approved") state.Approved refl refl
+state_is_read state.Refused = word_is_read mutation_state_of (codes "refused") state.Refused refl refl
 
 -- ---- acts
 
-act_is_utf8 : (it : Content) → is_utf8 (act_word it) ≡ true
+act_is_utf8 : (it : Content) → is_utf8 (content_word it) ≡ true
 act_is_utf8 (content.Transfer it) = ascii_is_utf8 (codes "transfer") refl
 act_is_utf8 (content.Subdivision it) = ascii_is_utf8 (codes "subdivision") refl
 act_is_utf8 (content.Merger it) = ascii_is_utf8 (codes "merger") refl
 act_is_utf8 (content.Mortgage it) = ascii_is_utf8 (codes "mortgage") refl
 act_is_utf8 (content.Discharge it) = ascii_is_utf8 (codes "discharge") refl
 
-pub act_is_read : (it : Content) → text_in (Text (act_word it)) ≡ Ok (act_word it)
-act_is_read it = text_is_read (act_word it) (act_is_utf8 it)
+pub act_is_read : (it : Content) → text_in (Text (content_word it)) ≡ Ok (content_word it)
+act_is_read it = text_is_read (content_word it) (act_is_utf8 it)
 
 -- ---- classes
 
-pub class_is_read : (it : ClassWord) → class_word_in (Text (class_word it)) ≡ Ok it
+pub class_is_read : (it : ClassWord) → class_word_in (Text (class_column_word it)) ≡ Ok it
 unfolding class_word_in
-class_is_read (class.Right right.Ownership) = word_is_read class_of (codes "ownership") (class.Right right.Ownership) refl refl
-class_is_read (class.Right right.Lease) = word_is_read class_of (codes "lease") (class.Right right.Lease) refl refl
-class_is_read (class.Right right.Usufruct) = word_is_read class_of (codes "usufruct") (class.Right right.Usufruct) refl refl
-class_is_read class.Restriction = word_is_read class_of (codes "restriction") class.Restriction refl refl
-class_is_read class.Responsibility = word_is_read class_of (codes "responsibility") class.Responsibility refl refl
-class_is_read class.Mortgage = word_is_read class_of (codes "mortgage") class.Mortgage refl refl
+class_is_read (class.Right right.Ownership) = word_is_read entry_class_of (codes "ownership") (class.Right right.Ownership) refl refl
+class_is_read (class.Right right.Lease) = word_is_read entry_class_of (codes "lease") (class.Right right.Lease) refl refl
+class_is_read (class.Right right.Usufruct) = word_is_read entry_class_of (codes "usufruct") (class.Right right.Usufruct) refl refl
+class_is_read class.Restriction = word_is_read entry_class_of (codes "restriction") class.Restriction refl refl
+class_is_read class.Responsibility = word_is_read entry_class_of (codes "responsibility") class.Responsibility refl refl
+class_is_read class.Mortgage = word_is_read entry_class_of (codes "mortgage") class.Mortgage refl refl
 
 pub words_are_read : WordsAreRead
 words_are_read = record {

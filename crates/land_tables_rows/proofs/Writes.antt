@@ -6,7 +6,7 @@ use Rattle.std.proofs.lemmas.List.Sorted.{IsPermutation-refl, IsPermutation-sym,
 use Rattle.land_tables_history.specs.Changed.{opened_version, closed_version}
 use Rattle.land_tables_history.specs.Open.{never}
 use Rattle.land_tables_history.specs.declared.version.Version.{Version}
-use Rattle.land_tables_rows.specs.Writing.Holding.{Begins, Closes, Keeps, Reading}
+use Rattle.land_tables_rows.specs.Writing.Holding.{Begins, ClosesVersions, Keeps, Reading}
 use Rattle.land_tables_schema.specs.Rows.Forms.{InsertsVersion, Form, Holds, UpdatesRows}
 use Rattle.land_tables_schema.specs.Rows.ReadQueries.{columns_from}
 use Rattle.land_tables_schema.specs.Rows.Versions as rows
@@ -143,5 +143,5 @@ module _ {C X : Type 0} (table : Table) (count : ℕ) (cells : C → Row) (said 
             numbered = held.numbered;
           }
 
-      pub closes : Closes reading meant_so stamp old new
+      pub closes : ClosesVersions reading meant_so stamp old new
       closes = record { schema = turns.schema; held = closed_held; kept = turns.kept }

@@ -10,7 +10,7 @@ use Rattle.std.specs.Prelude.{nat_eq, nat_lt}
 use Rattle.land_tables_schema.proofs.Named.{IsDrop, compiled_dropping, drop_by_name, drop_with, heard}
 use Rattle.land_tables_schema.proofs.Raisable.{first_but_for_indexes}
 use Rattle.land_tables_schema.specs.Definitions.{AreReady, IsChanging, IsReady, without_index_of, schema_after_statements, schema_after_command, schema_after_statement}
-use Rattle.land_tables_schema.specs.Schemas.{IsSchemaV1, IsMigratable, are_apart, schema_v1_with, is_apart, is_lookup_index, is_named, lookup_index_names, adds_no_constraint, without_lookup_indexes, without_named}
+use Rattle.land_tables_schema.specs.Schemas.{IsSchemaV1, IsMigratable, are_indexes_apart, schema_v1_with, is_apart, is_lookup_index, is_named, lookup_index_names, adds_no_constraint, without_lookup_indexes, without_named}
 use Rattle.land_tables_schema.specs.Laws.{drop_statements}
 use Rattle.sqlite.proofs.Callers.{command_of, statement_of}
 use Rattle.sqlite.specs.Command.{Command}
@@ -117,7 +117,7 @@ unfolding same_name
 alike other one name same = ap (λ l. is_eq (slice_cmp nat_cmp (map to_ascii_lowercase other) l)) ((lowered one name).0 same)
 
 -- indexes that differ by tree and name still do so without one of them
-apart_of : (r : Index → Bool) (is : List Index) → are_apart is ≡ true → are_apart (filter r is) ≡ true
+apart_of : (r : Index → Bool) (is : List Index) → are_indexes_apart is ≡ true → are_indexes_apart (filter r is) ≡ true
 apart_of r is h =
     all_of (λ i. list_all (is_apart i) (filter r is)) r is
     (all_so (λ i. list_all (is_apart i) is) (λ i. list_all (is_apart i) (filter r is)) is (λ i apart. all_of (is_apart i) r is apart) h)
@@ -130,7 +130,7 @@ drop_command None = Nothing
 drop_command (Some k) = DropIndex k
 
 -- if indexes differ by tree and name, dropping the first of a name drops all of that name
-loses : (text name : List ℕ) (is : List Index) → are_apart is ≡ true → (o : Option ℕ) → index_named (schema_v1_with [] is) name ≡ o
+loses : (text name : List ℕ) (is : List Index) → are_indexes_apart is ≡ true → (o : Option ℕ) → index_named (schema_v1_with [] is) name ≡ o
     → schema_after_command (schema_v1_with [] is) text (drop_command o) ≡ schema_v1_with [] (without_one name is)
 loses text name is apart None e = ap (λ l. schema_v1_with [] l) (sym (none_goes (λ (i : Index). same_name i.name name) is 0 e))
 loses text name is apart (Some k) e =
@@ -163,7 +163,7 @@ may_change (Some k) after = tt
 abbrev Dropped : List ℕ → List ℕ → List Index → Type 0
 Dropped text name is = IsReady (schema_v1_with [] is) text × (schema_after_statement (schema_v1_with [] is) text ≡ schema_v1_with [] (without_one name is))
 
-module _ (text name : List ℕ) (d : Drops text name) (is : List Index) (apart : are_apart is ≡ true) where
+module _ (text name : List ℕ) (d : Drops text name) (is : List Index) (apart : are_indexes_apart is ≡ true) where
   abbrev schema : Schema
   schema = schema_v1_with [] is
 
@@ -187,7 +187,7 @@ module _ (text name : List ℕ) (d : Drops text name) (is : List Index) (apart :
   dropped_one : Dropped text name is
   dropped_one = dropped_by (index_named schema name) refl
 
-dropped_all : (texts names : List (List ℕ)) → AllZip Drops texts names → (is : List Index) → are_apart is ≡ true
+dropped_all : (texts names : List (List ℕ)) → AllZip Drops texts names → (is : List Index) → are_indexes_apart is ≡ true
     → AreReady (schema_v1_with [] is) texts × (schema_after_statements (schema_v1_with [] is) texts ≡ schema_v1_with [] (filter (λ i. not (is_named names i)) is))
 dropped_all [] [] drop is apart = (tt, ap (λ l. schema_v1_with [] l) (sym (all_stay is)))
 dropped_all [] (n ∷ ns) drop is apart = absurd drop

@@ -10,17 +10,17 @@ use Rattle.land_tables_schema.specs.Making.{IsMade}
 use Rattle.land_tables_schema.specs.Rows.Held.{HoldsRows, IsNew, Rows}
 use Rattle.land_tables_schema.specs.Rows.Edition.{v2_edition, edition_row}
 use Rattle.land_tables_schema.specs.Rows.Forms.{Form, Holds, InsertsVersion, Appends}
-use Rattle.land_tables_schema.specs.Rows.Mandate.{mandates}
-use Rattle.land_tables_schema.specs.Rows.Member.{members}
+use Rattle.land_tables_schema.specs.Rows.Mandate.{mandate_form}
+use Rattle.land_tables_schema.specs.Rows.Member.{member_form}
 use Rattle.land_tables_schema.specs.Rows.Moments.{moment_row}
-use Rattle.land_tables_schema.specs.Rows.Mutation.{mutations}
-use Rattle.land_tables_schema.specs.Rows.Names.{namings}
-use Rattle.land_tables_schema.specs.Rows.Parcel.{parcels}
-use Rattle.land_tables_schema.specs.Rows.Party.{parties}
-use Rattle.land_tables_schema.specs.Rows.Role.{roles}
-use Rattle.land_tables_schema.specs.Rows.Rrr.{rrrs}
-use Rattle.land_tables_schema.specs.Rows.Source.{sources}
-use Rattle.land_tables_schema.specs.Rows.Unit.{units}
+use Rattle.land_tables_schema.specs.Rows.Mutation.{mutation_form}
+use Rattle.land_tables_schema.specs.Rows.Names.{names_form}
+use Rattle.land_tables_schema.specs.Rows.Parcel.{parcel_form}
+use Rattle.land_tables_schema.specs.Rows.Party.{party_form}
+use Rattle.land_tables_schema.specs.Rows.Role.{role_form}
+use Rattle.land_tables_schema.specs.Rows.Rrr.{rrr_form}
+use Rattle.land_tables_schema.specs.Rows.Source.{source_form}
+use Rattle.land_tables_schema.specs.Rows.Unit.{unit_form}
 use Rattle.land_tables_schema.specs.Rows.Versions.{opened_version}
 use Rattle.land_tables_schema.specs.Steps.{IsTransactionStep}
 use Rattle.land_tables_schema.specs.Tables as table
@@ -55,21 +55,21 @@ nothing_held db made =
     record {
       the_editions = rw none.0 (IsPermutation-refl []);
       the_moments = rw none.1.0 (IsPermutation-refl []);
-      the_parties = none_held parties db.trees none.1.1.0;
-      the_roles = none_held roles db.trees none.1.1.1.0;
-      the_members = none_held members db.trees none.1.1.1.1.0;
-      the_units = none_held units db.trees none.1.1.1.1.1.0;
-      the_parcels = none_held parcels db.trees none.1.1.1.1.1.1.0;
-      the_rrrs = none_held rrrs db.trees none.1.1.1.1.1.1.1.0;
-      the_sources = none_held sources db.trees none.1.1.1.1.1.1.1.1.0;
-      the_mutations = none_held mutations db.trees none.1.1.1.1.1.1.1.1.1.0;
-      the_namings = none_held namings db.trees none.1.1.1.1.1.1.1.1.1.1.0;
-      the_mandates = none_held mandates db.trees none.1.1.1.1.1.1.1.1.1.1.1.0;
+      the_parties = none_held party_form db.trees none.1.1.0;
+      the_roles = none_held role_form db.trees none.1.1.1.0;
+      the_members = none_held member_form db.trees none.1.1.1.1.0;
+      the_units = none_held unit_form db.trees none.1.1.1.1.1.0;
+      the_parcels = none_held parcel_form db.trees none.1.1.1.1.1.1.0;
+      the_rrrs = none_held rrr_form db.trees none.1.1.1.1.1.1.1.0;
+      the_sources = none_held source_form db.trees none.1.1.1.1.1.1.1.1.0;
+      the_mutations = none_held mutation_form db.trees none.1.1.1.1.1.1.1.1.1.0;
+      the_namings = none_held names_form db.trees none.1.1.1.1.1.1.1.1.1.1.0;
+      the_mandates = none_held mandate_form db.trees none.1.1.1.1.1.1.1.1.1.1.1.0;
     }
 
 -- the first rows, in order
 pub first_rows : (made a b c d : Database) → IsMade made → Appends table.edition edition_row v2_edition made a → Appends table.moments moment_row (record { stamp = pos 0; next = 2 }) a b
-    → InsertsVersion parties (opened_version (record { number = 1; name = codes "Land Office"; kind = codes "nonNaturalPerson" }) (pos 0)) b c → InsertsVersion roles (opened_version (record { party = 1; role = codes "stateAdministrator" }) (pos 0)) c d → IsNew d
+    → InsertsVersion party_form (opened_version (record { number = 1; name = codes "Land Office"; kind = codes "nonNaturalPerson" }) (pos 0)) b c → InsertsVersion role_form (opened_version (record { party = 1; role = codes "stateAdministrator" }) (pos 0)) c d → IsNew d
 first_rows made a b c d is edition moment party role =
     let none = nothing_held made is in
     let one = with_editions made.trees a.trees no_rows none (v2_edition ∷ []) edition.kept (edition.listed [] none.the_editions) in
@@ -85,8 +85,8 @@ Anything old new = Unit {0}
 pub first_steps : {W X Y Z E : Type 0} {w : W} {x : X} {y : Y} {z : Z} (made a b c d : State) → (HasCleanDisk made → IsMade made.now)
     → IsTransactionStep {X = W} {E = E} (Ok w) (Appends table.edition edition_row v2_edition) made a
     → IsTransactionStep {X = X} {E = E} (Ok x) (Appends table.moments moment_row (record { stamp = pos 0; next = 2 })) a b
-    → IsTransactionStep {X = Y} {E = E} (Ok y) (InsertsVersion parties (opened_version (record { number = 1; name = codes "Land Office"; kind = codes "nonNaturalPerson" }) (pos 0))) b c
-    → IsTransactionStep {X = Z} {E = E} (Ok z) (InsertsVersion roles (opened_version (record { party = 1; role = codes "stateAdministrator" }) (pos 0))) c d
+    → IsTransactionStep {X = Y} {E = E} (Ok y) (InsertsVersion party_form (opened_version (record { number = 1; name = codes "Land Office"; kind = codes "nonNaturalPerson" }) (pos 0))) b c
+    → IsTransactionStep {X = Z} {E = E} (Ok z) (InsertsVersion role_form (opened_version (record { party = 1; role = codes "stateAdministrator" }) (pos 0))) c d
     → IsTransactionStep {X = Unit {0}} {E = E} (Ok tt) (λ _ new. IsNew new) made d
 first_steps {E = E} made a b c d is edition moment party role =
     let two : IsTransactionStep {X = Unit {0}} {E = E} (Ok tt) Anything made b = step_then made a b edition moment (λ _ _ _. tt) in

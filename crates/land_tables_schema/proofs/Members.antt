@@ -8,7 +8,7 @@ use Rattle.land_tables_schema.proofs.Updates.{plainly}
 use Rattle.land_tables_schema.proofs.Versions.{IsBeginning, IsClosing, begin_terms, close_terms, columns_of}
 use Rattle.land_tables_schema.specs.Schemas.{ContainsSchemaV1, schema_v1_with, schema_v2_with}
 use Rattle.land_tables_schema.specs.Rows.ReadQueries.{columns_from}
-use Rattle.land_tables_schema.specs.Rows.Member.{is_member_of, member_cells}
+use Rattle.land_tables_schema.specs.Rows.Member.{is_row_of_group, member_cells}
 use Rattle.land_tables_schema.specs.Rows.Versions.{never, whole}
 use Rattle.land_tables_schema.specs.Tables.{member}
 use Rattle.land_tables_schema.specs.declared.rows.tables.member.TheConstants.{ALL, BEGIN, CLOSE}
@@ -37,7 +37,7 @@ updates_it : (indexes : List Index) → IsUpdate (schema_v2_with indexes) CLOSE.
 unfolding understood everything
 updates_it indexes = record { command = refl; plain = (refl, refl); table = refl; alone = λ _ _ _. refl }
 
-pub closing : (grp : ℕ) → IsClosing member 4 member_cells CLOSE.now 4 where_it_stands (close_terms 4 1) (whole grp ∷ []) (is_member_of grp)
+pub closing : (grp : ℕ) → IsClosing member 4 member_cells CLOSE.now 4 where_it_stands (close_terms 4 1) (whole grp ∷ []) (is_row_of_group grp)
 closing grp = record {
   update = updates_it;
   turning = λ stamp. record {

@@ -25,8 +25,8 @@ a_column name kind not_null =
     }
 
 -- an integer column, NOT NULL
-abbrev pub number : List ℕ → Column
-number name = a_column name Integer true
+abbrev pub number_column : List ℕ → Column
+number_column name = a_column name Integer true
 
 -- a text column, NOT NULL
 abbrev pub words : List ℕ → Column
@@ -83,5 +83,5 @@ keyed_table name tree columns key checks = record {
 abbrev pub versioned_table : List ℕ → ℕ → List ℕ → List Column → Table
 versioned_table name tree key columns =
     let since = suc (length columns) in
-    keyed_table name tree (columns ++ number (codes "since") ∷ number (codes "until") ∷ [])
+    keyed_table name tree (columns ++ number_column (codes "since") ∷ number_column (codes "until") ∷ [])
     (key ++ since ∷ []) (lifespan_check since (suc since))

@@ -81,8 +81,8 @@ abbrev pub is_apart : Index → Index → Bool
 is_apart i j = if same_name j.name i.name then nat_eq j.tree i.tree else not (nat_eq j.tree i.tree)
 
 -- all indexes differ by tree if and only if they differ by name
-abbrev pub are_apart : List Index → Bool
-are_apart indexes = list_all (λ i. list_all (is_apart i) indexes) indexes
+abbrev pub are_indexes_apart : List Index → Bool
+are_indexes_apart indexes = list_all (λ i. list_all (is_apart i) indexes) indexes
 
 -- the index is a plain index of version 1, or its tree comes before that of `mandate`
 abbrev pub precedes_mandates : Index → Bool
@@ -96,7 +96,7 @@ is_last_key_index index = not (is_lookup_index index) && nat_eq index.tree 19
 -- tree of `mandate`
 pub record IsMigratable (s : Schema) : Type 0 where
   pub first : IsSchemaV1 s
-  pub apart : are_apart s.indexes ≡ true
+  pub apart : are_indexes_apart s.indexes ≡ true
   pub before : list_all precedes_mandates s.indexes ≡ true
   pub last : list_any is_last_key_index s.indexes ≡ true
 

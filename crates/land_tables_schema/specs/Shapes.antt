@@ -1,6 +1,6 @@
 -- The tables that shapes describe.
 use Rattle.std.specs.Prelude.{◌≡◌, ℕ, List, [], ◌∷◌, map, false, Option, Some, None}
-use Rattle.land_tables_schema.specs.Columns.{keyed_table, lifespan_check, number, number_or_null}
+use Rattle.land_tables_schema.specs.Columns.{keyed_table, lifespan_check, number_column, number_or_null}
 use Rattle.land_tables_schema.specs.Columns.{numbered_table, words}
 use Rattle.land_tables_schema.specs.Columns.{words_or_null}
 use Rattle.land_tables_schema.specs.declared.shape.ColumnShape.{ColumnShape}
@@ -15,7 +15,7 @@ use Rattle.sqlite_value.specs.declared.keys.Order.{Order}
 
 -- the column of a shape
 abbrev pub column_of : ColumnShape → Column
-column_of (column.Number name) = number name.now
+column_of (column.Number name) = number_column name.now
 column_of (column.Words name) = words name.now
 column_of (column.OptionalNumber name) = number_or_null name.now
 column_of (column.OptionalWords name) = words_or_null name.now
@@ -47,7 +47,7 @@ pub record AreKept (t : Table) (key : Option ℕ) (primary : List ℕ) (uniques 
   pub checks_are : t.checks ≡ checks
 
 -- the table has the key and the CHECK of a shape
-abbrev pub AreRows : Table → Rows → Type 0
-AreRows t rows.Numbered = AreKept t (Some 0) (0 ∷ []) [] [] []
-AreRows t (rows.Versioned key since until) =
+abbrev pub HasRowsOf : Table → Rows → Type 0
+HasRowsOf t rows.Numbered = AreKept t (Some 0) (0 ∷ []) [] [] []
+HasRowsOf t (rows.Versioned key since until) =
     AreKept t None key.now (key.now ∷ []) ((record { digits = 0 }) ∷ []) (lifespan_check since until)

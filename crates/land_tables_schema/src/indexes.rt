@@ -1,7 +1,8 @@
 //! Checks that the indexes of a schema reject no row that the primary keys of its tables allow.
 ghost use Rattle.std.specs.List.{list_all, list_any};
 ghost use Rattle.std.specs.Prelude.{◌≡◌};
-ghost use Rattle.land_tables_schema.specs.Schemas.{are_apart, precedes_mandates, is_apart, is_lookup_index};
+ghost use Rattle.land_tables_schema.specs.Schemas.{are_indexes_apart, precedes_mandates, is_apart};
+ghost use Rattle.land_tables_schema.specs.Schemas.{is_lookup_index};
 ghost use Rattle.land_tables_schema.specs.Schemas.{is_key_of};
 ghost use Rattle.land_tables_schema.specs.Schemas.{is_last_key_index, is_on, adds_no_constraint};
 ghost use Rattle.land_tables_schema.specs.Schemas.{constrains_no_row_of};
@@ -100,7 +101,7 @@ fn is_apart_from(one: &Index, indexes: &[Index]) -> bool
 
 /// Returns whether the indexes differ by tree if and only if they differ by name.
 pub fn are_apart(indexes: &[Index]) -> bool
-    ensures { result ≡ are_apart indexes.now }
+    ensures { result ≡ are_indexes_apart indexes.now }
 {
     indexes.iter().all(|index| is_apart_from(index, indexes))
 }

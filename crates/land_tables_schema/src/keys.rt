@@ -1,6 +1,6 @@
 //! Checks the keys of a table against a shape.
 ghost use Rattle.std.specs.Prelude.{◌≡◌, ◌↔◌, [], ◌∷◌, IsTrue};
-ghost use Rattle.land_tables_schema.specs.Shapes.{AreRows, IsPlain};
+ghost use Rattle.land_tables_schema.specs.Shapes.{HasRowsOf, IsPlain};
 
 use crate::shape::Rows;
 use crate::terms::{is_free, is_ordered};
@@ -49,7 +49,7 @@ fn is_ascending(orders: &Items<Order>) -> bool
 
 /// Returns whether a table has this key, this CHECK, and no other constraint on its rows.
 pub fn are_rows(table: &Table, rows: Rows<'_>) -> bool
-    ensures { IsTrue result ↔ AreRows table.now rows.entry }
+    ensures { IsTrue result ↔ HasRowsOf table.now rows.entry }
 {
     match rows {
         Rows::Numbered => {

@@ -11,7 +11,7 @@ use Rattle.land_core.specs.Soundness.{has_administrator}
 use Rattle.land_core.specs.declared.role.Role.TheVariants.{StateAdministrator}
 use Rattle.land_core.specs.declared.roles.Grant.{Grant}
 use Rattle.land_tables_history.proofs.Proper.{all_proper}
-use Rattle.land_tables_history.specs.History.{register_at}
+use Rattle.land_tables_history.specs.History.{register_of_history}
 use Rattle.land_tables_history.specs.Intervals.{has_intervals}
 use Rattle.land_tables_history.specs.Standing.{is_current}
 use Rattle.land_tables_history.specs.declared.history.History.{History}
@@ -74,7 +74,7 @@ instants_begin (m ∷ ms) =
     (instants_begin ms)
 
 module _ (moments : List Moment) (h : History) (intervals : has_intervals moments h ≡ true) where
-  administered_at : (m : Moment) → has_administrator (register_at m.stamp h m.next) ≡ is_administered h.roles m.stamp
+  administered_at : (m : Moment) → has_administrator (register_of_history m.stamp h m.next) ≡ is_administered h.roles m.stamp
   administered_at m =
       some_role (λ grant. is_role grant.role StateAdministrator) m.stamp h.roles (all_proper moments h intervals).roles.apart
       ∙ sym (stood_among (λ r. 0) (λ grant. is_role grant.role StateAdministrator) 0 m.stamp h.roles)
@@ -86,7 +86,7 @@ module _ (moments : List Moment) (h : History) (intervals : has_intervals moment
         ap not (administered_at (slice_index_or moments k d) ∙ all k d i),
     λ never. recursion_from_All (λ m. is_administered h.roles m.stamp ≡ true) moments (λ k d i.
         let m = slice_index_or moments k d in
-        sym (administered_at m) ∙ not-false (has_administrator (register_at m.stamp h m.next)) (never k d i)),
+        sym (administered_at m) ∙ not-false (has_administrator (register_of_history m.stamp h m.next)) (never k d i)),
   )
 
   -- each commit has a state administrator if and only if the required moments are provided

@@ -3,7 +3,7 @@ use Rattle.std.proofs.Common.{◌≡◌, ℕ, ◌≤◌, Bool, true, false, cond
 use Rattle.std.specs.Prelude.{nat_lt}
 use Rattle.std.proofs.lemmas.Bool.Decides.{nat_tests}
 use Rattle.std.specs.List.{list_any}
-use Rattle.land_tables_validity.specs.Holdings.{are_few, is_entry, is_parcel, is_unit}
+use Rattle.land_tables_validity.specs.Holdings.{are_few, is_entry, is_parcel_holding, is_unit_holding}
 use Rattle.land_tables_validity.specs.LiveSpan.{if_any_marked}
 use Rattle.land_tables_validity.specs.declared.share_sums.Holding.{Holding}
 
@@ -33,5 +33,5 @@ module _ {X : Type 0} (f : X → Holding) (xs : List X) (few : length xs ≤ 256
       no_more (length xs) (length (filter p (map_list f xs))) within few
 
   -- at most 256 of all are within limits
-  pub few_of_all : true ≡ if_any_marked is_unit are_few (map_list f xs)
-  few_of_all = many_or_few (list_any is_unit (map_list f xs)) _ _ (counted is_parcel) (counted is_entry)
+  pub few_of_all : true ≡ if_any_marked is_unit_holding are_few (map_list f xs)
+  few_of_all = many_or_few (list_any is_unit_holding (map_list f xs)) _ _ (counted is_parcel_holding) (counted is_entry)

@@ -20,7 +20,7 @@ use Rattle.land_tables_validity.proofs.PairsApart.{never_pair}
 use Rattle.land_tables_validity.proofs.VersionsApart.{eq_then, is_one, where_apart}
 use Rattle.land_tables_validity.specs.ApartSpans.{spans_where}
 use Rattle.land_tables_validity.specs.Never.{Never}
-use Rattle.land_tables_validity.specs.Places.{kind_of, place_in, place_of}
+use Rattle.land_tables_validity.specs.Places.{right_type_index, place_in, entry_place}
 use Rattle.land_tables_validity.specs.declared.duplicate_rights.Place.{Place}
 use Rattle.land_tables_history.specs.Sweeps.Apart.{are_apart}
 use Rattle.land_tables_history.specs.declared.sweeps.apart.Span.{Span}
@@ -38,7 +38,7 @@ same_place a b =
     (eq_then (nat_cmp a.unit b.unit) (nat_cmp a.holder b.holder) ∙ ap₂ (λ x y. x && y) (same_numbers a.unit b.unit)
     (same_numbers a.holder b.holder))
 
-one_kind : (s t : RightType) → nat_eq (kind_of s) (kind_of t) ≡ is_type s t
+one_kind : (s t : RightType) → nat_eq (right_type_index s) (right_type_index t) ≡ is_type s t
 one_kind Ownership Ownership = refl
 one_kind Ownership Lease = refl
 one_kind Ownership Usufruct = refl
@@ -49,12 +49,12 @@ one_kind Usufruct Ownership = refl
 one_kind Usufruct Lease = refl
 one_kind Usufruct Usufruct = refl
 
-no_mortgage : (s : RightType) → nat_eq (kind_of s) 3 ≡ false
+no_mortgage : (s : RightType) → nat_eq (right_type_index s) 3 ≡ false
 no_mortgage Ownership = refl
 no_mortgage Lease = refl
 no_mortgage Usufruct = refl
 
-no_right : (s : RightType) → nat_eq 3 (kind_of s) ≡ false
+no_right : (s : RightType) → nat_eq 3 (right_type_index s) ≡ false
 no_right Ownership = refl
 no_right Lease = refl
 no_right Usufruct = refl
@@ -77,11 +77,11 @@ module _ (unit party unit' party' : ℕ) where
 
   by_class : (c d : Class) → is_one place_cmp (place_in unit party c) (place_in unit' party' d) ≡ clash_of c d
   by_class (Right s share) (Right t other) =
-      same_place (record { kind = kind_of s; unit = unit; holder = party }) (record { kind = kind_of t; unit = unit'; holder = party' })
+      same_place (record { kind = right_type_index s; unit = unit; holder = party }) (record { kind = right_type_index t; unit = unit'; holder = party' })
       ∙ ap (λ k. k && (nat_eq unit unit' && nat_eq party party')) (one_kind s t)
       ∙ by_right (is_type s t) (nat_eq unit unit') (nat_eq party party')
   by_class (Right s share) (Mortgage amount currency rank) =
-      same_place (record { kind = kind_of s; unit = unit; holder = party }) (record { kind = 3; unit = unit'; holder = rank })
+      same_place (record { kind = right_type_index s; unit = unit; holder = party }) (record { kind = 3; unit = unit'; holder = rank })
       ∙ ap (λ k. k && (nat_eq unit unit' && nat_eq party rank)) (no_mortgage s)
       ∙ nothing (nat_eq unit unit') (nat_eq party party')
   by_class (Right s share) (Restriction words) = nothing (nat_eq unit unit') (nat_eq party party')
@@ -89,7 +89,7 @@ module _ (unit party unit' party' : ℕ) where
   by_class (Restriction words) d = nothing (nat_eq unit unit') (nat_eq party party')
   by_class (Responsibility words) d = nothing (nat_eq unit unit') (nat_eq party party')
   by_class (Mortgage amount currency rank) (Right t other) =
-      same_place (record { kind = 3; unit = unit; holder = rank }) (record { kind = kind_of t; unit = unit'; holder = party' })
+      same_place (record { kind = 3; unit = unit; holder = rank }) (record { kind = right_type_index t; unit = unit'; holder = party' })
       ∙ ap (λ k. k && (nat_eq unit unit' && nat_eq rank party')) (no_right t)
       ∙ nothing (nat_eq unit unit') (nat_eq party party')
   by_class (Mortgage amount currency rank) (Mortgage amount' currency' rank') =
@@ -98,7 +98,7 @@ module _ (unit party unit' party' : ℕ) where
   by_class (Mortgage amount currency rank) (Restriction words) = nothing (nat_eq unit unit') (nat_eq party party')
   by_class (Mortgage amount currency rank) (Responsibility words) = nothing (nat_eq unit unit') (nat_eq party party')
 
-by_places : (e f : ℕ × RrrRecord) → is_one place_cmp (place_of e.1) (place_of f.1) ≡ do_clash e.1 f.1
+by_places : (e f : ℕ × RrrRecord) → is_one place_cmp (entry_place e.1) (entry_place f.1) ≡ do_clash e.1 f.1
 by_places e f = by_class e.1.unit e.1.party f.1.unit f.1.party e.1.class f.1.class
 
 -- ---- conflicts are symmetric
@@ -138,10 +138,10 @@ clash_turned e f =
 
 -- entries conflict if and only if the spans of their keys overlap
 pub entries_apart : (moments : List Moment) (h : History) → has_intervals moments h ≡ true → (spans : List (Span Place))
-    → spans ≡ spans_where (λ (e : ℕ × RrrRecord). place_of e.1) h.rrrs
+    → spans ≡ spans_where (λ (e : ℕ × RrrRecord). entry_place e.1) h.rrrs
     → (are_apart place_cmp spans ≡ true) ↔ Never has_clash moments h
 entries_apart moments h intervals spans made =
     let p = all_proper moments h intervals in
     subst (λ (b : Bool). (b ≡ true) ↔ Never has_clash moments h)
-    (sym (ap (are_apart place_cmp) made ∙ where_apart place_cmp (λ e. place_of e.1) (λ e f. do_clash e.1 f.1) by_places h.rrrs))
+    (sym (ap (are_apart place_cmp) made ∙ where_apart place_cmp (λ e. entry_place e.1) (λ e f. do_clash e.1 f.1) by_places h.rrrs))
     (never_pair do_clash clash_turned h.rrrs p.rrrs.apart moments p.rrrs.intervals)

@@ -5,7 +5,7 @@ use Rattle.land_core.specs.Entries.{has}
 use Rattle.land_core.specs.Soundness.{has_dangling_rrr}
 use Rattle.land_core.specs.declared.rrr.RrrRecord.{RrrRecord}
 use Rattle.land_tables_history.proofs.Proper.{AllProper, all_proper}
-use Rattle.land_tables_history.specs.History.{register_at}
+use Rattle.land_tables_history.specs.History.{register_of_history}
 use Rattle.land_tables_history.specs.Intervals.{has_intervals}
 use Rattle.land_tables_history.specs.Standing.{part_at}
 use Rattle.land_tables_history.specs.declared.history.History.{History}
@@ -36,7 +36,7 @@ module _ (moments : List Moment) (h : History) (p : AllProper moments h) (in_tim
   abbrev from_source : ℤ → ℕ × RrrRecord → Bool
   from_source t e = is_there (λ s. s.0) h.sources source_of t e
 
-  loose_at : (m : Moment) → has_dangling_rrr (register_at m.stamp h m.next) ≡ fails (also (also in_unit of_party) from_source) h.rrrs m.stamp
+  loose_at : (m : Moment) → has_dangling_rrr (register_of_history m.stamp h m.next) ≡ fails (also (also in_unit of_party) from_source) h.rrrs m.stamp
   loose_at m =
       failing_at m.stamp h.rrrs p.rrrs.apart (also (also in_unit of_party) from_source)
       (λ e. has (part_at m.stamp h.units) e.1.unit && has (part_at m.stamp h.parties) e.1.party && has (part_at m.stamp h.sources) e.1.source)

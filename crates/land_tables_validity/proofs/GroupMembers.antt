@@ -11,7 +11,7 @@ use Rattle.std.specs.List.{AllByRecursion, list_all, list_any}
 use Rattle.std.specs.Ordering.{eq_by_cmp, nat_cmp}
 use Rattle.land_core.proofs.FiniteMaps.{none_is_not_some}
 use Rattle.land_core.proofs.Reflection.{each_there}
-use Rattle.land_core.specs.Members.{Members, member_of}
+use Rattle.land_core.specs.Members.{Members, member_with_share}
 use Rattle.land_core.specs.Register.{has_group, has_single_party, is_single}
 use Rattle.land_core.specs.Soundness.{has_dangling_members}
 use Rattle.land_core.specs.declared.member.Member.{Member}
@@ -20,15 +20,15 @@ use Rattle.land_tables_history.proofs.Distinct.{distinct_standing}
 use Rattle.land_tables_history.proofs.MadeGroups.{made_groups}
 use Rattle.land_tables_history.proofs.NamingTests.{any_standing}
 use Rattle.land_tables_history.proofs.Proper.{AllProper, all_proper}
-use Rattle.land_tables_history.specs.Groups.{HaveMembers, group_members, groups_at, with_member, joined_members, members_of, with_members}
-use Rattle.land_tables_history.specs.History.{register_at}
+use Rattle.land_tables_history.specs.Groups.{HaveMembers, group_members, groups_at, with_member, joined_members, members_of_group, with_members}
+use Rattle.land_tables_history.specs.History.{register_of_history}
 use Rattle.land_tables_history.specs.Intervals.{AreApart, has_intervals, is_interval, is_same_member}
 use Rattle.land_tables_history.specs.Standing.{current_values, is_current}
 use Rattle.land_tables_history.specs.declared.group_member.GroupMember.{GroupMember}
 use Rattle.land_tables_history.specs.declared.history.History.{History}
 use Rattle.land_tables_history.specs.declared.moment.Moment.{Moment}
 use Rattle.land_tables_history.specs.declared.version.Version.{Version}
-use Rattle.land_tables_validity.specs.Members.{group_of, group_parties, group_spans, is_of_group, member_spans, party_of}
+use Rattle.land_tables_validity.specs.Members.{member_group, group_parties, group_spans, is_of_group, member_spans, party_of}
 use Rattle.land_tables_validity.specs.Never.{Never}
 use Rattle.land_tables_validity.specs.CoverageSpans.{are_in_range}
 use Rattle.land_tables_validity.specs.Roles.{single_parties}
@@ -55,7 +55,7 @@ have_more m e have q empty = go (eq_by_cmp nat_cmp q e.group) (sym (map.get-inse
     of_some a b is = cc
 
     go : (b : Bool) → cond b (Some (joined_members m e)) (map.get m q) ≡ Some map.empty → ⊥
-    go true is = some_there (members_of m e.group) e.member.party e.member.share (of_some (joined_members m e) map.empty is)
+    go true is = some_there (members_of_group m e.group) e.member.party e.member.share (of_some (joined_members m e) map.empty is)
     go false is = have q is
 
 have_all : (m : FinMap nat_cmp Members) (es : List GroupMember) → HaveMembers m → HaveMembers (with_members m es)
@@ -83,7 +83,7 @@ module _ (G S : ℕ → Bool) where
 
   -- the members of one group
   abbrev listed : ℕ → List (ℕ × Ratio) → List GroupMember
-  listed g es = map_list (λ (m : Member). record { group = g; member = m }) (map_list (λ e. member_of e.0 e.1) es)
+  listed g es = map_list (λ (m : Member). record { group = g; member = m }) (map_list (λ e. member_with_share e.0 e.1) es)
 
   one_is_there : (a : Bool) (e : ℕ × Ratio) (es : List (ℕ × Ratio))
       → (not a || list_any (λ s. not (S s.0)) (e ∷ es)) ≡ list_any (λ s. not (a && S s.0)) (e ∷ es)
@@ -124,21 +124,21 @@ module _ (G S : ℕ → Bool) where
 
 module _ (moments : List Moment) (h : History) (p : AllProper moments h) where
   -- a group of this number exists
-  group_at : (m : Moment) (n : ℕ) → has_group (register_at m.stamp h m.next) n ≡ stood_by (λ e. e.0) (group_parties h.parties) n m.stamp
+  group_at : (m : Moment) (n : ℕ) → has_group (register_of_history m.stamp h m.next) n ≡ stood_by (λ e. e.0) (group_parties h.parties) n m.stamp
   group_at m n = passes_at (λ party. not (is_single party.kind)) m.stamp h.parties p.parties.apart n
 
   groups_are_intervals : list_all (is_interval moments) (group_parties h.parties) ≡ true
   groups_are_intervals = intervals_among moments is_of_group h.parties p.parties.intervals
 
   abbrev is_group_there : ℤ → GroupMember → Bool
-  is_group_there = is_there (λ e. e.0) (group_parties h.parties) group_of
+  is_group_there = is_there (λ e. e.0) (group_parties h.parties) member_group
 
   abbrev is_party_there : ℤ → GroupMember → Bool
   is_party_there = is_there (λ e. e.0) (single_parties h.parties) party_of
 
-  loose_at : (m : Moment) → has_dangling_members (register_at m.stamp h m.next) ≡ fails (also is_group_there is_party_there) h.members m.stamp
+  loose_at : (m : Moment) → has_dangling_members (register_of_history m.stamp h m.next) ≡ fails (also is_group_there is_party_there) h.members m.stamp
   loose_at m =
-      let r = register_at m.stamp h m.next in
+      let r = register_of_history m.stamp h m.next in
       loose_groups (has_group r) (has_single_party r) m.stamp h.members p.members.apart
       ∙ any_alike (λ v. is_current m.stamp v && not (has_group r v.what.group && has_single_party r v.what.member.party))
       (λ v. is_current m.stamp v && not (also is_group_there is_party_there m.stamp v.what))
@@ -149,7 +149,7 @@ module _ (moments : List Moment) (h : History) (p : AllProper moments h) where
   refer in_time =
       let singles = singles_are_intervals moments h p in
       let ms = h.members in
-      let groups = covered_at_stamps (λ e. e.0) (group_parties h.parties) group_of moments in_time ms groups_are_intervals p.members.intervals in
+      let groups = covered_at_stamps (λ e. e.0) (group_parties h.parties) member_group moments in_time ms groups_are_intervals p.members.intervals in
       let parties = covered_at_stamps (λ e. e.0) (single_parties h.parties) party_of moments in_time ms singles p.members.intervals in
       let never = never_by has_dangling_members h (also is_group_there is_party_there) h.members loose_at moments in
       by_way_of (side_by_side groups parties) (by_way_of (both_pass is_group_there is_party_there h.members moments) never)
@@ -165,7 +165,7 @@ pub groups_begin : (moments : List Moment) (h : History) → has_intervals momen
     → list_all (λ x. int_lt x.since x.until) (group_spans h.parties h.members) ≡ true
 groups_begin moments h intervals =
     let p = all_proper moments h intervals in
-    pieces_begin moments (λ e. e.0) (group_parties h.parties) group_of h.members (groups_are_intervals moments h p) p.members.intervals
+    pieces_begin moments (λ e. e.0) (group_parties h.parties) member_group h.members (groups_are_intervals moments h p) p.members.intervals
 
 pub members_begin : (moments : List Moment) (h : History) → has_intervals moments h ≡ true
     → list_all (λ x. int_lt x.since x.until) (member_spans h.parties h.members) ≡ true

@@ -6,7 +6,7 @@ use Rattle.std.specs.List.{All, AllByRecursion}
 use Rattle.land_core.specs.Soundness.{IsSound, has_bare_unit, has_broken_group, has_clash, has_crowded_unit, has_dangling_grant, has_dangling_mandate, has_dangling_members, has_dangling_mutation, has_dangling_parcel, has_rank_out_of_range, has_dangling_rrr, has_reused_reference, has_unit_without_whole_shares, has_unused_number, exceeds_last_number}
 use Rattle.land_core.specs.declared.register.Register.{Register}
 use Rattle.land_core.specs.declared.soundness.Unsound.TheVariants.{Reference, Shares, Group, Bare, Crowded, Twice, Rank, Administrator, Reused, Memory}
-use Rattle.land_tables_history.specs.History.{namings_of, register_at}
+use Rattle.land_tables_history.specs.History.{namings_of, register_of_history}
 use Rattle.land_tables_history.specs.ValidHistory.{IsValidHistory, IsValidAt, are_moments, are_same_namings}
 use Rattle.land_tables_history.specs.Standing.{current_values}
 use Rattle.land_tables_history.specs.declared.history.History.{History}
@@ -100,13 +100,13 @@ free r s =
 module _ (h : History) where
   -- one fault at no commit
   abbrev Free : (Register → Bool) → List Moment → Type 0
-  Free fault ms = AllByRecursion (λ m. fault (register_at m.stamp h m.next) ≡ false) ms
+  Free fault ms = AllByRecursion (λ m. fault (register_of_history m.stamp h m.next) ≡ false) ms
 
   never : (fault : Register → Bool) (ms : List Moment) → Free fault ms → Never fault ms h
-  never fault ms all = All-from_recursion (λ m. fault (register_at m.stamp h m.next) ≡ false) ms all
+  never fault ms all = All-from_recursion (λ m. fault (register_of_history m.stamp h m.next) ≡ false) ms all
 
   from_never : (fault : Register → Bool) (ms : List Moment) → Never fault ms h → Free fault ms
-  from_never fault ms all = recursion_from_All (λ m. fault (register_at m.stamp h m.next) ≡ false) ms all
+  from_never fault ms all = recursion_from_All (λ m. fault (register_of_history m.stamp h m.next) ≡ false) ms all
 
   record AllFree (ms : List Moment) : Type 0 where
     past : Free exceeds_last_number ms
@@ -127,9 +127,9 @@ module _ (h : History) where
     references : Free has_reused_reference ms
 
   abbrev Named : Moment → Type 0
-  Named m = are_same_namings (current_values m.stamp h.namings) (namings_of (register_at m.stamp h m.next).mutations) ≡ true
+  Named m = are_same_namings (current_values m.stamp h.namings) (namings_of (register_of_history m.stamp h m.next).mutations) ≡ true
 
-  first_free : (m : Moment) (ms : List Moment) → AllFree (m ∷ ms) → IsFree (register_at m.stamp h m.next)
+  first_free : (m : Moment) (ms : List Moment) → AllFree (m ∷ ms) → IsFree (register_of_history m.stamp h m.next)
   first_free m ms f = record {
     past = f.past.0;
     unused = f.unused.0;
@@ -169,7 +169,7 @@ module _ (h : History) where
     references = f.references.1;
   }
 
-  more_free : (m : Moment) (ms : List Moment) → IsFree (register_at m.stamp h m.next) → AllFree ms → AllFree (m ∷ ms)
+  more_free : (m : Moment) (ms : List Moment) → IsFree (register_of_history m.stamp h m.next) → AllFree ms → AllFree (m ∷ ms)
   more_free m ms f g = record {
     past = (f.past, g.past);
     unused = (f.unused, g.unused);
@@ -191,7 +191,7 @@ module _ (h : History) where
 
   each_lawful : (ms : List Moment) → AllFree ms → AllByRecursion Named ms → AllByRecursion (IsValidAt h) ms
   each_lawful [] f n = tt
-  each_lawful (m ∷ ms) f n = (record { sound = sound (register_at m.stamp h m.next) (first_free m ms f); named = n.0 }, each_lawful ms (rest_free m ms f) n.1)
+  each_lawful (m ∷ ms) f n = (record { sound = sound (register_of_history m.stamp h m.next) (first_free m ms f); named = n.0 }, each_lawful ms (rest_free m ms f) n.1)
 
   none_yet : AllFree []
   none_yet = record {
@@ -217,7 +217,7 @@ module _ (h : History) where
   each_free [] l = (none_yet, tt)
   each_free (m ∷ ms) l =
       let rest = each_free ms l.1 in
-      (more_free m ms (free (register_at m.stamp h m.next) l.0.sound) rest.0, (l.0.named, rest.1))
+      (more_free m ms (free (register_of_history m.stamp h m.next) l.0.sound) rest.0, (l.0.named, rest.1))
 
   module _ (ms : List Moment) where
     -- the five parts together state that each register is sound and its rows of `names` are the references of

@@ -24,7 +24,7 @@ use Rattle.land_tables_history.specs.declared.version.Version.{Version}
 use Rattle.land_tables_validity.proofs.Covers.{nonempty}
 use Rattle.land_tables_validity.proofs.PairsApart.{never_pair}
 use Rattle.land_tables_validity.proofs.VersionsApart.{apart_is_distinct, eq_then}
-use Rattle.land_tables_validity.specs.Lodgings.{lodging_span, lodging_of, owned_span}
+use Rattle.land_tables_validity.specs.Lodgings.{lodging_span, lodging_key, owned_span}
 use Rattle.land_tables_validity.specs.Never.{Never}
 use Rattle.land_tables_history.specs.Sweeps.Apart.{are_apart, overlap as overlap_by}
 use Rattle.land_tables_history.specs.declared.sweeps.apart.Span.{Span}
@@ -39,7 +39,7 @@ lodging_cmp a b = ordering_then (nat_cmp a.0 b.0) (slice_cmp nat_cmp a.1 b.1)
 abbrev pub lent_cmp : ℕ × Bor (List ℕ) → ℕ × Bor (List ℕ) → Ordering
 lent_cmp a b = ordering_then (nat_cmp a.0 b.0) (slice_cmp nat_cmp a.1.now b.1.now)
 
-by_lodgings : (a b : MutationRecord) → eq_by_cmp lodging_cmp (lodging_of a) (lodging_of b) ≡ have_same_reference a b
+by_lodgings : (a b : MutationRecord) → eq_by_cmp lodging_cmp (lodging_key a) (lodging_key b) ≡ have_same_reference a b
 by_lodgings a b =
     eq_then (nat_cmp a.lodger b.lodger) (slice_cmp nat_cmp a.reference b.reference)
     ∙ ap₂ (λ x y. x && y) (same_numbers a.lodger b.lodger) (is_eq-slice_cmp a.reference b.reference)

@@ -10,7 +10,7 @@ use Rattle.land_tables_history.proofs.Distinct.{distinct_standing}
 use Rattle.land_tables_history.proofs.Entered.{made_mandates}
 use Rattle.land_tables_history.proofs.NamingTests.{any_standing}
 use Rattle.land_tables_history.proofs.Proper.{AllProper, all_proper}
-use Rattle.land_tables_history.specs.History.{register_at}
+use Rattle.land_tables_history.specs.History.{register_of_history}
 use Rattle.land_tables_history.specs.Intervals.{AreApart, has_intervals, is_same_mandate}
 use Rattle.land_tables_history.specs.Standing.{mandates_at, current_values, is_current}
 use Rattle.land_tables_history.specs.Sweeps.Cover.{IsCovered}
@@ -59,10 +59,10 @@ module _ (moments : List Moment) (h : History) (p : AllProper moments h) (in_tim
   abbrev of_others : ℤ → Mandate → Bool
   of_others t m = alone is_of_others t m
 
-  loose_at : (at : Moment) → has_dangling_mandate (register_at at.stamp h at.next) ≡ fails (also (also of_principal of_agent) of_others) h.mandates at.stamp
+  loose_at : (at : Moment) → has_dangling_mandate (register_of_history at.stamp h at.next) ≡ fails (also (also of_principal of_agent) of_others) h.mandates at.stamp
   loose_at at =
-      some_mandate (λ m. is_dangling_mandate (register_at at.stamp h at.next) m) at.stamp h.mandates p.mandates.apart
-      ∙ any_alike (λ v. is_current at.stamp v && is_dangling_mandate (register_at at.stamp h at.next) v.what)
+      some_mandate (λ m. is_dangling_mandate (register_of_history at.stamp h at.next) m) at.stamp h.mandates p.mandates.apart
+      ∙ any_alike (λ v. is_current at.stamp v && is_dangling_mandate (register_of_history at.stamp h at.next) v.what)
       (λ v. is_current at.stamp v && not (also (also of_principal of_agent) of_others at.stamp v.what))
       (λ v. ap₂ (λ a b. is_current at.stamp v && not (a && b && is_of_others v.what)) (single_at moments h p at v.what.principal) (single_at moments h p at v.what.agent))
       h.mandates

@@ -7,7 +7,7 @@ use Rattle.land_core.specs.Entries.{has}
 use Rattle.land_core.specs.Soundness.{has_dangling_mutation}
 use Rattle.land_core.specs.declared.mutation.MutationRecord.{MutationRecord}
 use Rattle.land_tables_history.proofs.Proper.{AllProper, all_proper}
-use Rattle.land_tables_history.specs.History.{register_at}
+use Rattle.land_tables_history.specs.History.{register_of_history}
 use Rattle.land_tables_history.specs.Intervals.{has_intervals}
 use Rattle.land_tables_history.specs.Standing.{part_at}
 use Rattle.land_tables_history.specs.declared.history.History.{History}
@@ -35,7 +35,7 @@ module _ (moments : List Moment) (h : History) (p : AllProper moments h) (in_tim
   abbrev within_limits : ℤ → ℕ × MutationRecord → Bool
   within_limits t e = alone (λ (e : ℕ × MutationRecord). is_well_formed_content e.1.content) t e
 
-  loose_at : (m : Moment) → has_dangling_mutation (register_at m.stamp h m.next)
+  loose_at : (m : Moment) → has_dangling_mutation (register_of_history m.stamp h m.next)
       ≡ fails (also (also by_lodger from_source) within_limits) h.mutations m.stamp
   loose_at m =
       failing_at m.stamp h.mutations p.mutations.apart (also (also by_lodger from_source) within_limits)

@@ -10,9 +10,9 @@ use Rattle.std.proofs.lemmas.Cmp.{nat_eq_equiv}
 use Rattle.land_core.specs.declared.mutation.MutationRecord.{MutationRecord}
 use Rattle.land_tables_history.proofs.NamingTests.{any_standing, named_by}
 use Rattle.land_tables_history.proofs.Proper.{AllProper, all_proper}
-use Rattle.land_tables_history.specs.History.{named_units, namings_of, register_at}
+use Rattle.land_tables_history.specs.History.{named_units, namings_of, register_of_history}
 use Rattle.land_tables_history.specs.Intervals.{AreApart, has_intervals, is_same_naming, is_same_number}
-use Rattle.land_tables_history.specs.ValidHistory.{are_same_namings, is_among}
+use Rattle.land_tables_history.specs.ValidHistory.{are_same_namings, is_naming_among}
 use Rattle.land_tables_history.specs.Standing.{part_at, current_values, is_current}
 use Rattle.land_tables_history.specs.declared.history.History.{History}
 use Rattle.land_tables_history.specs.declared.moment.Moment.{Moment}
@@ -39,23 +39,23 @@ same_naming key n h =
 naming_itself : (n : Naming) → is_same_naming n n ≡ true
 naming_itself n = and_from (n.mutation == n.mutation) (n.unit == n.unit) (nat_eq_equiv.refl n.mutation) (nat_eq_equiv.refl n.unit)
 
-among_too : (xs ys : List Naming) → list_all (is_among ys) xs ≡ true
-    → (key : ℕ × ℕ) → is_among xs (naming_of key) ≡ true → is_among ys (naming_of key) ≡ true
+among_too : (xs ys : List Naming) → list_all (is_naming_among ys) xs ≡ true
+    → (key : ℕ × ℕ) → is_naming_among xs (naming_of key) ≡ true → is_naming_among ys (naming_of key) ≡ true
 among_too [] ys h key s = absurd (false≢true s)
 among_too (x ∷ xs) ys h key s =
-    let parts = and_parts (is_among ys x) (list_all (is_among ys) xs) h in
-    elim (or_cases (is_same_naming (naming_of key) x) (is_among xs (naming_of key)) s) [
-      | inl here ↦ subst (λ (n : Naming). is_among ys n ≡ true) (sym (same_naming key x here)) parts.0
+    let parts = and_parts (is_naming_among ys x) (list_all (is_naming_among ys) xs) h in
+    elim (or_cases (is_same_naming (naming_of key) x) (is_naming_among xs (naming_of key)) s) [
+      | inl here ↦ subst (λ (n : Naming). is_naming_among ys n ≡ true) (sym (same_naming key x here)) parts.0
       | inr later ↦ among_too xs ys parts.1 key later
     ]
 
-all_among : (xs ys : List Naming) → ((key : ℕ × ℕ) → is_among xs (naming_of key) ≡ true → is_among ys (naming_of key) ≡ true)
-    → list_all (is_among ys) xs ≡ true
+all_among : (xs ys : List Naming) → ((key : ℕ × ℕ) → is_naming_among xs (naming_of key) ≡ true → is_naming_among ys (naming_of key) ≡ true)
+    → list_all (is_naming_among ys) xs ≡ true
 all_among [] ys h = refl
 all_among (x ∷ xs) ys h =
-    and_from (is_among ys x) (list_all (is_among ys) xs)
-    (h (x.mutation, x.unit) (or_left (is_same_naming x x) (is_among xs x) (naming_itself x)))
-    (all_among xs ys (λ key s. h key (or_right (is_same_naming (naming_of key) x) (is_among xs (naming_of key)) s)))
+    and_from (is_naming_among ys x) (list_all (is_naming_among ys) xs)
+    (h (x.mutation, x.unit) (or_left (is_same_naming x x) (is_naming_among xs x) (naming_itself x)))
+    (all_among xs ys (λ key s. h key (or_right (is_same_naming (naming_of key) x) (is_naming_among xs (naming_of key)) s)))
 
 -- ---- current values under a mutation and a unit
 
@@ -70,7 +70,7 @@ or_nothing true = refl
 or_nothing false = refl
 
 namings_under : (t : ℤ) (vs : List (Version Naming)) (key : ℕ × ℕ)
-    → is_among (current_values t vs) (naming_of key) ≡ stood (has_key naming_pair key) vs t
+    → is_naming_among (current_values t vs) (naming_of key) ≡ stood (has_key naming_pair key) vs t
 namings_under t vs key =
     sym (any_standing t (is_same_naming (naming_of key)) vs)
     ∙ any_alike (λ v. is_current t v && is_same_naming (naming_of key) v.what) (λ v. is_current t v && has_key naming_pair key v.what)
@@ -84,7 +84,7 @@ units_under key mutation [] = refl
 units_under key mutation (u ∷ us) = ap₂ (λ b c. b || c) (as_key key.0 mutation key.1 u) (units_under key mutation us)
 
 mutations_under : (t : ℤ) (vs : List (Version (ℕ × MutationRecord))) → AreApart is_same_number vs → (key : ℕ × ℕ)
-    → is_among (namings_of (part_at t vs)) (naming_of key) ≡ stood (has_key named_pairs key) vs t
+    → is_naming_among (namings_of (part_at t vs)) (naming_of key) ≡ stood (has_key named_pairs key) vs t
 mutations_under t vs apart key =
     any_flat (is_same_naming (naming_of key)) named_by (map.entries (part_at t vs))
     ∙ some_by (λ e. list_any (is_same_naming (naming_of key)) (named_by e)) t vs apart
@@ -103,7 +103,7 @@ module _ (moments : List Moment) (h : History) (p : AllProper moments h) (in_tim
   AreListed m = AreAmong naming_pair h.namings named_pairs h.mutations m.stamp
 
   abbrev is_same_at : Moment → Bool
-  is_same_at m = are_same_namings (current_values m.stamp h.namings) (namings_of (register_at m.stamp h m.next).mutations)
+  is_same_at m = are_same_namings (current_values m.stamp h.namings) (namings_of (register_of_history m.stamp h m.next).mutations)
 
   same_at : (m : Moment) → (AreTold m × AreListed m) ↔ (is_same_at m ≡ true)
   same_at m =
@@ -111,11 +111,11 @@ module _ (moments : List Moment) (h : History) (p : AllProper moments h) (in_tim
       let named = namings_of (part_at m.stamp h.mutations) in
       let of_naming = namings_under m.stamp h.namings in
       let of_mutation = mutations_under m.stamp h.mutations p.mutations.apart in (
-        λ h. and_from (list_all (is_among named) there) (list_all (is_among there) named)
+        λ h. and_from (list_all (is_naming_among named) there) (list_all (is_naming_among there) named)
             (all_among there named (λ key s. of_mutation key ∙ h.0 key (sym (of_naming key) ∙ s)))
             (all_among named there (λ key s. of_naming key ∙ h.1 key (sym (of_mutation key) ∙ s))),
         λ same.
-            let parts = and_parts (list_all (is_among named) there) (list_all (is_among there) named) same in (
+            let parts = and_parts (list_all (is_naming_among named) there) (list_all (is_naming_among there) named) same in (
               λ key s. sym (of_mutation key) ∙ among_too there named parts.0 key (of_naming key ∙ s),
               λ key s. sym (of_naming key) ∙ among_too named there parts.1 key (of_mutation key ∙ s),
             ),

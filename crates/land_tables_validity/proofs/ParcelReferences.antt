@@ -5,7 +5,7 @@ use Rattle.land_core.specs.Entries.{has}
 use Rattle.land_core.specs.Soundness.{has_dangling_parcel}
 use Rattle.land_core.specs.declared.parcel.ParcelRecord.{ParcelRecord}
 use Rattle.land_tables_history.proofs.Proper.{AllProper, all_proper}
-use Rattle.land_tables_history.specs.History.{register_at}
+use Rattle.land_tables_history.specs.History.{register_of_history}
 use Rattle.land_tables_history.specs.Intervals.{has_intervals}
 use Rattle.land_tables_history.specs.Standing.{part_at}
 use Rattle.land_tables_history.specs.declared.history.History.{History}
@@ -30,7 +30,7 @@ module _ (moments : List Moment) (h : History) (p : AllProper moments h) (in_tim
   abbrev from_source : ℤ → ℕ × ParcelRecord → Bool
   from_source t e = is_there (λ s. s.0) h.sources source_of t e
 
-  loose_at : (m : Moment) → has_dangling_parcel (register_at m.stamp h m.next) ≡ fails (also in_unit from_source) h.parcels m.stamp
+  loose_at : (m : Moment) → has_dangling_parcel (register_of_history m.stamp h m.next) ≡ fails (also in_unit from_source) h.parcels m.stamp
   loose_at m =
       failing_at m.stamp h.parcels p.parcels.apart (also in_unit from_source)
       (λ e. has (part_at m.stamp h.units) e.1.unit && has (part_at m.stamp h.sources) e.1.source)

@@ -9,7 +9,7 @@ use Rattle.std.specs.FinMap as map
 use Rattle.std.specs.List.{AllByRecursion, list_all, list_any}
 use Rattle.std.proofs.lemmas.Cmp.{nat_eq_equiv}
 use Rattle.land_core.specs.declared.register.Register.{Register}
-use Rattle.land_tables_history.specs.History.{register_at}
+use Rattle.land_tables_history.specs.History.{register_of_history}
 use Rattle.land_tables_history.specs.Intervals.{AreApart, is_interval, is_same_number}
 use Rattle.land_tables_history.specs.Standing.{part_at, is_current}
 use Rattle.land_tables_history.specs.declared.history.History.{History}
@@ -44,18 +44,18 @@ failing_at t vs apart test p same =
     (λ v. ap (λ b. is_current t v && not b) (same v.what)) vs
 
 pub never_by : (fault : Register → Bool) (h : History) {Y : Type 0} (test : ℤ → Y → Bool) (ys : List (Version Y))
-    → ((m : Moment) → fault (register_at m.stamp h m.next) ≡ fails test ys m.stamp)
+    → ((m : Moment) → fault (register_of_history m.stamp h m.next) ≡ fails test ys m.stamp)
     → (moments : List Moment) → NeverFails test ys moments ↔ Never fault moments h
 never_by fault h test ys same moments = (
-  λ never. All-from_recursion (λ m. fault (register_at m.stamp h m.next) ≡ false) moments (there moments never),
-  λ all. back moments (recursion_from_All (λ m. fault (register_at m.stamp h m.next) ≡ false) moments all),
+  λ never. All-from_recursion (λ m. fault (register_of_history m.stamp h m.next) ≡ false) moments (there moments never),
+  λ all. back moments (recursion_from_All (λ m. fault (register_of_history m.stamp h m.next) ≡ false) moments all),
 )
   where
-    there : (ms : List Moment) → NeverFails test ys ms → AllByRecursion (λ m. fault (register_at m.stamp h m.next) ≡ false) ms
+    there : (ms : List Moment) → NeverFails test ys ms → AllByRecursion (λ m. fault (register_of_history m.stamp h m.next) ≡ false) ms
     there [] never = tt
     there (m ∷ ms) never = (same m ∙ never.0, there ms never.1)
 
-    back : (ms : List Moment) → AllByRecursion (λ m. fault (register_at m.stamp h m.next) ≡ false) ms → NeverFails test ys ms
+    back : (ms : List Moment) → AllByRecursion (λ m. fault (register_of_history m.stamp h m.next) ≡ false) ms → NeverFails test ys ms
     back [] all = tt
     back (m ∷ ms) all = (sym (same m) ∙ all.0, back ms all.1)
 

@@ -11,7 +11,7 @@ use Rattle.land_tables_history.proofs.Distinct.{distinct_standing}
 use Rattle.land_tables_history.proofs.Entered.{made_roles}
 use Rattle.land_tables_history.proofs.NamingTests.{any_standing}
 use Rattle.land_tables_history.proofs.Proper.{AllProper, all_proper}
-use Rattle.land_tables_history.specs.History.{register_at}
+use Rattle.land_tables_history.specs.History.{register_of_history}
 use Rattle.land_tables_history.specs.Intervals.{AreApart, has_intervals, is_interval, is_same_grant}
 use Rattle.land_tables_history.specs.Standing.{roles_at, current_values, is_current}
 use Rattle.land_tables_history.specs.declared.history.History.{History}
@@ -44,7 +44,7 @@ role_pieces h = coverage_spans (λ e. e.0) (single_parties h.parties) holder_of 
 module _ (moments : List Moment) (h : History) (p : AllProper moments h) where
   -- a single party of this number exists
   pub single_at : (m : Moment) (n : ℕ)
-      → has_single_party (register_at m.stamp h m.next) n ≡ stood_by (λ e. e.0) (single_parties h.parties) n m.stamp
+      → has_single_party (register_of_history m.stamp h m.next) n ≡ stood_by (λ e. e.0) (single_parties h.parties) n m.stamp
   single_at m n = passes_at (λ party. is_single party.kind) m.stamp h.parties p.parties.apart n
 
   pub singles_are_intervals : list_all (is_interval moments) (single_parties h.parties) ≡ true
@@ -53,10 +53,10 @@ module _ (moments : List Moment) (h : History) (p : AllProper moments h) where
   abbrev is_single_there : ℤ → Grant → Bool
   is_single_there = is_there (λ e. e.0) (single_parties h.parties) holder_of
 
-  loose_at : (m : Moment) → has_dangling_grant (register_at m.stamp h m.next) ≡ fails is_single_there h.roles m.stamp
+  loose_at : (m : Moment) → has_dangling_grant (register_of_history m.stamp h m.next) ≡ fails is_single_there h.roles m.stamp
   loose_at m =
-      some_role (λ grant. not (has_single_party (register_at m.stamp h m.next) grant.party)) m.stamp h.roles p.roles.apart
-      ∙ any_alike (λ v. is_current m.stamp v && not (has_single_party (register_at m.stamp h m.next) v.what.party))
+      some_role (λ grant. not (has_single_party (register_of_history m.stamp h m.next) grant.party)) m.stamp h.roles p.roles.apart
+      ∙ any_alike (λ v. is_current m.stamp v && not (has_single_party (register_of_history m.stamp h m.next) v.what.party))
       (λ v. is_current m.stamp v && not (is_single_there m.stamp v.what))
       (λ v. ap (λ b. is_current m.stamp v && not b) (single_at m v.what.party)) h.roles
 

@@ -13,7 +13,7 @@ use Rattle.land_core.specs.ByUnit.{items_of_unit}
 use Rattle.land_core.specs.declared.register.Register.{Register}
 use Rattle.land_tables_history.proofs.Distinct.{distinct_standing}
 use Rattle.land_tables_history.proofs.Entered.{made_part}
-use Rattle.land_tables_history.specs.History.{register_at}
+use Rattle.land_tables_history.specs.History.{register_of_history}
 use Rattle.land_tables_history.specs.Intervals.{AreApart, is_interval, is_same_number}
 use Rattle.land_tables_history.specs.Standing.{part_at, current_values, is_current}
 use Rattle.land_tables_history.specs.declared.history.History.{History}
@@ -206,7 +206,7 @@ module _ {V : Type 0} (c : V → Bool) (W : ℕ → Bool) where
 module _ {T V : Type 0} (moments : List Moment) (h : History) (fault : Register → Bool) (live_spans : List (LiveSpan T))
     (set_entries : T → Bool) (test : List T → Bool) (vs : List (Version (ℕ × V))) (c : V → Bool) (W : Register → ℕ → Bool) where
   abbrev register_of : Moment → Register
-  register_of m = register_at m.stamp h m.next
+  register_of m = register_of_history m.stamp h m.next
 
   -- The fault is that a marked record fails a test of its number. It is marked if one of the current values
   -- is, and passes if they do.

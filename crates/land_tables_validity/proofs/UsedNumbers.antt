@@ -16,7 +16,7 @@ use Rattle.land_core.specs.declared.register.Register.{Register}
 use Rattle.land_tables_history.proofs.NamingTests.{all_alike}
 use Rattle.land_tables_history.proofs.Permutations.{any_permuted}
 use Rattle.land_tables_history.proofs.Proper.{Proper, all_proper}
-use Rattle.land_tables_history.specs.History.{register_at}
+use Rattle.land_tables_history.specs.History.{register_of_history}
 use Rattle.land_tables_history.specs.Intervals.{has_intervals, is_interval, is_same_number, is_stamp}
 use Rattle.land_tables_history.specs.ValidHistory.{are_moments}
 use Rattle.land_tables_history.specs.Standing.{part_at, is_current}
@@ -228,30 +228,30 @@ module _ (moments ms : List Moment) (p : IsPermutation moments ms) (up : all_go_
       (λ h. same.1 (law.0 h), λ h. law.1 (same.0 h))
 
   module _ (h : History) where
-    loose : (m : Moment) (o : Option ℕ) → is_rank_out_of_range (register_at m.stamp h m.next) o ≡ not (is_rank_in_range o m.next)
+    loose : (m : Moment) (o : Option ℕ) → is_rank_out_of_range (register_of_history m.stamp h m.next) o ≡ not (is_rank_in_range o m.next)
     loose m None = refl
     loose m (Some rank) = refl
 
     ranks : Proper is_same_number moments h.rrrs
-        → (list_all (passes_since has_rank_in_range ms) h.rrrs ≡ true) ↔ None_of (λ m. has_rank_out_of_range (register_at m.stamp h m.next)) ms
+        → (list_all (passes_since has_rank_in_range ms) h.rrrs ≡ true) ↔ None_of (λ m. has_rank_out_of_range (register_of_history m.stamp h m.next)) ms
     ranks proper =
         let law = since_and_at has_rank_in_range (λ e. rank_kept (rank_of e.1.class)) ms up h.rrrs
         (intervals_too moments ms p h.rrrs proper.intervals) in
-        let same = none_alike (λ m. has_rank_out_of_range (register_at m.stamp h m.next))
+        let same = none_alike (λ m. has_rank_out_of_range (register_of_history m.stamp h m.next))
         (λ m. list_any (fails has_rank_in_range (λ e. rank_kept (rank_of e.1.class)) ms m) h.rrrs)
-        (λ m. some_by (λ e. is_rank_out_of_range (register_at m.stamp h m.next) (rank_of e.1.class)) m.stamp h.rrrs proper.apart
-        ∙ any_alike (λ v. is_current m.stamp v && is_rank_out_of_range (register_at m.stamp h m.next) (rank_of v.what.1.class))
+        (λ m. some_by (λ e. is_rank_out_of_range (register_of_history m.stamp h m.next) (rank_of e.1.class)) m.stamp h.rrrs proper.apart
+        ∙ any_alike (λ v. is_current m.stamp v && is_rank_out_of_range (register_of_history m.stamp h m.next) (rank_of v.what.1.class))
         (λ v. is_current m.stamp v && not (has_rank_in_range v.what m.next))
         (λ v. ap (λ b. is_current m.stamp v && b) (loose m (rank_of v.what.1.class))) h.rrrs) ms in
         (λ h. same.1 (law.0 h), λ h. law.1 (same.0 h))
 
     -- at none of the sorted commits, and so at no commit
-    never : (fault : Register → Bool) → None_of (λ m. fault (register_at m.stamp h m.next)) ms ↔ Never fault moments h
+    never : (fault : Register → Bool) → None_of (λ m. fault (register_of_history m.stamp h m.next)) ms ↔ Never fault moments h
     never fault = (
-      λ none. All-permutation (λ m. fault (register_at m.stamp h m.next) ≡ false) ms moments (IsPermutation-sym moments ms p)
-          (All-from_recursion (λ m. fault (register_at m.stamp h m.next) ≡ false) ms none),
-      λ all. recursion_from_All (λ m. fault (register_at m.stamp h m.next) ≡ false) ms
-          (All-permutation (λ m. fault (register_at m.stamp h m.next) ≡ false) moments ms p all),
+      λ none. All-permutation (λ m. fault (register_of_history m.stamp h m.next) ≡ false) ms moments (IsPermutation-sym moments ms p)
+          (All-from_recursion (λ m. fault (register_of_history m.stamp h m.next) ≡ false) ms none),
+      λ all. recursion_from_All (λ m. fault (register_of_history m.stamp h m.next) ≡ false) ms
+          (All-permutation (λ m. fault (register_of_history m.stamp h m.next) ≡ false) moments ms p all),
     )
 
     -- the numbers of these versions are in range
@@ -264,7 +264,7 @@ module _ (moments ms : List Moment) (p : IsPermutation moments ms) (up : all_go_
     abbrev ranks_used : Bool
     ranks_used = list_all (passes_since has_rank_in_range ms) h.rrrs
 
-    all_numbers : has_intervals moments h ≡ true → (parts_used ≡ true) ↔ None_of (λ m. has_unused_number (register_at m.stamp h m.next)) ms
+    all_numbers : has_intervals moments h ≡ true → (parts_used ≡ true) ↔ None_of (λ m. has_unused_number (register_of_history m.stamp h m.next)) ms
     all_numbers intervals =
         let proper = all_proper moments h intervals in
         let two = joined _ _ _ _ ms (number_range h.parties proper.parties) (number_range h.units proper.units) in

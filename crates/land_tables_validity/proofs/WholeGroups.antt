@@ -14,7 +14,7 @@ use Rattle.std.proofs.lemmas.Bool.{and_from, and_parts, eqb-true}
 use Rattle.land_core.proofs.Booleans.{T_true, or_nothing}
 use Rattle.land_core.proofs.UnitLists.{filter_map-items_of_unit, list_any-items_of_unit}
 use Rattle.land_core.specs.ByUnit.{items_of_unit}
-use Rattle.land_core.specs.Members.{Members, are_group_shares, member_of, shares_in}
+use Rattle.land_core.specs.Members.{Members, are_group_shares, member_with_share, shares_in}
 use Rattle.land_core.specs.Register.{is_single, shares_of}
 use Rattle.land_core.specs.Soundness.{has_broken_group}
 use Rattle.land_core.specs.declared.member.Member.{Member}
@@ -25,7 +25,7 @@ use Rattle.land_tables_history.proofs.Distinct.{distinct_standing}
 use Rattle.land_tables_history.proofs.MadeGroups.{made_groups}
 use Rattle.land_tables_history.proofs.Proper.{AllProper, all_proper}
 use Rattle.land_tables_history.specs.Groups.{group_members, groups_at}
-use Rattle.land_tables_history.specs.History.{register_at}
+use Rattle.land_tables_history.specs.History.{register_of_history}
 use Rattle.land_tables_history.specs.Intervals.{has_intervals, is_interval, is_same_member}
 use Rattle.land_tables_history.specs.Standing.{current_values, is_current}
 use Rattle.land_tables_history.specs.declared.group_member.GroupMember.{GroupMember}
@@ -102,7 +102,7 @@ one_of group member = record { group = group; member = member }
 
 -- the members of a group, as a list
 abbrev listed_in : ℕ → List (ℕ × Ratio) → List GroupMember
-listed_in g es = map_list (one_of g) (map_list (λ (e : ℕ × Ratio). member_of e.0 e.1) es)
+listed_in g es = map_list (one_of g) (map_list (λ (e : ℕ × Ratio). member_with_share e.0 e.1) es)
 
 abbrev listed : ℕ × Members → List GroupMember
 listed g = listed_in g.0 (map.entries g.1)
@@ -209,7 +209,7 @@ is_whole_group r n = are_group_shares (shares_of r n)
 
 module _ (moments : List Moment) (h : History) (p : AllProper moments h) where
   abbrev register_of : Moment → Register
-  register_of m = register_at m.stamp h m.next
+  register_of m = register_of_history m.stamp h m.next
 
   abbrev members_at : Moment → List GroupMember
   members_at m = group_members (groups_at m.stamp h.members)

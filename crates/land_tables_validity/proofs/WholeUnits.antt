@@ -9,7 +9,7 @@ use Rattle.land_core.proofs.Pairs.{list_any_same}
 use Rattle.land_core.proofs.UnitLists.{filter_map-items_of_unit, filter_map_same, length-items_of_unit, list_any-items_of_unit}
 use Rattle.land_core.specs.ByUnit.{items_of_unit}
 use Rattle.land_core.specs.Soundness.{has_crowded_unit, has_unit_without_whole_shares}
-use Rattle.land_core.specs.Units.{are_whole_or_none, has_whole_shares, parcel_count, rrr_count, share_in, share_of, type_shares}
+use Rattle.land_core.specs.Units.{are_whole_or_none, has_whole_shares, parcel_count, rrr_count, share_in_unit, share_of, type_shares}
 use Rattle.land_core.specs.declared.parcel.ParcelRecord.{ParcelRecord}
 use Rattle.land_core.specs.declared.register.Register.{Register}
 use Rattle.land_core.specs.declared.rrr.Class.{Class}
@@ -21,13 +21,13 @@ use Rattle.land_core.specs.declared.unit.UnitRecord.{UnitRecord}
 use Rattle.land_tables_history.proofs.Distinct.{distinct_standing}
 use Rattle.land_tables_history.proofs.Entered.{made_part}
 use Rattle.land_tables_history.proofs.Proper.{AllProper, all_proper}
-use Rattle.land_tables_history.specs.History.{register_at}
+use Rattle.land_tables_history.specs.History.{register_of_history}
 use Rattle.land_tables_history.specs.Intervals.{has_intervals, is_same_number}
 use Rattle.land_tables_history.specs.Standing.{part_at, current_values}
 use Rattle.land_tables_history.specs.declared.history.History.{History}
 use Rattle.land_tables_history.specs.declared.moment.Moment.{Moment}
 use Rattle.land_tables_validity.specs.AnyOrder.{count_permuted, filter_map_permuted, whole_permuted}
-use Rattle.land_tables_validity.specs.Holdings.{are_few, are_shares_whole, is_unit_sound, class_holding, entry_spans, entry_holding, holdings_in, is_checked, is_entry, is_parcel, is_unit, parcel_holding, parcel_spans, holding_share, holding_shares, unit_holding, unit_spans}
+use Rattle.land_tables_validity.specs.Holdings.{are_few, are_shares_whole, is_unit_sound, class_holding, entry_spans, entry_holding, holdings_in, is_checked_unit, is_entry, is_parcel_holding, is_unit_holding, parcel_holding, parcel_spans, holding_share, holding_shares, unit_holding, unit_spans}
 use Rattle.land_tables_validity.specs.LiveSpan.{if_any_marked}
 use Rattle.land_tables_validity.specs.Never.{Never}
 use Rattle.land_tables_validity.specs.CoverageSpans.{are_in_range}
@@ -38,7 +38,7 @@ use Rattle.land_tables_history.specs.Sweeps.Sweep.{AreSound, values_under_key}
 
 -- ---- entries
 
-no_unit : (c : Class) → is_unit (class_holding c) ≡ false
+no_unit : (c : Class) → is_unit_holding (class_holding c) ≡ false
 no_unit (Right Ownership share) = refl
 no_unit (Right Lease share) = refl
 no_unit (Right Usufruct share) = refl
@@ -46,7 +46,7 @@ no_unit (Restriction words) = refl
 no_unit (Responsibility words) = refl
 no_unit (Mortgage amount currency rank) = refl
 
-not_checked : (c : Class) → is_checked (class_holding c) ≡ false
+not_checked : (c : Class) → is_checked_unit (class_holding c) ≡ false
 not_checked (Right Ownership share) = refl
 not_checked (Right Lease share) = refl
 not_checked (Right Usufruct share) = refl
@@ -54,7 +54,7 @@ not_checked (Restriction words) = refl
 not_checked (Responsibility words) = refl
 not_checked (Mortgage amount currency rank) = refl
 
-no_parcel : (c : Class) → is_parcel (class_holding c) ≡ false
+no_parcel : (c : Class) → is_parcel_holding (class_holding c) ≡ false
 no_parcel (Right Ownership share) = refl
 no_parcel (Right Lease share) = refl
 no_parcel (Right Usufruct share) = refl
@@ -149,13 +149,13 @@ module _ (h : History) (n : ℕ) (t : ℤ) where
       ∙ list_any-items_of_unit (λ e. e.0) unit_holding n p units
 
   -- only entries have shares
-  entry_shares : (type : RightType) → holding_shares type entries_there ≡ filter_map (λ e. share_in n type e.1) entries
+  entry_shares : (type : RightType) → holding_shares type entries_there ≡ filter_map (λ e. share_in_unit n type e.1) entries
   entry_shares type =
       filter_map-items_of_unit (λ e. e.1.unit) entry_holding n (holding_share type) entries
-      ∙ filter_map_same (λ (e : ℕ × RrrRecord). cond (nat_eq e.1.unit n) (holding_share type (entry_holding e)) None) (λ e. share_in n type e.1)
+      ∙ filter_map_same (λ (e : ℕ × RrrRecord). cond (nat_eq e.1.unit n) (holding_share type (entry_holding e)) None) (λ e. share_in_unit n type e.1)
       (λ e. ap (λ o. cond (nat_eq e.1.unit n) o None) (same_share type e.1.class)) entries
 
-  shares_there : (type : RightType) → holding_shares type (values_under_key (holdings_in h) n t) ≡ filter_map (λ e. share_in n type e.1) entries
+  shares_there : (type : RightType) → holding_shares type (values_under_key (holdings_in h) n t) ≡ filter_map (λ e. share_in_unit n type e.1) entries
   shares_there type =
       ap (holding_shares type) three_parts
       ∙ filter_map-append (holding_share type) (units_there ++ parcels_there) entries_there
@@ -174,12 +174,12 @@ module _ (h : History) (n : ℕ) (t : ℤ) where
   no_units_counted : (p : Holding → Bool) → ((e : ℕ × UnitRecord) → p (unit_holding e) ≡ false) → filter p units_there ≡ []
   no_units_counted p none = none_counted (λ e. e.0) unit_holding n p none units
 
-  parcels_counted : length (filter is_parcel (values_under_key (holdings_in h) n t)) ≡ length (filter (λ e. nat_eq e.1.unit n) parcels)
+  parcels_counted : length (filter is_parcel_holding (values_under_key (holdings_in h) n t)) ≡ length (filter (λ e. nat_eq e.1.unit n) parcels)
   parcels_counted =
-      ap length (counted_there is_parcel
-      ∙ ap₂ (λ a b. (a ++ b) ++ filter is_parcel entries_there) (no_units_counted is_parcel (λ e. refl))
-      (all_counted (λ e. e.1.unit) parcel_holding n is_parcel (λ e. refl) parcels)
-      ∙ ap (λ a. ([] ++ parcels_there) ++ a) (none_counted (λ e. e.1.unit) entry_holding n is_parcel (λ e. no_parcel e.1.class) entries)
+      ap length (counted_there is_parcel_holding
+      ∙ ap₂ (λ a b. (a ++ b) ++ filter is_parcel_holding entries_there) (no_units_counted is_parcel_holding (λ e. refl))
+      (all_counted (λ e. e.1.unit) parcel_holding n is_parcel_holding (λ e. refl) parcels)
+      ∙ ap (λ a. ([] ++ parcels_there) ++ a) (none_counted (λ e. e.1.unit) entry_holding n is_parcel_holding (λ e. no_parcel e.1.class) entries)
       ∙ and_nothing parcels_there)
       ∙ length-items_of_unit (λ e. e.1.unit) parcel_holding n parcels
 
@@ -202,7 +202,7 @@ twice false = refl
 
 module _ (moments : List Moment) (h : History) (p : AllProper moments h) where
   abbrev register_of : Moment → Register
-  register_of m = register_at m.stamp h m.next
+  register_of m = register_of_history m.stamp h m.next
 
   same_parcels : (t : ℤ) → IsPermutation (current_values t h.parcels) (map.entries (part_at t h.parcels))
   same_parcels t = made_part (current_values t h.parcels) (distinct_standing is_same_number t h.parcels p.parcels.apart)
@@ -211,18 +211,18 @@ module _ (moments : List Moment) (h : History) (p : AllProper moments h) where
   same_entries t = made_part (current_values t h.rrrs) (distinct_standing is_same_number t h.rrrs p.rrrs.apart)
 
   same_shares : (m : Moment) (n : ℕ) (type : RightType)
-      → IsPermutation (filter_map (λ e. share_in n type e.1) (current_values m.stamp h.rrrs)) (type_shares (register_of m) n type)
+      → IsPermutation (filter_map (λ e. share_in_unit n type e.1) (current_values m.stamp h.rrrs)) (type_shares (register_of m) n type)
   same_shares m n type =
-      filter_map_permuted (λ (e : ℕ × RrrRecord). share_in n type e.1) (current_values m.stamp h.rrrs) (map.entries (part_at m.stamp h.rrrs)) (same_entries m.stamp)
+      filter_map_permuted (λ (e : ℕ × RrrRecord). share_in_unit n type e.1) (current_values m.stamp h.rrrs) (map.entries (part_at m.stamp h.rrrs)) (same_entries m.stamp)
 
   type_whole : (m : Moment) (n : ℕ) (type : RightType)
       → are_whole_or_none (holding_shares type (values_under_key (holdings_in h) n m.stamp)) ≡ are_whole_or_none (type_shares (register_of m) n type)
   type_whole m n type =
-      let there = filter_map (λ (e : ℕ × RrrRecord). share_in n type e.1) (current_values m.stamp h.rrrs) in
+      let there = filter_map (λ (e : ℕ × RrrRecord). share_in_unit n type e.1) (current_values m.stamp h.rrrs) in
       ap are_whole_or_none (shares_there h n m.stamp type)
       ∙ whole_permuted there (type_shares (register_of m) n type) (same_shares m n type)
 
-  parcels_same : (m : Moment) (n : ℕ) → length (filter is_parcel (values_under_key (holdings_in h) n m.stamp)) ≡ parcel_count (register_of m) n
+  parcels_same : (m : Moment) (n : ℕ) → length (filter is_parcel_holding (values_under_key (holdings_in h) n m.stamp)) ≡ parcel_count (register_of m) n
   parcels_same m n =
       parcels_counted h n m.stamp
       ∙ count_permuted (λ e. nat_eq e.1.unit n) (current_values m.stamp h.parcels) (map.entries (part_at m.stamp h.parcels)) (same_parcels m.stamp)
@@ -232,20 +232,20 @@ module _ (moments : List Moment) (h : History) (p : AllProper moments h) where
       entries_counted h n m.stamp
       ∙ count_permuted (λ e. nat_eq e.1.unit n) (current_values m.stamp h.rrrs) (map.entries (part_at m.stamp h.rrrs)) (same_entries m.stamp)
 
-  shares_tied : Ties moments h has_unit_without_whole_shares (holdings_in h) is_checked are_shares_whole h.units (λ u. u.checked) has_whole_shares
+  shares_tied : Ties moments h has_unit_without_whole_shares (holdings_in h) is_checked_unit are_shares_whole h.units (λ u. u.checked) has_whole_shares
   shares_tied = record {
     faulty = λ m. some_standing (is_at_fault (λ u. u.checked) (has_whole_shares (register_of m))) m.stamp h.units p.units.apart;
-    marked = λ n t. marked_there h n t is_checked refl (λ e. not_checked e.1.class);
+    marked = λ n t. marked_there h n t is_checked_unit refl (λ e. not_checked e.1.class);
     tested = λ m n. ap₂ (λ a b. a && b) (ap₂ (λ a b. a && b) (type_whole m n Ownership) (type_whole m n Lease)) (type_whole m n Usufruct);
   }
 
-  crowded_tied : Ties moments h has_crowded_unit (holdings_in h) is_unit are_few h.units (λ u. true) is_uncrowded
+  crowded_tied : Ties moments h has_crowded_unit (holdings_in h) is_unit_holding are_few h.units (λ u. true) is_uncrowded
   crowded_tied = record {
     faulty = λ m.
         let is_crowded : ℕ × UnitRecord → Bool = λ e. nat_lt 256 (parcel_count (register_of m) e.0) || nat_lt 256 (rrr_count (register_of m) e.0) in
         some_standing is_crowded m.stamp h.units p.units.apart
         ∙ list_any_same is_crowded (is_at_fault (λ u. true) (is_uncrowded (register_of m))) (λ e. twice (is_crowded e)) (current_values m.stamp h.units);
-    marked = λ n t. marked_there h n t is_unit refl (λ e. no_unit e.1.class);
+    marked = λ n t. marked_there h n t is_unit_holding refl (λ e. no_unit e.1.class);
     tested = λ m n. ap₂ (λ a b. not (nat_lt 256 a || nat_lt 256 b)) (parcels_same m n) (entries_same m n);
   }
 
@@ -258,14 +258,14 @@ module _ (moments : List Moment) (h : History) (p : AllProper moments h) where
       (lives-append moments (unit_spans h.units) (parcel_spans h.parcels) units parcels) entries
 
   module _ (in_time : are_in_range moments ≡ true) where
-    whole : AreSound (if_any_marked is_checked are_shares_whole) (holdings_in h) ↔ Never has_unit_without_whole_shares moments h
+    whole : AreSound (if_any_marked is_checked_unit are_shares_whole) (holdings_in h) ↔ Never has_unit_without_whole_shares moments h
     whole =
-        never moments h has_unit_without_whole_shares (holdings_in h) is_checked are_shares_whole h.units (λ u. u.checked) has_whole_shares
+        never moments h has_unit_without_whole_shares (holdings_in h) is_checked_unit are_shares_whole h.units (λ u. u.checked) has_whole_shares
         shares_tied in_time holdings_live
 
-    few : AreSound (if_any_marked is_unit are_few) (holdings_in h) ↔ Never has_crowded_unit moments h
+    few : AreSound (if_any_marked is_unit_holding are_few) (holdings_in h) ↔ Never has_crowded_unit moments h
     few =
-        never moments h has_crowded_unit (holdings_in h) is_unit are_few h.units (λ u. true) is_uncrowded
+        never moments h has_crowded_unit (holdings_in h) is_unit_holding are_few h.units (λ u. true) is_uncrowded
         crowded_tied in_time holdings_live
 
 -- the current values of units are sound at each moment if and only if no register has a unit with invalid
@@ -275,6 +275,6 @@ pub units_are_whole : (moments : List Moment) (h : History) → has_intervals mo
 units_are_whole moments h intervals in_time =
     let p = all_proper moments h intervals in
     let both =
-    both_sound (if_any_marked is_unit are_few) (if_any_marked is_checked are_shares_whole) (holdings_in h)
+    both_sound (if_any_marked is_unit_holding are_few) (if_any_marked is_checked_unit are_shares_whole) (holdings_in h)
     (few moments h p in_time) (whole moments h p in_time) in
     (λ sound. let it = both.0 sound in (it.1, it.0), λ it. both.1 (it.1, it.0))

@@ -15,8 +15,9 @@ use Rattle.land_fraction.proofs.Moves.{wholeness-permuted}
 use Rattle.land_fraction.specs.Ratio.{Ratio}
 use Rattle.land_fraction.specs.Wholeness.{wholeness}
 use Rattle.land_tables_history.proofs.Permutations.{along_permutation, filter_permuted}
-use Rattle.land_tables_validity.specs.Holdings.{are_few, are_shares_whole, is_unit_sound, is_checked}
-use Rattle.land_tables_validity.specs.Holdings.{is_entry, is_parcel, is_unit, holding_share, holding_shares}
+use Rattle.land_tables_validity.specs.Holdings.{are_few, are_shares_whole, is_unit_sound, is_checked_unit}
+use Rattle.land_tables_validity.specs.Holdings.{is_entry, is_parcel_holding, is_unit_holding, holding_share}
+use Rattle.land_tables_validity.specs.Holdings.{holding_shares}
 use Rattle.land_tables_validity.specs.LiveSpan.{if_any_marked}
 use Rattle.land_tables_validity.specs.Memberships.{are_members_sound, are_members_whole, is_group}
 use Rattle.land_tables_validity.specs.Memberships.{member_share, member_shares}
@@ -94,15 +95,15 @@ all_shares_permuted xs ys p =
 
 few_permuted : (xs ys : List Holding) → IsPermutation xs ys → are_few xs ≡ are_few ys
 few_permuted xs ys p =
-    ap₂ (λ m n. not (nat_lt 256 m || nat_lt 256 n)) (count_permuted is_parcel xs ys p)
+    ap₂ (λ m n. not (nat_lt 256 m || nat_lt 256 n)) (count_permuted is_parcel_holding xs ys p)
     (count_permuted is_entry xs ys p)
 
 pub sound_in_any_order : (xs ys : List Holding) → IsPermutation xs ys
     → is_unit_sound xs ≡ is_unit_sound ys
 sound_in_any_order xs ys p =
     ap₂ (λ a b. a && b)
-    (marked_permuted is_unit are_few xs ys (few_permuted xs ys p) p)
-    (marked_permuted is_checked are_shares_whole xs ys (all_shares_permuted xs ys p) p)
+    (marked_permuted is_unit_holding are_few xs ys (few_permuted xs ys p) p)
+    (marked_permuted is_checked_unit are_shares_whole xs ys (all_shares_permuted xs ys p) p)
 
 -- ---- values of a group
 

@@ -7,8 +7,8 @@ use Rattle.land_core.specs.declared.rrr.RrrRecord.{RrrRecord}
 use Rattle.land_tables_history.specs.declared.version.Version.{Version}
 
 -- the number of a record
-abbrev pub number_of : {V : Type 0} → ℕ × V → ℕ
-number_of e = e.0
+abbrev pub record_number : {V : Type 0} → ℕ × V → ℕ
+record_number e = e.0
 
 -- the unit of a parcel
 abbrev pub parcel_unit : ℕ × ParcelRecord → ℕ

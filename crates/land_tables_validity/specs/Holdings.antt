@@ -62,31 +62,31 @@ holdings_in h = (unit_spans h.units ++ parcel_spans h.parcels) ++ entry_spans h.
 -- ---- the kinds of values
 
 -- the unit itself
-abbrev pub is_unit : Holding → Bool
-is_unit (held.Unit checked) = true
-is_unit held.Parcel = false
-is_unit (held.Ownership share) = false
-is_unit (held.Lease share) = false
-is_unit (held.Usufruct share) = false
-is_unit held.Other = false
+abbrev pub is_unit_holding : Holding → Bool
+is_unit_holding (held.Unit checked) = true
+is_unit_holding held.Parcel = false
+is_unit_holding (held.Ownership share) = false
+is_unit_holding (held.Lease share) = false
+is_unit_holding (held.Usufruct share) = false
+is_unit_holding held.Other = false
 
 -- the unit itself, if it is checked
-abbrev pub is_checked : Holding → Bool
-is_checked (held.Unit checked) = checked
-is_checked held.Parcel = false
-is_checked (held.Ownership share) = false
-is_checked (held.Lease share) = false
-is_checked (held.Usufruct share) = false
-is_checked held.Other = false
+abbrev pub is_checked_unit : Holding → Bool
+is_checked_unit (held.Unit checked) = checked
+is_checked_unit held.Parcel = false
+is_checked_unit (held.Ownership share) = false
+is_checked_unit (held.Lease share) = false
+is_checked_unit (held.Usufruct share) = false
+is_checked_unit held.Other = false
 
 -- a parcel of the unit
-abbrev pub is_parcel : Holding → Bool
-is_parcel (held.Unit checked) = false
-is_parcel held.Parcel = true
-is_parcel (held.Ownership share) = false
-is_parcel (held.Lease share) = false
-is_parcel (held.Usufruct share) = false
-is_parcel held.Other = false
+abbrev pub is_parcel_holding : Holding → Bool
+is_parcel_holding (held.Unit checked) = false
+is_parcel_holding held.Parcel = true
+is_parcel_holding (held.Ownership share) = false
+is_parcel_holding (held.Lease share) = false
+is_parcel_holding (held.Usufruct share) = false
+is_parcel_holding held.Other = false
 
 -- an entry of the unit: a right or another one
 abbrev pub is_entry : Holding → Bool
@@ -119,8 +119,10 @@ are_shares_whole xs =
 
 -- at most 256 parcels, and at most 256 entries
 abbrev pub are_few : List Holding → Bool
-are_few xs = not (nat_lt 256 (length (filter is_parcel xs)) || nat_lt 256 (length (filter is_entry xs)))
+are_few xs =
+    not (nat_lt 256 (length (filter is_parcel_holding xs)) || nat_lt 256 (length (filter is_entry xs)))
 
 -- in a checked unit the shares sum to one, and each unit is within limits
 abbrev pub is_unit_sound : List Holding → Bool
-is_unit_sound xs = if_any_marked is_unit are_few xs && if_any_marked is_checked are_shares_whole xs
+is_unit_sound xs =
+    if_any_marked is_unit_holding are_few xs && if_any_marked is_checked_unit are_shares_whole xs

@@ -16,15 +16,15 @@ abbrev pub group_parties : List (Version (ℕ × PartyRecord)) → List (Version
 group_parties parties = filter is_of_group parties
 
 -- the group of a member, and the party that is the member
-abbrev pub group_of : GroupMember → ℕ
-group_of member = member.group
+abbrev pub member_group : GroupMember → ℕ
+member_group member = member.group
 
 abbrev pub party_of : GroupMember → ℕ
 party_of member = member.member.party
 
 -- groups are provided, and required by their members
 abbrev pub group_spans : List (Version (ℕ × PartyRecord)) → List (Version GroupMember) → List CoverageSpan
-group_spans parties members = coverage_spans (λ p. p.0) (group_parties parties) group_of members
+group_spans parties members = coverage_spans (λ p. p.0) (group_parties parties) member_group members
 
 -- single parties are provided, and required if they are members
 abbrev pub member_spans : List (Version (ℕ × PartyRecord)) → List (Version GroupMember) → List CoverageSpan

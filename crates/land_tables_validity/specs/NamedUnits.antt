@@ -2,7 +2,7 @@
 use Rattle.std.specs.Prelude.{◌≡◌, ℕ, true, List, [], ◌∷◌, map as map_list}
 use Rattle.std.specs.List.{All}
 use Rattle.land_core.specs.declared.mutation.MutationRecord.{MutationRecord}
-use Rattle.land_tables_history.specs.History.{named_units, namings_of, register_at}
+use Rattle.land_tables_history.specs.History.{named_units, namings_of, register_of_history}
 use Rattle.land_tables_history.specs.ValidHistory.{are_same_namings}
 use Rattle.land_tables_history.specs.Standing.{current_values}
 use Rattle.land_tables_history.specs.declared.history.History.{History}
@@ -25,4 +25,4 @@ naming_pair n = (n.mutation, n.unit) ∷ []
 abbrev pub NamingsAgree : List Moment → History → Type 0
 NamingsAgree moments h =
     All (λ m. are_same_namings (current_values m.stamp h.namings)
-    (namings_of (register_at m.stamp h m.next).mutations) ≡ true) moments
+    (namings_of (register_of_history m.stamp h m.next).mutations) ≡ true) moments

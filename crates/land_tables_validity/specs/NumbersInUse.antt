@@ -16,22 +16,22 @@ next_since [] t = 0
 next_since (m ∷ ms) t = if int_eq m.stamp t then m.next else next_since ms t
 
 -- a number is at least 1, and below the next number
-abbrev pub is_used : (number next : ℕ) → Bool
-is_used number next = nat_lt 0 number && nat_lt number next
+abbrev pub is_number_in_use : (number next : ℕ) → Bool
+is_number_in_use number next = nat_lt 0 number && nat_lt number next
 
 -- likewise for a rank, if there is one
 abbrev pub is_rank_in_range : Option ℕ → (next : ℕ) → Bool
 is_rank_in_range None next = true
-is_rank_in_range (Some rank) next = is_used rank next
+is_rank_in_range (Some rank) next = is_number_in_use rank next
 
 abbrev pub has_number_in_range : {V : Type 0} → ℕ × V → (next : ℕ) → Bool
-has_number_in_range e next = is_used e.0 next
+has_number_in_range e next = is_number_in_use e.0 next
 
 abbrev pub has_rank_in_range : ℕ × RrrRecord → (next : ℕ) → Bool
 has_rank_in_range e next = is_rank_in_range (rank_of e.1.class) next
 
 abbrev pub has_numbers_in_range : ℕ × RrrRecord → (next : ℕ) → Bool
-has_numbers_in_range e next = is_used e.0 next && is_rank_in_range (rank_of e.1.class) next
+has_numbers_in_range e next = is_number_in_use e.0 next && is_rank_in_range (rank_of e.1.class) next
 
 -- a version passes a test, by the next number at its start
 abbrev pub passes_since : {X : Type 0} → (X → ℕ → Bool) → List Moment → Version X → Bool

@@ -8,18 +8,19 @@ use Rattle.land_core.specs.declared.rrr.RrrRecord.{RrrRecord}
 use Rattle.land_tables_validity.specs.declared.duplicate_rights.Place.{Place}
 
 -- types of right as numbers
-abbrev pub kind_of : RightType → ℕ
-kind_of Ownership = 0
-kind_of Lease = 1
-kind_of Usufruct = 2
+abbrev pub right_type_index : RightType → ℕ
+right_type_index Ownership = 0
+right_type_index Lease = 1
+right_type_index Usufruct = 2
 
 -- the key of a right is its type and its party, that of a mortgage its rank; other entries have none
 abbrev pub place_in : (unit party : ℕ) → Class → Option Place
-place_in unit party (Right type share) = Some (record { kind = kind_of type; unit = unit; holder = party })
+place_in unit party (Right type share) =
+    Some (record { kind = right_type_index type; unit = unit; holder = party })
 place_in unit party (Restriction words) = None
 place_in unit party (Responsibility words) = None
 place_in unit party (Mortgage amount currency rank) = Some (record { kind = 3; unit = unit; holder = rank })
 
 -- the key of an entry
-abbrev pub place_of : RrrRecord → Option Place
-place_of e = place_in e.unit e.party e.class
+abbrev pub entry_place : RrrRecord → Option Place
+entry_place e = place_in e.unit e.party e.class

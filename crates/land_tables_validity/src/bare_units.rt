@@ -2,7 +2,8 @@
 ghost use Rattle.std.specs.Prelude.{◌≡◌, ◌↔◌, ◌++◌, true, map as map_list, IfOk, OnOk};
 ghost use Rattle.land_core.specs.Soundness.{has_bare_unit};
 ghost use Rattle.land_tables_history.specs.Intervals.{has_intervals};
-ghost use Rattle.land_tables_validity.specs.BareUnits.{entry_unit, number_of, ownerships, owns, parcel_unit};
+ghost use Rattle.land_tables_validity.specs.BareUnits.{entry_unit, record_number, ownerships, owns};
+ghost use Rattle.land_tables_validity.specs.BareUnits.{parcel_unit};
 ghost use Rattle.land_tables_validity.specs.Never.{Never};
 ghost use Rattle.land_tables_validity.specs.CoverageSpans.{AreNonempty, are_in_range, provided_span};
 ghost use Rattle.land_tables_validity.specs.CoverageSpans.{coverage_spans};
@@ -36,9 +37,9 @@ pub(crate) fn have_parcels_and_owners(
 
 /// Returns whether each unit has a parcel throughout its lifespan.
 fn have_parcels(alloc: Global, history: &History) -> Result<bool, AllocError>
-    requires { AreNonempty (coverage_spans parcel_unit history.now.parcels number_of history.now.units) }
+    requires { AreNonempty (coverage_spans parcel_unit history.now.parcels record_number history.now.units) }
     ensures { IfOk result (λ it. (it ≡ true) ↔ IsCovered
-        (coverage_spans parcel_unit history.now.parcels number_of history.now.units)) }
+        (coverage_spans parcel_unit history.now.parcels record_number history.now.units)) }
 {
     let mut coverage_spans = Vec::new(alloc);
     provide_parcels(&mut coverage_spans, history.parcels.as_slice())?;
@@ -49,9 +50,9 @@ fn have_parcels(alloc: Global, history: &History) -> Result<bool, AllocError>
 /// Returns whether each unit has an owner throughout its lifespan.
 fn have_owners(alloc: Global, history: &History) -> Result<bool, AllocError>
     requires { AreNonempty
-        (coverage_spans entry_unit (ownerships history.now.rrrs) number_of history.now.units) }
+        (coverage_spans entry_unit (ownerships history.now.rrrs) record_number history.now.units) }
     ensures { IfOk result (λ it. (it ≡ true) ↔ IsCovered
-        (coverage_spans entry_unit (ownerships history.now.rrrs) number_of history.now.units)) }
+        (coverage_spans entry_unit (ownerships history.now.rrrs) record_number history.now.units)) }
 {
     let mut coverage_spans = Vec::new(alloc);
     provide_ownerships(&mut coverage_spans, history.rrrs.as_slice())?;

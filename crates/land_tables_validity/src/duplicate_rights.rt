@@ -4,7 +4,7 @@ ghost use Rattle.land_core.specs.Soundness.{has_clash};
 ghost use Rattle.land_tables_history.specs.Intervals.{has_intervals};
 ghost use Rattle.land_tables_validity.specs.ApartSpans.{spans_where};
 ghost use Rattle.land_tables_validity.specs.Never.{Never};
-ghost use Rattle.land_tables_validity.specs.Places.{kind_of, place_of};
+ghost use Rattle.land_tables_validity.specs.Places.{right_type_index, entry_place};
 
 use land_core::rrr::{Class, RightType, RrrRecord};
 use land_tables_history::history::History;
@@ -42,7 +42,7 @@ fn spans_of(
     alloc: Global,
     entries: &[Version<(u64, RrrRecord)>],
 ) -> Result<Vec<Span<Place>>, AllocError>
-    ensures { IfOk result (λ it. it.items ≡ spans_where (λ e. place_of e.1) entries.now) }
+    ensures { IfOk result (λ it. it.items ≡ spans_where (λ e. entry_place e.1) entries.now) }
 {
     let mut spans = Vec::new(alloc);
     for entry in entries {
@@ -59,7 +59,7 @@ fn spans_of(
 
 /// Returns the key of an entry, if it is a right or a mortgage.
 fn place_of(entry: &RrrRecord) -> Option<Place>
-    ensures { result ≡ place_of entry.now }
+    ensures { result ≡ entry_place entry.now }
 {
     match &entry.class {
         Class::Right { right_type, .. } => Some(Place {
@@ -77,7 +77,7 @@ fn place_of(entry: &RrrRecord) -> Option<Place>
 }
 
 fn kind_of(right_type: RightType) -> u64
-    ensures { result ≡ kind_of right_type }
+    ensures { result ≡ right_type_index right_type }
 {
     match right_type {
         RightType::Ownership => 0,

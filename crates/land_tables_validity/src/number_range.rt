@@ -10,7 +10,7 @@ ghost use Rattle.land_tables_validity.specs.Never.{Never};
 ghost use Rattle.land_tables_validity.specs.NumbersInUse.{are_all_in_range, are_numbers_left};
 ghost use Rattle.land_tables_validity.specs.NumbersInUse.{has_number_in_range};
 ghost use Rattle.land_tables_validity.specs.NumbersInUse.{has_numbers_in_range};
-ghost use Rattle.land_tables_validity.specs.NumbersInUse.{is_used, is_rank_in_range, next_since};
+ghost use Rattle.land_tables_validity.specs.NumbersInUse.{is_number_in_use, is_rank_in_range, next_since};
 ghost use Rattle.land_tables_validity.specs.NumbersInUse.{passes_since};
 
 use crate::moments::in_order;
@@ -95,7 +95,7 @@ fn are_entries_in_range(entries: &[Version<(u64, RrrRecord)>], moments: &[Moment
 
 /// Returns whether a number is at least 1, and below the next number.
 fn is_used(number: u64, next: u64) -> bool
-    ensures { result ≡ is_used number next }
+    ensures { result ≡ is_number_in_use number next }
 {
     0 < number && number < next
 }

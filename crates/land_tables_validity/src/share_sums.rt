@@ -3,8 +3,10 @@
 ghost use Rattle.std.specs.List.{list_any};
 ghost use Rattle.std.specs.Prelude.{◌≡◌, IfOk};
 ghost use Rattle.land_core.specs.Units.{are_whole_or_none};
-ghost use Rattle.land_tables_validity.specs.Holdings.{are_few, are_shares_whole, class_holding, is_checked};
-ghost use Rattle.land_tables_validity.specs.Holdings.{is_entry, is_parcel, is_unit, right_holding};
+ghost use Rattle.land_tables_validity.specs.Holdings.{are_few, are_shares_whole, class_holding};
+ghost use Rattle.land_tables_validity.specs.Holdings.{is_checked_unit};
+ghost use Rattle.land_tables_validity.specs.Holdings.{is_entry, is_parcel_holding, is_unit_holding};
+ghost use Rattle.land_tables_validity.specs.Holdings.{right_holding};
 ghost use Rattle.land_tables_validity.specs.Holdings.{holding_share};
 ghost use Rattle.land_tables_validity.specs.Holdings.{holding_shares};
 ghost use Rattle.land_tables_validity.specs.LiveSpan.{span_values, if_any_marked};
@@ -65,7 +67,7 @@ impl Holding {
     }
 
     fn is_unit(self) -> bool
-        ensures { result ≡ is_unit self }
+        ensures { result ≡ is_unit_holding self }
     {
         match self {
             Holding::Unit { .. } => true,
@@ -74,7 +76,7 @@ impl Holding {
     }
 
     fn is_checked(self) -> bool
-        ensures { result ≡ is_checked self }
+        ensures { result ≡ is_checked_unit self }
     {
         match self {
             Holding::Unit { checked } => checked,
@@ -83,7 +85,7 @@ impl Holding {
     }
 
     fn is_parcel(self) -> bool
-        ensures { result ≡ is_parcel self }
+        ensures { result ≡ is_parcel_holding self }
     {
         match self {
             Holding::Parcel => true,
@@ -116,7 +118,7 @@ impl Holding {
 /// Returns whether there are at most 256 parcels and 256 entries, if the unit itself is current. If there are
 /// at most 256 values in all, this is so without counting.
 pub(crate) fn are_few_in_unit(there: &[LiveSpan<Holding>]) -> bool
-    ensures { result ≡ if_any_marked is_unit are_few (span_values there.now) }
+    ensures { result ≡ if_any_marked is_unit_holding are_few (span_values there.now) }
 {
     if there.len() <= 256 {
         return true;
@@ -125,13 +127,13 @@ pub(crate) fn are_few_in_unit(there: &[LiveSpan<Holding>]) -> bool
 }
 
 fn has_unit(there: &[LiveSpan<Holding>]) -> bool
-    ensures { result ≡ list_any is_unit (span_values there.now) }
+    ensures { result ≡ list_any is_unit_holding (span_values there.now) }
 {
     there.iter().any(|one| one.what.is_unit())
 }
 
 fn has_checked(there: &[LiveSpan<Holding>]) -> bool
-    ensures { result ≡ list_any is_checked (span_values there.now) }
+    ensures { result ≡ list_any is_checked_unit (span_values there.now) }
 {
     there.iter().any(|one| one.what.is_checked())
 }
@@ -158,7 +160,8 @@ pub(crate) fn are_whole_in_checked_unit(
     alloc: Global,
     there: &[LiveSpan<Holding>],
 ) -> Result<bool, AllocError>
-    ensures { IfOk result (λ it. it ≡ if_any_marked is_checked are_shares_whole (span_values there.now)) }
+    ensures { IfOk result
+        (λ it. it ≡ if_any_marked is_checked_unit are_shares_whole (span_values there.now)) }
 {
     Ok(!has_checked(there) || are_shares_whole(alloc, there)?)
 }

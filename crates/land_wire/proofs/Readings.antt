@@ -13,7 +13,7 @@ use Rattle.land_keep.specs.Machine.{at_of}
 use Rattle.land_wire.specs.Acts.{act_in}
 use Rattle.land_wire.specs.Fields.{caller_in}
 use Rattle.land_wire.specs.Laws.{BodiesOfReadsAreIgnored, GetsDoNothing, OtherMethodsRequestActs, QueryMomentsAreValid, RequestMomentsAreValid, IsExplicitMoment, requests_act}
-use Rattle.land_wire.specs.Numbers.{decimal_in, number_in, moment_in}
+use Rattle.land_wire.specs.Numbers.{decimal_in, number_in_text, moment_in_text}
 use Rattle.land_wire.specs.Queries.{no_query, at_in}
 use Rattle.land_wire.specs.Reading.{require_method, ask_of, parts_reading, reading_by, require_resource}
 use Rattle.land_wire.specs.Routes.{Resource, list, view, sheet, act}
@@ -76,9 +76,9 @@ got : (found : Result Resource WireFault) (query : List ℕ) (fields : Entries F
 got (Err e) query fields body = record { if_ok = tt }
 got (Ok (list kind)) query fields body = looked_at (list kind) fields query body (bind (at_in query) (λ at. record { if_ok = refl }))
 got (Ok (view kind part)) query fields body =
-    looked_at (view kind part) fields query body (bind (number_in part) (λ number. bind (at_in query) (λ at. record { if_ok = refl })))
+    looked_at (view kind part) fields query body (bind (number_in_text part) (λ number. bind (at_in query) (λ at. record { if_ok = refl })))
 got (Ok (sheet part)) query fields body =
-    looked_at (sheet part) fields query body (bind (number_in part) (λ unit. bind (at_in query) (λ at. record { if_ok = refl })))
+    looked_at (sheet part) fields query body (bind (number_in_text part) (λ unit. bind (at_in query) (λ at. record { if_ok = refl })))
 got (Ok (act word)) query fields body = record { if_ok = tt }
 
 pub gets_do_nothing : GetsDoNothing
@@ -141,7 +141,7 @@ bounded-moment : (n : ℕ) (late : Bool) → int_lt last_moment (pos n) ≡ late
 bounded-moment n true is = record { if_ok = tt }
 bounded-moment n false is = record { if_ok = in_range n is }
 
-moment_in-moment : (text : List ℕ) → Ensures IsMoment (moment_in text)
+moment_in-moment : (text : List ℕ) → Ensures IsMoment (moment_in_text text)
 moment_in-moment text = bind (decimal_in text) (λ n. bounded-moment n (int_lt last_moment (pos n)) refl)
 
 some_moment : (r : Result ℤ WireFault) → Ensures IsMoment r → Ensures IsExplicitMoment (r >>= λ moment. Ok (Some moment))
@@ -149,10 +149,10 @@ some_moment (Ok moment) h = record { if_ok = h.if_ok }
 some_moment (Err e) h = record { if_ok = tt }
 
 abbrev stated_by : Bool → List ℕ → Result (Option ℤ) WireFault
-stated_by b text = if b then (moment_in text >>= λ moment. Ok (Some moment)) else Err fault.Field
+stated_by b text = if b then (moment_in_text text >>= λ moment. Ok (Some moment)) else Err fault.Field
 
 stated_by-moment : (b : Bool) (text : List ℕ) → Ensures IsExplicitMoment (stated_by b text)
-stated_by-moment true text = some_moment (moment_in text) (moment_in-moment text)
+stated_by-moment true text = some_moment (moment_in_text text) (moment_in-moment text)
 stated_by-moment false text = record { if_ok = tt }
 
 at_in-moment : (query : List ℕ) → Ensures IsExplicitMoment (at_in query)
@@ -180,8 +180,8 @@ looked_at-moment wrap query keeps = wrapped wrap (at_in query) keeps (at_in-mome
 
 ask_of-moment : (named : Resource) (query body : List ℕ) → Ensures AsksMoment (ask_of named query body)
 ask_of-moment (list kind) query body = looked_at-moment (λ at. ask.List kind at) query (λ at. refl)
-ask_of-moment (view kind part) query body = bind (number_in part) (λ number. looked_at-moment (λ at. ask.View kind number at) query (λ at. refl))
-ask_of-moment (sheet part) query body = bind (number_in part) (λ unit. looked_at-moment (λ at. ask.Sheet unit at) query (λ at. refl))
+ask_of-moment (view kind part) query body = bind (number_in_text part) (λ number. looked_at-moment (λ at. ask.View kind number at) query (λ at. refl))
+ask_of-moment (sheet part) query body = bind (number_in_text part) (λ unit. looked_at-moment (λ at. ask.Sheet unit at) query (λ at. refl))
 ask_of-moment (act word) query body = bind (no_query query) (λ none. bind (act_in word body) (λ wanted. record { if_ok = tt }))
 
 read-moment : (method target : List ℕ) (asking : Result Caller WireFault) (body : List ℕ)

@@ -8,7 +8,7 @@ use Rattle.land_core.specs.declared.ask.Request.{Request}
 use Rattle.land_core.specs.declared.caller.Caller.{Caller}
 use Rattle.land_wire.specs.Acts.{act_in, act_of, lodging_act}
 use Rattle.land_wire.specs.Laws.{ReadingsAreWellFormed}
-use Rattle.land_wire.specs.Numbers.{number_in}
+use Rattle.land_wire.specs.Numbers.{number_in_text}
 use Rattle.land_wire.specs.Queries.{no_query, at_in}
 use Rattle.land_wire.specs.Reading.{require_method, ask_of, parts_reading, reading_by, require_resource}
 use Rattle.land_wire.specs.Routes.{Resource, list, view, sheet, act as act_path}
@@ -84,8 +84,8 @@ act_in-well_formed law which body = bind (value_in body) (act_of-well_formed law
 
 ask_of-well_formed : BodiesAreWellFormed → (resource : Resource) (query body : List ℕ) → Ensures MayBeAsked (ask_of resource query body)
 ask_of-well_formed law (list kind) query body = bind (at_in query) (λ at. record { if_ok = refl })
-ask_of-well_formed law (view kind part) query body = bind (number_in part) (λ number. bind (at_in query) (λ at. record { if_ok = refl }))
-ask_of-well_formed law (sheet part) query body = bind (number_in part) (λ unit. bind (at_in query) (λ at. record { if_ok = refl }))
+ask_of-well_formed law (view kind part) query body = bind (number_in_text part) (λ number. bind (at_in query) (λ at. record { if_ok = refl }))
+ask_of-well_formed law (sheet part) query body = bind (number_in_text part) (λ unit. bind (at_in query) (λ at. record { if_ok = refl }))
 ask_of-well_formed law (act_path which) query body =
     bind (no_query query) (λ none. bind_with (act_in which body) (act_in-well_formed law which body) (λ wanted h. record { if_ok = h }))
 

@@ -10,7 +10,7 @@ use Rattle.httparse.specs.Spans.{header_bytes, IsHeaderWithin}
 use Rattle.httparse.specs.declared.spans.HeaderSpan.{HeaderSpan}
 use Rattle.land_core.specs.declared.caller.Caller.{Caller}
 use Rattle.land_core.specs.declared.role.Role.{Role}
-use Rattle.land_wire.specs.Numbers.{number_in}
+use Rattle.land_wire.specs.Numbers.{number_in_text}
 use Rattle.land_wire_json.specs.Bodies.WireFaults.{◌>>=◌}
 use Rattle.land_wire_json.specs.Bodies.Words.{role_of}
 use Rattle.land_wire_json.specs.declared.bodies.wire_fault.WireFault.{WireFault}
@@ -47,16 +47,16 @@ only_value (value ∷ []) = Ok value.bytes
 only_value (first ∷ second ∷ others) = Err fault.Field
 
 -- the field Register-Party: a number; otherwise fault 132
-abbrev pub party_in : Entries FieldValue → Result ℕ WireFault
-party_in fields = only_value (get_all fields (codes "register-party")) >>= number_in
+abbrev pub caller_party_in : Entries FieldValue → Result ℕ WireFault
+caller_party_in fields = only_value (get_all fields (codes "register-party")) >>= number_in_text
 
 -- the field Register-Role: the word of a role; otherwise fault 134
-abbrev pub role_in : Entries FieldValue → Result Role WireFault
-role_in fields = only_value (get_all fields (codes "register-role")) >>= role_of
+abbrev pub caller_role_in : Entries FieldValue → Result Role WireFault
+caller_role_in fields = only_value (get_all fields (codes "register-role")) >>= role_of
 
 -- the faults of the party come first
 abbrev pub caller_in : Entries FieldValue → Result Caller WireFault
 caller_in fields = do
-  party ← party_in fields
-  role ← role_in fields
+  party ← caller_party_in fields
+  role ← caller_role_in fields
   Ok (record { party = party; role = role })

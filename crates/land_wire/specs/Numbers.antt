@@ -11,10 +11,10 @@ abbrev pub decimal_in : List ℕ → Result ℕ WireFault
 decimal_in text = or_fault (digits_in 13 text) fault.Number
 
 -- the number of an object, 1 to 1_000_000_000; fault 132 for any other value
-abbrev pub number_in : List ℕ → Result ℕ WireFault
-number_in text = decimal_in text >>= λ value. if is_number value then Ok value else Err fault.Number
+abbrev pub number_in_text : List ℕ → Result ℕ WireFault
+number_in_text text = decimal_in text >>= λ value. if is_number value then Ok value else Err fault.Number
 
 -- a moment, from 0 to the last one; fault 132 for a later one
-abbrev pub moment_in : List ℕ → Result ℤ WireFault
-moment_in text =
+abbrev pub moment_in_text : List ℕ → Result ℤ WireFault
+moment_in_text text =
     decimal_in text >>= λ value. if int_lt last_moment (pos value) then Err fault.Number else Ok (pos value)

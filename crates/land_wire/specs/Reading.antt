@@ -8,7 +8,7 @@ use Rattle.land_core.specs.declared.ask.Request.{Request}
 use Rattle.land_core.specs.declared.caller.Caller.{Caller}
 use Rattle.land_wire.specs.Acts.{act_in}
 use Rattle.land_wire.specs.Fields.{caller_in}
-use Rattle.land_wire.specs.Numbers.{number_in}
+use Rattle.land_wire.specs.Numbers.{number_in_text}
 use Rattle.land_wire.specs.Queries.{no_query, at_in}
 use Rattle.land_wire.specs.Routes.{Resource, list, view, sheet, act, route_of, allows}
 use Rattle.land_wire.specs.Routes.Targets.{path_of, query_of}
@@ -30,11 +30,11 @@ ask_of (list kind) query body = do
   at ← at_in query
   Ok (ask.List kind at)
 ask_of (view kind part) query body = do
-  number ← number_in part
+  number ← number_in_text part
   at ← at_in query
   Ok (ask.View kind number at)
 ask_of (sheet part) query body = do
-  unit ← number_in part
+  unit ← number_in_text part
   at ← at_in query
   Ok (ask.Sheet unit at)
 ask_of (act word) query body = do

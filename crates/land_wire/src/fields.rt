@@ -5,7 +5,8 @@ ghost use Rattle.http_header.specs.FieldName.{IsFieldName};
 ghost use Rattle.http_header.specs.FieldValue.{IsFieldValue};
 ghost use Rattle.http_header.specs.HeaderMap.{RefusesAppend, get_all};
 ghost use Rattle.http_header.specs.Token.{lowercase};
-ghost use Rattle.land_wire.specs.Fields.{AreWithin, caller_in, fields_at, only_value, party_in, role_in};
+ghost use Rattle.land_wire.specs.Fields.{AreWithin, caller_in, fields_at, only_value, caller_party_in};
+ghost use Rattle.land_wire.specs.Fields.{caller_role_in};
 ghost use Rattle.land_wire.specs.Fields.{with_field};
 ghost use Rattle.land_wire_json.specs.Bodies.WireFaults.{map_ok};
 
@@ -80,7 +81,7 @@ pub fn read_caller(fields: &HeaderMap) -> Result<Caller, WireFault>
 /// Reads the party in the field `Register-Party`. Errors: 131 if it is absent or repeated; 132 if it is not a
 /// number.
 pub fn read_party(fields: &HeaderMap) -> Result<u64, WireFault>
-    ensures { result ≡ party_in fields.now }
+    ensures { result ≡ caller_party_in fields.now }
 {
     read_number(only_value(fields, "register-party")?)
 }
@@ -88,7 +89,7 @@ pub fn read_party(fields: &HeaderMap) -> Result<u64, WireFault>
 /// Reads the role in the field `Register-Role`. Errors: 131 if it is absent or repeated; 134 if it is not a
 /// role.
 pub fn read_role(fields: &HeaderMap) -> Result<Role, WireFault>
-    ensures { result ≡ role_in fields.now }
+    ensures { result ≡ caller_role_in fields.now }
 {
     role_of(only_value(fields, "register-role")?)
 }
@@ -107,14 +108,14 @@ pub fn caller_at(head: &[u8], fields: &[HeaderSpan]) -> Result<Caller, WireFault
 
 fn party_at(head: &[u8], fields: &[HeaderSpan]) -> Result<u64, WireFault>
     requires { AreWithin head.now fields.now }
-    ensures { result ≡ party_in (fields_at head.now fields.now) }
+    ensures { result ≡ caller_party_in (fields_at head.now fields.now) }
 {
     read_number(value_at(head, fields, "register-party")?)
 }
 
 fn role_at(head: &[u8], fields: &[HeaderSpan]) -> Result<Role, WireFault>
     requires { AreWithin head.now fields.now }
-    ensures { result ≡ role_in (fields_at head.now fields.now) }
+    ensures { result ≡ caller_role_in (fields_at head.now fields.now) }
 {
     role_of(value_at(head, fields, "register-role")?)
 }

@@ -8,7 +8,7 @@ use Rattle.land_core.specs.Mergers.{are_merged_parcels, are_other_units, are_asc
 use Rattle.land_core.specs.Numbers.{is_number}
 use Rattle.land_core.specs.Subdivisions.{have_names, is_new_name, is_part, are_further_parts, is_further_part_count, is_subdivision}
 use Rattle.land_core.specs.Texts.{is_label}
-use Rattle.land_core.specs.Words.{act_word}
+use Rattle.land_core.specs.Words.{content_word}
 use Rattle.land_core.specs.declared.act.NewParcel.{NewParcel}
 use Rattle.land_core.specs.declared.content.Content.{Content}
 use Rattle.land_core.specs.declared.content.Content.TheVariants as content
@@ -27,12 +27,12 @@ use Rattle.land_shape.specs.Place.{Place}
 use Rattle.land_shape.specs.Printed.{polygon_text}
 use Rattle.land_shape.specs.declared.faults.ShapeFault.{ShapeFault}
 use Rattle.land_wire_json.proofs.ShareReading.{share_is_read}
-use Rattle.land_wire_json.specs.Bodies.Fields.{each_of, field_at, item_count, items_at, number_at, number_in, object_with, text_at}
+use Rattle.land_wire_json.specs.Bodies.Fields.{each_item, field_at, item_count, items_at, number_at, number_in, object_with, text_at}
 use Rattle.land_wire_json.specs.Bodies.Laws.{ContentsRoundTrip, OutlinesAreAnswered}
 use Rattle.land_wire_json.specs.Bodies.Mutations.{content_in, content_kind_of, content_of, discharge_of, merger_of, mortgage_of, part_of, rest_of, increasing_at, subdivision_of, transfer_of}
 use Rattle.land_wire_json.specs.Bodies.Outlines.{outline_answer, outline_in, outline_of, ring_or_fault}
 use Rattle.land_wire_json.specs.Bodies.Shares.{share_at}
-use Rattle.land_wire_json.specs.Bodies.Stored.{HasOutline, IsExactContent}
+use Rattle.land_wire_json.specs.Bodies.Stored.{HasPartOutline, IsExactContent}
 use Rattle.land_wire_json.specs.Bodies.Units.{parcel_of}
 use Rattle.land_wire_json.specs.Bodies.WireFaults.{◌>>=◌, or_fault}
 use Rattle.land_wire_json.specs.Texts.Exact.{is_exact, are_exact}
@@ -174,7 +174,7 @@ number_is_read : (n : ℕ) → is_number n ≡ true → number_in (number_data n
 unfolding number_in
 number_is_read n e = rw e refl
 
-numbers_are_read : (numbers : List ℕ) → list_all is_number numbers ≡ true → each_of number_in (items_of (map number_data numbers)) ≡ Ok numbers
+numbers_are_read : (numbers : List ℕ) → list_all is_number numbers ≡ true → each_item number_in (items_of (map number_data numbers)) ≡ Ok numbers
 numbers_are_read [] e = refl
 numbers_are_read (n ∷ ns) e = let p = and_parts (is_number n) (list_all is_number ns) e in rw (number_is_read n p.0, numbers_are_read ns p.1) refl
 
@@ -211,13 +211,13 @@ module _ (shares : SameFractionLaw) (printing : PrintedLaw) (one : OneAnswerLaw)
       by None label outline l r u = rw (l, r) refl
       by (Some name) label outline l r u = rw (l, r, u) refl
 
-  parts_are_read : (parts : List Part) → list_all is_part parts ≡ true → AllByRecursion HasOutline parts → each_of part_of (items_of (map part_data parts)) ≡ Ok parts
+  parts_are_read : (parts : List Part) → list_all is_part parts ≡ true → AllByRecursion HasPartOutline parts → each_item part_of (items_of (map part_data parts)) ≡ Ok parts
   parts_are_read [] e h = refl
   parts_are_read (part ∷ parts) e h =
       let p = and_parts (is_part part) (list_all is_part parts) e in
       rw (part_is_read part p.0 h.0, parts_are_read parts p.1 h.1) refl
 
-  subdivision_is_read : (it : Subdivision) → is_subdivision it ≡ true → IsOutline it.first.outline → AllByRecursion HasOutline it.rest
+  subdivision_is_read : (it : Subdivision) → is_subdivision it ≡ true → IsOutline it.first.outline → AllByRecursion HasPartOutline it.rest
       → subdivision_of (subdivision_data it) ≡ Ok it
   unfolding subdivision_of number_at field_at number_in rest_of items_at
   subdivision_is_read it e first rest =
@@ -253,7 +253,7 @@ module _ (shares : SameFractionLaw) (printing : PrintedLaw) (one : OneAnswerLaw)
   unfolding discharge_of number_at field_at number_in
   discharge_is_read it e = let p = and_parts (is_number it.unit) (is_number it.mortgage) e in rw (p.0, p.1) refl
 
-  data_is_read : (it : Content) → is_well_formed_content it ≡ true → IsExactContent it → (content_kind_of (act_word it) >>= λ which. content_of which (content_data it)) ≡ Ok it
+  data_is_read : (it : Content) → is_well_formed_content it ≡ true → IsExactContent it → (content_kind_of (content_word it) >>= λ which. content_of which (content_data it)) ≡ Ok it
   unfolding content_of object_with
   data_is_read (content.Transfer it) e h = rw (transfer_is_read it e h) refl
   data_is_read (content.Subdivision it) e h = rw (subdivision_is_read it e h.0 h.1) refl
@@ -264,6 +264,6 @@ module _ (shares : SameFractionLaw) (printing : PrintedLaw) (one : OneAnswerLaw)
 pub content_is_read : CompactLaw → SameFractionLaw → PrintedLaw → OneAnswerLaw → OutlinesAreAnswered → ContentsRoundTrip
 unfolding content_in
 content_is_read compact shares printing one answers it h =
-    ap (λ found. content_kind_of (act_word it) >>= λ which. or_fault found fault.Json >>= λ value. content_of which value)
+    ap (λ found. content_kind_of (content_word it) >>= λ which. or_fault found fault.Json >>= λ value. content_of which value)
     (compact (content_data it) (exact it h.within_limits) (shallow it))
     ∙ data_is_read shares printing one answers it h.within_limits h.is_exact

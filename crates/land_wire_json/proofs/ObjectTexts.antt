@@ -1,6 +1,6 @@
 -- Texts of objects, as plain bytes.
 use Rattle.std.proofs.Common.{◌≡◌, ℕ, List, ◌++◌, Bool, true, false, refl, ap, codes, decimal, pos}
-use Rattle.land_core.specs.Words.{act_word, source_word, state_word}
+use Rattle.land_core.specs.Words.{content_word, source_word, state_word}
 use Rattle.land_core.specs.declared.content.Content.{Content}
 use Rattle.land_core.specs.declared.content.Content.TheVariants as content
 use Rattle.land_core.specs.declared.mutation.MutationState.{MutationState}
@@ -63,7 +63,7 @@ source-text source =
     ap (λ (t : List ℕ). codes "{\"kind\":" ++ (t ++ (codes ",\"number\":" ++ (decimal source.number ++ (codes ",\"title\":"
     ++ (string_text source.title ++ codes "}")))))) (source_kind-text source.kind)
 
-act-text : (it : Content) → compact_text (string (act_word it)) ≡ quoted_word (act_word it)
+act-text : (it : Content) → compact_text (string (content_word it)) ≡ quoted_word (content_word it)
 unfolding serde_json_on_literals
 act-text (content.Transfer it) = refl
 act-text (content.Subdivision it) = refl
@@ -88,7 +88,7 @@ pub mutation-text : (n source lodger lodged : ℕ) (reference : List ℕ) (it : 
 unfolding serde_json_on_literals
 mutation-text n source lodger lodged reference it state =
     ap (λ (t : List ℕ). codes "{\"act\":" ++ t)
-    (mutation_parts (compact_text (string (act_word it))) (quoted_word (act_word it)) (codes ",\"content\":") (content_text it)
+    (mutation_parts (compact_text (string (content_word it))) (quoted_word (content_word it)) (codes ",\"content\":") (content_text it)
     (codes ",\"lodged\":") (decimal lodged) (codes ",\"lodger\":") (decimal lodger) (codes ",\"number\":") (decimal n)
     (codes ",\"reference\":") (string_text reference) (codes ",\"source\":") (decimal source) (codes ",\"state\":") (codes "}")
     (compact_text (string (state_word state))) (quoted_word (state_word state)) (act-text it) (state-text state))

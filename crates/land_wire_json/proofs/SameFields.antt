@@ -7,7 +7,7 @@ use Rattle.std.specs.Char.{digit_value}
 use Rattle.std.specs.List.{AllByRecursion}
 use Rattle.std.specs.Str.Parse.{AllDigits}
 use Rattle.land_fraction.specs.Ratio.{Ratio, IsFraction}
-use Rattle.land_fraction.specs.Text.{text_of}
+use Rattle.land_fraction.specs.Text.{fraction_text}
 use Rattle.land_shape.specs.Faults.{Denotes}
 use Rattle.land_shape.specs.Laws.{PrintedLaw}
 use Rattle.land_shape.specs.Outline.{IsOutline}
@@ -158,14 +158,14 @@ ratio_of n d = record { numerator = n; denominator = d }
 same_ratio : (n m d e : ℕ) → n ≡ m → d ≡ e → ratio_of n d ≡ ratio_of m e
 same_ratio n m d e p q = rw (p, q) refl
 
-pub same_share : (f g : Ratio) → IsFraction f → IsFraction g → text_of f ≡ text_of g → f ≡ g
+pub same_share : (f g : Ratio) → IsFraction f → IsFraction g → fraction_text f ≡ fraction_text g → f ≡ g
 same_share f g h k e =
     let fn : f.numerator < 2 ^ 64 = omega (arith, h.proper.at_most_one, h.not_too_fine) in
     let fd : f.denominator < 2 ^ 64 = omega (arith, h.not_too_fine) in
     let gn : g.numerator < 2 ^ 64 = omega (arith, k.proper.at_most_one, k.not_too_fine) in
     let gd : g.denominator < 2 ^ 64 = omega (arith, k.not_too_fine) in
-    let left : text_of f ≡ decimal f.numerator ++ 47 ∷ decimal f.denominator = append_assoc (decimal f.numerator) (47 ∷ []) (decimal f.denominator) in
-    let right : text_of g ≡ decimal g.numerator ++ 47 ∷ decimal g.denominator = append_assoc (decimal g.numerator) (47 ∷ []) (decimal g.denominator) in
+    let left : fraction_text f ≡ decimal f.numerator ++ 47 ∷ decimal f.denominator = append_assoc (decimal f.numerator) (47 ∷ []) (decimal f.denominator) in
+    let right : fraction_text g ≡ decimal g.numerator ++ 47 ∷ decimal g.denominator = append_assoc (decimal g.numerator) (47 ∷ []) (decimal g.denominator) in
     let parts =
     parted (decimal f.numerator) (decimal g.numerator) (decimal f.denominator) (decimal g.denominator)
     (decimal_is_IsNumeral f.numerator fn).0.1 (decimal_is_IsNumeral g.numerator gn).0.1 (sym left ∙ e ∙ right) in

@@ -9,9 +9,9 @@ use Rattle.std.specs.List.{list_all, before_first, after_first, position_or_len}
 use Rattle.std.specs.Str.Parse.{AllDigits}
 use Rattle.land_fraction.specs.Laws.{SameFractionLaw}
 use Rattle.land_fraction.specs.Ratio.{Ratio, IsFraction}
-use Rattle.land_fraction.specs.Text.{text_of}
-use Rattle.land_wire_json.specs.Bodies.Decimals.{are_digits, digits_in}
-use Rattle.land_wire_json.specs.Bodies.Shares.{is_slash, share_or_fault, share_from, share_of}
+use Rattle.land_fraction.specs.Text.{fraction_text}
+use Rattle.land_wire_json.specs.Bodies.Decimals.{are_digits_up_to, digits_in}
+use Rattle.land_wire_json.specs.Bodies.Shares.{is_slash, share_or_fault, share_from, share_in_text}
 
 is_digit : (c : ℕ) → digit_value c < 10 → is_ascii_digit c ≡ true
 is_digit c h = let k = digit_from_value c h in grind (arith, nat_tests)
@@ -31,7 +31,7 @@ dropped : (ds rest : List ℕ) → drop (length ds + 1) (ds ++ 47 ∷ rest) ≡ 
 dropped [] rest = refl
 dropped (c ∷ cs) rest = let e : length (c ∷ cs) + 1 ≡ suc (length cs + 1) = omega arith in rw e (dropped cs rest)
 
-few_digits : (n : ℕ) → n ≤ 1000000000 → are_digits 18 (decimal n) ≡ true
+few_digits : (n : ℕ) → n ≤ 1000000000 → are_digits_up_to 18 (decimal n) ≡ true
 few_digits n h =
     let e = decimal_is_IsNumeral n (omega arith) in
     let long : length (decimal n) ≤ 18 = length-decimal-le 18 n (omega arith) (omega arith) (omega arith) in
@@ -42,16 +42,16 @@ few_digits n h =
 number_is_read : (n : ℕ) → n ≤ 1000000000 → digits_in 18 (decimal n) ≡ Some n
 number_is_read n h = let e = decimal_is_IsNumeral n (omega arith) in rw (few_digits n h) (ap Some e.1)
 
-pub share_is_read : SameFractionLaw → (f : Ratio) → IsFraction f → share_of (text_of f) ≡ Ok f
-unfolding share_of
+pub share_is_read : SameFractionLaw → (f : Ratio) → IsFraction f → share_in_text (fraction_text f) ≡ Ok f
+unfolding share_in_text
 share_is_read same f h =
     let n = f.numerator in
     let d = f.denominator in
     let n_small : n ≤ 1000000000 = omega (arith, h.proper.at_most_one, h.not_too_fine) in
     let d_small : d ≤ 1000000000 = h.not_too_fine in
     let e = decimal_is_IsNumeral n (omega arith) in
-    let text : text_of f ≡ decimal n ++ 47 ∷ decimal d = append_assoc (decimal n) (47 ∷ []) (decimal d) in
+    let text : fraction_text f ≡ decimal n ++ 47 ∷ decimal d = append_assoc (decimal n) (47 ∷ []) (decimal d) in
     let at = slash_after (decimal n) (decimal d) e.0.1 in
-    let front : before_first is_slash (text_of f) ≡ decimal n = rw text (ap (λ i. take i (decimal n ++ 47 ∷ decimal d)) at ∙ take-append_seam (decimal n) (47 ∷ decimal d)) in
-    let back : after_first is_slash (text_of f) ≡ decimal d = rw text (ap (λ i. drop (i + 1) (decimal n ++ 47 ∷ decimal d)) at ∙ dropped (decimal n) (decimal d)) in
+    let front : before_first is_slash (fraction_text f) ≡ decimal n = rw text (ap (λ i. take i (decimal n ++ 47 ∷ decimal d)) at ∙ take-append_seam (decimal n) (47 ∷ decimal d)) in
+    let back : after_first is_slash (fraction_text f) ≡ decimal d = rw text (ap (λ i. drop (i + 1) (decimal n ++ 47 ∷ decimal d)) at ∙ dropped (decimal n) (decimal d)) in
     ap₂ share_from (ap (digits_in 18) front ∙ number_is_read n n_small) (ap (digits_in 18) back ∙ number_is_read d d_small) ∙ ap share_or_fault (same f h)

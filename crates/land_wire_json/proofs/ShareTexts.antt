@@ -6,7 +6,7 @@ use Rattle.std.proofs.lemmas.Str.Parse.{digit_at}
 use Rattle.std.proofs.lemmas.Grind.{flat_map-append}
 use Rattle.json.specs.Print.{escape, escape_byte}
 use Rattle.land_fraction.specs.Ratio.{Ratio, IsFraction}
-use Rattle.land_fraction.specs.Text.{text_of}
+use Rattle.land_fraction.specs.Text.{fraction_text}
 use Rattle.land_wire_json.specs.Texts.Values.{share_text, quoted_word}
 use Rattle.serde_json.proofs.OnLiterals.{serde_json_on_literals}
 
@@ -25,7 +25,7 @@ digits_are_plain n small =
     let numeral = (decimal_is_IsNumeral n small).0 in
     plain_bytes (decimal n) (λ i below. digit_at (decimal n) i numeral.1 below)
 
-plain_share : (f : Ratio) → IsFraction f → escape (text_of f) ≡ text_of f
+plain_share : (f : Ratio) → IsFraction f → escape (fraction_text f) ≡ fraction_text f
 unfolding escape_byte
 plain_share f is =
     let above = digits_are_plain f.numerator (omega (arith, is.proper.at_most_one, is.not_too_fine)) in
@@ -35,6 +35,6 @@ plain_share f is =
     ∙ ap (λ (t : List ℕ). (t ++ codes "/") ++ escape (decimal f.denominator)) above
     ∙ ap (λ (t : List ℕ). (decimal f.numerator ++ codes "/") ++ t) below
 
-pub share-text : (f : Ratio) → IsFraction f → share_text f ≡ quoted_word (text_of f)
+pub share-text : (f : Ratio) → IsFraction f → share_text f ≡ quoted_word (fraction_text f)
 unfolding serde_json_on_literals
 share-text f is = ap (λ (t : List ℕ). 34 ∷ (t ++ codes "\"")) (plain_share f is)

@@ -16,13 +16,13 @@ use Rattle.land_core.specs.declared.content.Content.{Content}
 use Rattle.land_core.specs.declared.content.Content.TheVariants as content
 use Rattle.land_core.specs.declared.kind.PartyKind.TheVariants as kind
 use Rattle.land_core.specs.declared.member.Member.{Member}
-use Rattle.land_wire_json.specs.Bodies.Fields.{text_value, field_at, object_with, text_at, bool_at, require_text, require_text_at, require_in_range, require_number, number_in, number_at, items_at, item_count, each_of}
+use Rattle.land_wire_json.specs.Bodies.Fields.{text_value, field_at, object_with, text_at, bool_at, require_text, require_text_at, require_in_range, require_number, number_in, number_at, items_at, item_count, each_item}
 use Rattle.land_wire_json.specs.Bodies.Laws.{BodiesAreWellFormed, ContentsAreWellFormed}
-use Rattle.land_wire_json.specs.Bodies.Mutations.{fields_of, content_by, content_in, content_kind_of, content_of, decision_of, discharge_of, lodging_of, merger_of, mortgage_of, new_name_of, part_of, rest_of, increasing_at, subdivision_of, transfer_of, without}
+use Rattle.land_wire_json.specs.Bodies.Mutations.{content_fields, content_by, content_in, content_kind_of, content_of, decision_of, discharge_of, lodging_of, merger_of, mortgage_of, new_name_of, part_of, rest_of, increasing_at, subdivision_of, transfer_of, others_besides}
 use Rattle.land_wire_json.specs.Bodies.Outlines.{outline_in}
-use Rattle.land_wire_json.specs.Bodies.Parties.{enrol_of, group_of, grant_of, mandate_of, member_of, members_of, regroup_of, withdrawal_of}
+use Rattle.land_wire_json.specs.Bodies.Parties.{enrol_of, group_of, grant_of, mandate_of, member_of, member_list_of, regroup_of, withdrawal_of}
 use Rattle.land_wire_json.specs.Bodies.Shares.{share_at}
-use Rattle.land_wire_json.specs.Bodies.Units.{burden_by, burden_fields, burden_of, lift_of, parcel_of, parcels_of, right_of, rights_of, unit_by, unit_fields, unit_of}
+use Rattle.land_wire_json.specs.Bodies.Units.{burden_by, burden_fields, burden_of, lift_of, parcel_of, parcels_of, right_of, rights_of, unit_by, new_unit_fields, unit_of}
 use Rattle.land_wire_json.specs.Bodies.WireFaults.{◌>>=◌, or_fault}
 use Rattle.land_wire_json.specs.Bodies.Words.{class_in, kind_in, role_in, type_in}
 use Rattle.land_wire_json.specs.declared.bodies.content_kind.ContentKind.{ContentKind}
@@ -100,11 +100,11 @@ record AreRead {A : Type 0} (p : A → Bool) (count : ℕ) (xs : List A) : Type 
   each : list_all p xs ≡ true
 
 each_of-all : {A : Type 0} (p : A → Bool) (read : Data → Result A WireFault) → ((value : Data) → Ensures (Passes p) (read value))
-    → (items : Items) → Ensures (AreRead p (item_count items)) (each_of read items)
+    → (items : Items) → Ensures (AreRead p (item_count items)) (each_item read items)
 each_of-all p read h no_items = record { if_ok = record { same_count = refl; each = refl } }
 each_of-all p read h (item value items) =
     bind_with (read value) (h value) (λ first is.
-    bind_with (each_of read items) (each_of-all p read h items) (λ rest are.
+    bind_with (each_item read items) (each_of-all p read h items) (λ rest are.
     record { if_ok = record { same_count = ap suc are.same_count; each = rw (is, are.each) refl } }))
 
 -- a list whose length is between bounds, each item with the property
@@ -113,7 +113,7 @@ record AreBetween {A : Type 0} (p : A → Bool) (least most : ℕ) (xs : List A)
   each : list_all p xs ≡ true
 
 counted_at : {A : Type 0} (p : A → Bool) (least most : ℕ) (key : List ℕ) (read : Data → Result A WireFault) → ((value : Data) → Ensures (Passes p) (read value))
-    → (value : Data) → Ensures (AreBetween p least most) (items_at least most key value >>= each_of read)
+    → (value : Data) → Ensures (AreBetween p least most) (items_at least most key value >>= each_item read)
 counted_at p least most key read h value =
     bind_with (items_at least most key value) (items_at-counted least most key value) (λ items few.
     after (each_of-all p read h items) (λ xs are. record { count = rw are.same_count few; each = are.each }))
@@ -152,8 +152,8 @@ member_of-numbered value =
     bind_with (number_at (codes "party") value) (number_at-number (codes "party") value) (λ party is.
     bind (share_at (codes "share") value) (λ share. record { if_ok = is })))
 
-members_of-between : (value : Data) → Ensures (AreBetween is_of_number 2 64) (members_of value)
-unfolding members_of
+members_of-between : (value : Data) → Ensures (AreBetween is_of_number 2 64) (member_list_of value)
+unfolding member_list_of
 members_of-between value = counted_at is_of_number 2 64 (codes "members") member_of member_of-numbered value
 
 group_of-well_formed : (value : Data) → Ensures (λ it. is_well_formed (act.Group it) ≡ true) (group_of value)
@@ -161,7 +161,7 @@ unfolding group_of
 group_of-well_formed value =
     bind (object_with (codes "name" ∷ codes "members" ∷ []) value) (λ whole.
     bind_with (require_text_at is_name (codes "name") value) (require_text_at-allowed is_name (codes "name") value) (λ name is.
-    bind_with (members_of value) (members_of-between value) (λ members are.
+    bind_with (member_list_of value) (members_of-between value) (λ members are.
     record { if_ok = rw (is, are.count, are.each) refl })))
 
 regroup_of-well_formed : (value : Data) → Ensures (λ it. is_well_formed (act.Regroup it) ≡ true) (regroup_of value)
@@ -169,7 +169,7 @@ unfolding regroup_of
 regroup_of-well_formed value =
     bind (object_with (codes "group" ∷ codes "members" ∷ []) value) (λ whole.
     bind_with (number_at (codes "group") value) (number_at-number (codes "group") value) (λ group is.
-    bind_with (members_of value) (members_of-between value) (λ members are.
+    bind_with (member_list_of value) (members_of-between value) (λ members are.
     record { if_ok = rw (is, are.count, are.each) refl })))
 
 grant_of-numbered : (value : Data) → Ensures (λ it. is_number it.party ≡ true) (grant_of value)
@@ -227,13 +227,13 @@ record AreOwned (rights : List NewRight) : Type 0 where
 rights_of-require_owner : (value : Data) → Ensures AreOwned (rights_of value)
 unfolding rights_of
 rights_of-require_owner value =
-    bind_with (items_at 1 64 (codes "rights") value >>= each_of right_of) (counted_at is_of_party 1 64 (codes "rights") right_of right_of-numbered value) (λ rights are.
+    bind_with (items_at 1 64 (codes "rights") value >>= each_item right_of) (counted_at is_of_party 1 64 (codes "rights") right_of right_of-numbered value) (λ rights are.
     by_test AreOwned (have_owner rights) rights fault.Field (λ owner. record { between = are; owner = owner }))
 
 unit_of-well_formed : (value : Data) → Ensures (λ it. is_well_formed (act.Register it) ≡ true) (unit_of value)
 unfolding unit_of unit_by
 unit_of-well_formed value =
-    bind (object_with unit_fields value) (λ whole.
+    bind (object_with new_unit_fields value) (λ whole.
     bind_with (require_text_at is_name (codes "name") value) (require_text_at-allowed is_name (codes "name") value) (λ name named.
     bind (bool_at (codes "checked") value) (λ checked.
     bind_with (require_text_at is_title (codes "document") value) (require_text_at-allowed is_title (codes "document") value) (λ document titled.
@@ -308,10 +308,10 @@ record AreRising (least most : ℕ) (numbers : List ℕ) : Type 0 where
 increasing_at-rising : (least most : ℕ) (key : List ℕ) (value : Data) → Ensures (AreRising least most) (increasing_at least most key value)
 unfolding increasing_at
 increasing_at-rising least most key value =
-    bind_with (items_at least most key value >>= each_of number_in) (counted_at is_number least most key number_in number_in-number value) (λ numbers are.
+    bind_with (items_at least most key value >>= each_item number_in) (counted_at is_number least most key number_in number_in-number value) (λ numbers are.
     by_test (AreRising least most) (all_above 0 numbers) numbers fault.Field (λ above. record { count = are.count; rise = rw (above, are.each) refl }))
 
-without-others : (unit : ℕ) (others : List ℕ) → AreRising 0 15 others → Ensures (λ them. are_other_units unit them ≡ true) (without unit others)
+without-others : (unit : ℕ) (others : List ℕ) → AreRising 0 15 others → Ensures (λ them. are_other_units unit them ≡ true) (others_besides unit others)
 without-others unit others are = by (lists_number others unit) refl
   where
     by : (b : Bool) → lists_number others unit ≡ b → Ensures (λ them. are_other_units unit them ≡ true) (if b then Err fault.Field else Ok others)
@@ -323,7 +323,7 @@ unfolding merger_of
 merger_of-well_formed value =
     bind_with (number_at (codes "unit") value) (number_at-number (codes "unit") value) (λ unit unit_is.
     bind_with (increasing_at 0 15 (codes "others") value) (increasing_at-rising 0 15 (codes "others") value) (λ listed rising.
-    bind_with (without unit listed) (without-others unit listed rising) (λ others others_are.
+    bind_with (others_besides unit listed) (without-others unit listed rising) (λ others others_are.
     bind_with (increasing_at 2 16 (codes "parcels") value) (increasing_at-rising 2 16 (codes "parcels") value) (λ parcels are.
     bind_with (require_text_at is_label (codes "label") value) (require_text_at-allowed is_label (codes "label") value) (λ label labelled.
     bind (outline_in value) (λ outline. record { if_ok = rw (unit_is, others_are, are.count, are.rise, labelled) refl }))))))
@@ -354,7 +354,7 @@ content_by-well_formed which.Discharge value = bind_with (discharge_of value) (d
 
 content_of-well_formed : (k : ContentKind) (value : Data) → Ensures IsWellFormed (content_of k value)
 unfolding content_of
-content_of-well_formed k value = bind (object_with (fields_of k) value) (λ whole. content_by-well_formed k value)
+content_of-well_formed k value = bind (object_with (content_fields k) value) (λ whole. content_by-well_formed k value)
 
 content_in-well_formed : (word text : List ℕ) → Ensures IsWellFormed (content_in word text)
 unfolding content_in
@@ -365,7 +365,7 @@ content_in-well_formed word text = bind (content_kind_of word) (λ k. bind (text
 lodging_of-well_formed : (k : ContentKind) (value : Data) → Ensures (λ it. is_well_formed (act.Lodge it) ≡ true) (lodging_of k value)
 unfolding lodging_of
 lodging_of-well_formed k value =
-    bind (object_with (codes "reference" ∷ codes "document" ∷ fields_of k) value) (λ whole.
+    bind (object_with (codes "reference" ∷ codes "document" ∷ content_fields k) value) (λ whole.
     bind_with (require_text_at is_reference (codes "reference") value) (require_text_at-allowed is_reference (codes "reference") value) (λ reference referred.
     bind_with (require_text_at is_title (codes "document") value) (require_text_at-allowed is_title (codes "document") value) (λ document titled.
     bind_with (content_by k value) (content_by-well_formed k value) (λ it formed.

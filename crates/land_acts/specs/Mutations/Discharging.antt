@@ -13,8 +13,8 @@ use Rattle.land_core.specs.declared.content.Discharge.{Discharge}
 use Rattle.land_core.specs.declared.register.Register.{Register}
 
 -- whether an entry of this unit exists at a number
-abbrev pub has_entry_in : Register → (unit number : ℕ) → Bool
-has_entry_in r unit n = option_map_or (λ e. nat_eq e.unit unit) (map.get r.rrrs n) false
+abbrev pub is_entry_of_unit : Register → (unit number : ℕ) → Bool
+is_entry_of_unit r unit n = option_map_or (λ e. nat_eq e.unit unit) (map.get r.rrrs n) false
 
 -- whether a mortgage exists at a number
 abbrev pub is_mortgage_at : Register → ℕ → Bool
@@ -24,7 +24,7 @@ is_mortgage_at r n = option_map_or (λ e. is_some (rank_of e.class)) (map.get r.
 abbrev pub discharge_refusals : Register → Discharge → Option ℤ → List (Refusal × Bool)
 discharge_refusals r it stamp =
     (NoSuchUnit, not (has r.units it.unit))
-    ∷ (NoSuchRight, not (has_entry_in r it.unit it.mortgage))
+    ∷ (NoSuchRight, not (is_entry_of_unit r it.unit it.mortgage))
     ∷ (NotMortgage, not (is_mortgage_at r it.mortgage))
     ∷ (ClockOut, is_none stamp)
     ∷ []

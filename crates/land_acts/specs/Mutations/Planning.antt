@@ -12,29 +12,29 @@ use Rattle.land_core.specs.declared.source.SourceKind.{SourceKind}
 use Rattle.land_core.specs.declared.source.SourceRecord.{SourceRecord}
 
 -- the number of a refusal in replies
-abbrev pub number_of : Refusal → ℕ
-number_of refusal.NotLodged = 201
-number_of refusal.NoSuchUnit = 202
-number_of refusal.NoSuchParcel = 203
-number_of refusal.NoSuchRight = 204
-number_of refusal.NoSuchParty = 205
-number_of refusal.ShareTooLarge = 206
-number_of refusal.SharesTooFine = 207
-number_of refusal.UnitsUnlike = 209
-number_of refusal.TooMany = 210
-number_of refusal.NotBank = 211
-number_of refusal.NotMortgage = 212
-number_of refusal.SharesNotWhole = 213
-number_of refusal.ReferenceUsed = 214
-number_of refusal.RoleHeld = 215
-number_of refusal.RoleNotHeld = 216
-number_of refusal.ClockOut = 217
-number_of refusal.LastAdministrator = 218
-number_of refusal.SameParty = 219
-number_of refusal.NotMatched = 220
-number_of refusal.MandateHeld = 221
-number_of refusal.NoMandate = 222
-number_of refusal.NoMemory = 501
+abbrev pub refusal_number : Refusal → ℕ
+refusal_number refusal.NotLodged = 201
+refusal_number refusal.NoSuchUnit = 202
+refusal_number refusal.NoSuchParcel = 203
+refusal_number refusal.NoSuchRight = 204
+refusal_number refusal.NoSuchParty = 205
+refusal_number refusal.ShareTooLarge = 206
+refusal_number refusal.SharesTooFine = 207
+refusal_number refusal.UnitsUnlike = 209
+refusal_number refusal.TooMany = 210
+refusal_number refusal.NotBank = 211
+refusal_number refusal.NotMortgage = 212
+refusal_number refusal.SharesNotWhole = 213
+refusal_number refusal.ReferenceUsed = 214
+refusal_number refusal.RoleHeld = 215
+refusal_number refusal.RoleNotHeld = 216
+refusal_number refusal.ClockOut = 217
+refusal_number refusal.LastAdministrator = 218
+refusal_number refusal.SameParty = 219
+refusal_number refusal.NotMatched = 220
+refusal_number refusal.MandateHeld = 221
+refusal_number refusal.NoMandate = 222
+refusal_number refusal.NoMemory = 501
 
 -- a plan is this change with this receipt
 abbrev pub IsPlanOf : Change → Done → Change × Done → Type 0

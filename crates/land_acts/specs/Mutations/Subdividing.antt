@@ -71,14 +71,14 @@ unit_made origin first None = []
 unit_made origin first (Some name) = (first, record { name = name; checked = origin.checked }) ∷ []
 
 -- then the parcel, with the source of the mutation
-abbrev pub parcel_in : Origin → (unit : ℕ) → Part → ParcelRecord
-parcel_in origin unit part =
+abbrev pub parcel_of_part : Origin → (unit : ℕ) → Part → ParcelRecord
+parcel_of_part origin unit part =
     record { unit = unit; label = part.label; outline = part.outline; source = origin.source }
 
 -- the parcel of a part, under its number
 abbrev pub parcel_made : Origin → (first : ℕ) → Part → (new_unit : Option (List ℕ)) → List (ℕ × ParcelRecord)
-parcel_made origin first part None = (first, parcel_in origin origin.unit part) ∷ []
-parcel_made origin first part (Some name) = (first + 1, parcel_in origin first part) ∷ []
+parcel_made origin first part None = (first, parcel_of_part origin origin.unit part) ∷ []
+parcel_made origin first part (Some name) = (first + 1, parcel_of_part origin first part) ∷ []
 
 -- then copies of the entries, in their order
 abbrev pub entries_made : Origin → (first : ℕ) → (new_unit : Option (List ℕ)) → List (ℕ × RrrRecord)

@@ -1,6 +1,7 @@
 //! The content `discharge`: a mortgage ends.
 ghost use Rattle.std.specs.Prelude.{◌≡◌, IfOk};
-ghost use Rattle.land_acts.specs.Mutations.Discharging.{discharge_change, discharge_refusals, has_entry_in};
+ghost use Rattle.land_acts.specs.Mutations.Discharging.{discharge_change, discharge_refusals};
+ghost use Rattle.land_acts.specs.Mutations.Discharging.{is_entry_of_unit};
 ghost use Rattle.land_acts.specs.Mutations.Discharging.{is_mortgage_at};
 ghost use Rattle.land_acts.specs.Mutations.Planning.{first_refusal_of};
 
@@ -31,7 +32,7 @@ pub(crate) fn refusal(slice: &Slice, it: &Discharge, stamp: Option<i64>) -> Opti
 
 /// Returns whether an entry of this unit exists at a number.
 fn has_entry_in(slice: &Slice, unit: u64, number: u64) -> bool
-    ensures { result ≡ has_entry_in slice.now unit number }
+    ensures { result ≡ is_entry_of_unit slice.now unit number }
 {
     match slice.rrrs.get(number) {
         Some(entry) => entry.unit == unit,

@@ -55,11 +55,11 @@ pub enum Refusal {
 }
 
 impl Refusal {
-    ghost use Rattle.land_acts.specs.Mutations.Planning.{number_of};
+    ghost use Rattle.land_acts.specs.Mutations.Planning.{refusal_number};
 
     /// Returns the number of the refusal in replies.
     pub fn number(self) -> u16
-        ensures { result ≡ number_of self }
+        ensures { result ≡ refusal_number self }
     {
         match self {
             Refusal::NotLodged => 201,

@@ -68,14 +68,14 @@ IsCallerOption rows (Some caller) = HasCaller rows caller.party caller.role
 IsCallerOption rows None = (party : ℕ) (role : Role) → HasCaller rows party role → ⊥
 
 -- The name of a command.
-abbrev pub word_of : PlainCommand → Text
-word_of (to_talk clock) = codes "talk"
-word_of (to_make file) = codes "new"
-word_of (to_serve file port connections at_once) = codes "serve"
-word_of (to_check file) = codes "check"
-word_of (to_migrate file) = codes "migrate"
-word_of (to_extract file clock party role kind at) = codes "extract"
-word_of (to_digest file at) = codes "digest"
+abbrev pub command_word : PlainCommand → Text
+command_word (to_talk clock) = codes "talk"
+command_word (to_make file) = codes "new"
+command_word (to_serve file port connections at_once) = codes "serve"
+command_word (to_check file) = codes "check"
+command_word (to_migrate file) = codes "migrate"
+command_word (to_extract file clock party role kind at) = codes "extract"
+command_word (to_digest file at) = codes "digest"
 
 -- The options of a command are those that `clap` found, each number in its range: moments from 0 to the end
 -- of the year 2099, ports from 1 to 65535, parties from 1 to 1,000,000,000, connections from 1 to 1,000,000,
@@ -99,7 +99,8 @@ HasOptions rows (to_digest file at) =
 
 -- `clap` found this command with its options.
 abbrev pub IsCommandIn : Option (Text × List Row) → PlainCommand → Type 0
-IsCommandIn found order = (rows : List Row) × (found ≡ Some (word_of order, rows)) × HasOptions rows order
+IsCommandIn found order =
+    (rows : List Row) × (found ≡ Some (command_word order, rows)) × HasOptions rows order
 
 -- The arguments name a command, with these words for roles and kinds: `clap` finds no fault, and finds the
 -- command with its options.
@@ -122,8 +123,8 @@ FindsCommand found None = (order : PlainCommand) → IsCommandIn found order →
 
 -- The command with this name and the options that were found, or they are not valid for it.
 abbrev pub HasOptionsOf : (word : Text) → List Row → Option PlainCommand → Type 0
-HasOptionsOf word rows (Some order) = (word_of order ≡ word) × HasOptions rows order
-HasOptionsOf word rows None = (order : PlainCommand) → word_of order ≡ word → HasOptions rows order → ⊥
+HasOptionsOf word rows (Some order) = (command_word order ≡ word) × HasOptions rows order
+HasOptionsOf word rows None = (order : PlainCommand) → command_word order ≡ word → HasOptions rows order → ⊥
 
 -- An error of `clap` other than out of memory rejects the arguments.
 abbrev pub IsFaultOfError : Error → WordsFault → Type 0

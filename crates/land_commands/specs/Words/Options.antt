@@ -17,28 +17,28 @@ option_rule name is_required values = record (new_rule name) {
 }
 
 -- Numbers from 0 to the last moment.
-abbrev pub moments : ValueParser
-moments = parser.Signed (pos 0) last_moment
+abbrev pub moment_parser : ValueParser
+moment_parser = parser.Signed (pos 0) last_moment
 
 -- Numbers from 1 to 65535.
-abbrev pub ports : ValueParser
-ports = parser.Signed (pos 1) (pos 65535)
+abbrev pub port_parser : ValueParser
+port_parser = parser.Signed (pos 1) (pos 65535)
 
 -- Numbers from 1 to 1000000.
-abbrev pub counts : ValueParser
-counts = parser.Signed (pos 1) (pos 1000000)
+abbrev pub count_parser : ValueParser
+count_parser = parser.Signed (pos 1) (pos 1000000)
 
 -- Numbers from 1 to 1024.
-abbrev pub limits : ValueParser
-limits = parser.Signed (pos 1) (pos 1024)
+abbrev pub limit_parser : ValueParser
+limit_parser = parser.Signed (pos 1) (pos 1024)
 
 -- Numbers from 1 to 1000000000.
-abbrev pub parties : ValueParser
-parties = parser.Signed (pos 1) (pos 1000000000)
+abbrev pub party_parser : ValueParser
+party_parser = parser.Signed (pos 1) (pos 1000000000)
 
 -- `--NAME MS`: a moment.
 abbrev pub moment_rule : (name : Text) → (is_required : Bool) → Rule
-moment_rule name is_required = option_rule name is_required moments
+moment_rule name is_required = option_rule name is_required moment_parser
 
 -- `--clock MS`
 abbrev pub clock_rule : Rule
@@ -54,19 +54,19 @@ file_rule = option_rule (codes "file") true parser.String
 
 -- `--port PORT`
 abbrev pub port_rule : Rule
-port_rule = option_rule (codes "port") true ports
+port_rule = option_rule (codes "port") true port_parser
 
 -- `--connections COUNT`
 abbrev pub connections_rule : Rule
-connections_rule = option_rule (codes "connections") true counts
+connections_rule = option_rule (codes "connections") true count_parser
 
 -- `--at-once LIMIT`, which is optional.
 abbrev pub at_once_rule : Rule
-at_once_rule = option_rule (codes "at-once") false limits
+at_once_rule = option_rule (codes "at-once") false limit_parser
 
 -- `--party NUMBER`
 abbrev pub party_rule : Rule
-party_rule = option_rule (codes "party") true parties
+party_rule = option_rule (codes "party") true party_parser
 
 -- `--role ROLE`: one of these words.
 abbrev pub role_rule : Places → Rule

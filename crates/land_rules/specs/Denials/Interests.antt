@@ -6,6 +6,7 @@ use Rattle.std.specs.List.{Contains, list_any}
 use Rattle.std.specs.Ordering.{nat_cmp}
 use Rattle.land_core.specs.Contents.{refers_to_unit_where}
 use Rattle.land_core.specs.Entries.{entries_where, some}
+use Rattle.land_core.specs.Register.{is_mutation_where}
 use Rattle.land_core.specs.Role.{is_role}
 use Rattle.land_core.specs.Units.{is_right_of}
 use Rattle.land_core.specs.declared.caller.Caller.{Caller}
@@ -19,7 +20,7 @@ use Rattle.land_core.specs.declared.rrr.RightType.TheVariants.{Ownership}
 use Rattle.land_core.specs.declared.rrr.RrrRecord.{RrrRecord}
 use Rattle.land_rules.specs.Circles.{circle_of, is_name_of}
 use Rattle.land_rules.specs.Laws.{IsSoundOrNothing}
-use Rattle.land_rules.specs.Relations.{is_mortgage, is_mutation_where, is_right, is_rrr_where}
+use Rattle.land_rules.specs.Relations.{is_mortgage_class, is_right, is_rrr_where}
 use Rattle.land_rules.specs.Relations.{is_visible_to_creditor}
 use Rattle.land_rules.specs.Rules.{sees}
 use Rattle.land_rules.specs.declared.denials.interests.Interest.{Interest}
@@ -37,23 +38,23 @@ abbrev pub entries_in_unit : Register → (unit : ℕ) → Entries
 entries_in_unit at unit = entries_where (λ n e. nat_eq e.unit unit) at.rrrs
 
 -- whether an entry is a right under one of these names
-abbrev pub is_right_in : (is_name : ℕ → Bool) → RrrRecord → Bool
-is_right_in is_name e = is_right e.class && is_name e.party
+abbrev pub is_right_under : (is_name : ℕ → Bool) → RrrRecord → Bool
+is_right_under is_name e = is_right e.class && is_name e.party
 
 -- whether an entry is an ownership under one of these names
-abbrev pub is_ownership_in : (is_name : ℕ → Bool) → RrrRecord → Bool
-is_ownership_in is_name e = is_right_of Ownership e.class && is_name e.party
+abbrev pub is_ownership_under : (is_name : ℕ → Bool) → RrrRecord → Bool
+is_ownership_under is_name e = is_right_of Ownership e.class && is_name e.party
 
 -- whether an entry is a mortgage of which the party is the creditor
 abbrev pub is_mortgage_for : (party : ℕ) → RrrRecord → Bool
-is_mortgage_for party e = is_mortgage e.class && nat_eq e.party party
+is_mortgage_for party e = is_mortgage_class e.class && nat_eq e.party party
 
 -- a citizen that has a right in a unit, under one of its names, is a holder; if one of its rights is an
 -- ownership, it is an owner
 abbrev pub interest_of_citizen : (is_name : ℕ → Bool) → Entries → Interest
 interest_of_citizen is_name entries =
-    if some (λ n e. is_right_in is_name e) entries
-    then (if some (λ n e. is_ownership_in is_name e) entries then Owner else Holder) else NoInterest
+    if some (λ n e. is_right_under is_name e) entries
+    then (if some (λ n e. is_ownership_under is_name e) entries then Owner else Holder) else NoInterest
 
 -- a bank that has a mortgage on a unit is a creditor
 abbrev pub interest_of_bank : (party : ℕ) → Entries → Interest
@@ -79,7 +80,7 @@ shows_unit Creditor = true
 -- except the mortgages of other creditors
 abbrev pub shows_entry : Interest → (party : ℕ) → RrrRecord → Bool
 shows_entry NoInterest party e = false
-shows_entry Holder party e = not (is_mortgage e.class)
+shows_entry Holder party e = not (is_mortgage_class e.class)
 shows_entry Owner party e = true
 shows_entry Creditor party e = is_visible_to_creditor party e
 

@@ -5,9 +5,9 @@ ghost use Rattle.std.specs.List.{list_any};
 ghost use Rattle.std.specs.Prelude.{◌≡◌, nat_eq};
 ghost use Rattle.land_core.specs.Entries.{some};
 ghost use Rattle.land_rules.specs.Denials.Interests.{interest_of, interest_of_bank, interest_of_citizen};
-ghost use Rattle.land_rules.specs.Denials.Interests.{is_mortgage_for, is_ownership_in, is_right_in};
+ghost use Rattle.land_rules.specs.Denials.Interests.{is_mortgage_for, is_ownership_under, is_right_under};
 ghost use Rattle.land_rules.specs.Denials.Interests.{sees_by_interest};
-ghost use Rattle.land_rules.specs.Relations.{is_mortgage, is_visible_to_creditor};
+ghost use Rattle.land_rules.specs.Relations.{is_mortgage_class, is_visible_to_creditor};
 
 use land_core::caller::Caller;
 use land_core::kind::Kind;
@@ -67,7 +67,7 @@ pub fn sees_by_interest(role: Role, kind: Kind) -> bool
 }
 
 fn is_mortgage(class: &Class) -> bool
-    ensures { result ≡ is_mortgage class.now }
+    ensures { result ≡ is_mortgage_class class.now }
 {
     class.rank().is_some()
 }
@@ -85,13 +85,13 @@ fn is_among(names: &[u64], number: u64) -> bool
 }
 
 fn is_right_in(names: &[u64], entry: &RrrRecord) -> bool
-    ensures { result ≡ is_right_in (λ named. list_any (nat_eq named) names.now) entry.now }
+    ensures { result ≡ is_right_under (λ named. list_any (nat_eq named) names.now) entry.now }
 {
     entry.class.right_type().is_some() && is_among(names, entry.party)
 }
 
 fn is_ownership_in(names: &[u64], entry: &RrrRecord) -> bool
-    ensures { result ≡ is_ownership_in (λ named. list_any (nat_eq named) names.now) entry.now }
+    ensures { result ≡ is_ownership_under (λ named. list_any (nat_eq named) names.now) entry.now }
 {
     entry.class.is_right_of(RightType::Ownership) && is_among(names, entry.party)
 }
@@ -103,13 +103,14 @@ fn is_mortgage_for(party: u64, entry: &RrrRecord) -> bool
 }
 
 fn has_right(names: &[u64], entries: &Records<RrrRecord>) -> bool
-    ensures { result ≡ some (λ n e. is_right_in (λ named. list_any (nat_eq named) names.now) e) entries.now }
+    ensures { result
+        ≡ some (λ n e. is_right_under (λ named. list_any (nat_eq named) names.now) e) entries.now }
 {
     entries.iter().any(|(_, entry)| is_right_in(names, entry))
 }
 
 fn has_ownership(names: &[u64], entries: &Records<RrrRecord>) -> bool
-    ensures { result ≡ some (λ n e. is_ownership_in
+    ensures { result ≡ some (λ n e. is_ownership_under
         (λ named. list_any (nat_eq named) names.now) e) entries.now }
 {
     entries

@@ -1,7 +1,7 @@
 //! The holdings and lodgings of a caller in a register. A list collects them once, in passes over the entries
 //! and the mutations; then it decides on each object with lookups.
 ghost use Rattle.std.specs.Prelude.{◌≡◌, ℕ, ◌||◌, nat_eq, IfOk, OnOk};
-ghost use Rattle.land_core.specs.Contents.{names_unit};
+ghost use Rattle.land_core.specs.Contents.{content_names_unit};
 ghost use Rattle.land_core.specs.Mergers.{lists_number};
 ghost use Rattle.land_rules.specs.Holdings.{AreHoldings, AreLodgedOn, AreNames, AreOfInterest};
 ghost use Rattle.land_rules.specs.Holdings.{gives_interest, has_interest_by, has_member_among, has_number};
@@ -175,7 +175,7 @@ fn lodged_units(alloc: Global, at: &Register, party: u64) -> Result<BTreeSet<u64
 /// Inserts the units to which a content refers.
 fn insert_named(units: &mut BTreeSet<u64>, content: &Content) -> Result<(), AllocError>
     ensures { OnOk result ((unit : ℕ) → has_number units.new unit
-        ≡ (has_number units.old unit || names_unit unit content.now)) }
+        ≡ (has_number units.old unit || content_names_unit unit content.now)) }
 {
     match content {
         Content::Transfer(it) => insert_unit(units, it.unit),

@@ -1,6 +1,6 @@
 //! Authorizes the caller, by lookups.
 ghost use Rattle.std.specs.Prelude.{◌≡◌};
-ghost use Rattle.land_core.specs.Grants.{grant_of, has_grant};
+ghost use Rattle.land_core.specs.Grants.{grant_to, has_grant};
 ghost use Rattle.land_core.specs.Register.{stands};
 ghost use Rattle.land_core.specs.declared.kind.Kind.TheVariants as kinds;
 ghost use Rattle.land_rules.specs.Denials.Standing.{mutation_of_ask, entry_of_ask};
@@ -38,7 +38,7 @@ use std::alloc::Global;
 
 /// Checks if a caller holds the role of its request.
 fn is_held(roles: &Roles, caller: Caller) -> bool
-    ensures { result ≡ has_grant roles.now (grant_of caller.party caller.role) }
+    ensures { result ≡ has_grant roles.now (grant_to caller.party caller.role) }
 {
     roles.contains(claimed_role(caller))
 }

@@ -7,10 +7,10 @@ ghost use Rattle.land_core.specs.declared.kind.Kind.TheVariants as kinds;
 ghost use Rattle.land_core.specs.declared.role.Role.TheVariants as roles;
 ghost use Rattle.land_rules.specs.Circles.{circle_of, is_name_of};
 ghost use Rattle.land_rules.specs.Denials.Interests.{interest_at, interest_of, is_shown_by_interest};
-ghost use Rattle.land_rules.specs.Denials.Interests.{is_mortgage_for, is_ownership_in};
+ghost use Rattle.land_rules.specs.Denials.Interests.{is_mortgage_for, is_ownership_under};
 ghost use Rattle.land_rules.specs.Denials.Interests.{sees_by_interest, shows_entry, shows_unit};
 ghost use Rattle.land_select.specs.Cache.{IsFactWith};
-ghost use Rattle.land_select.specs.Views.{AreGroupsAt, AreNamesAt, entries_by_interest};
+ghost use Rattle.land_select.specs.Views.{AreCallerGroupsAt, AreNamesAt, entries_by_interest};
 ghost use Rattle.land_select_queries.specs.Lookups.Parts.{ReadsPart};
 ghost use Rattle.land_select_queries.specs.TableReads.{ReadsTables};
 ghost use Rattle.land_tables_schema.specs.Connections.{HasRegisterTables, IsUsable, LeavesAutocommit};
@@ -50,7 +50,7 @@ fn read_groups<S: Alter>(
 ) -> Result<NumberList, ReadFault>
     requires open { IsUsable S.Store conn.old }
     requires has_tables { HasRegisterTables S.Store conn.old }
-    ensures reads_only { ReadsTables S.Store result (AreGroupsAt callers.now at) conn.old conn.new }
+    ensures reads_only { ReadsTables S.Store result (AreCallerGroupsAt callers.now at) conn.old conn.new }
     ensures autocommit { LeavesAutocommit conn.old conn.new }
 {
     run_union_for(alloc, conn, &[Selection::ItsGroups], callers, at)
@@ -174,7 +174,7 @@ fn is_entry_shown<S: Alter>(
 /// Checks if an entry is an ownership of the citizen, or a mortgage of the bank, that calls.
 fn is_own_entry(caller: Caller, entry: &RrrRecord) -> bool
     ensures { result ≡ (is_role caller.role roles.Citizen
-        && is_ownership_in (λ named. nat_eq named caller.party) entry.now
+        && is_ownership_under (λ named. nat_eq named caller.party) entry.now
         || is_role caller.role roles.Bank && is_mortgage_for caller.party entry.now) }
 {
     if is_citizen(caller.role) {

@@ -19,8 +19,8 @@ abbrev pub known_or_zero : (caller : ℕ) → ℕ
 known_or_zero caller = if is_number caller then caller else 0
 
 -- the list has exactly the wanted numbers, in any order
-abbrev pub AreAll : List ℕ → (ℕ → Type 0) → Type 0
-AreAll numbers Wanted = (n : ℕ) → Contains numbers n ↔ Wanted n
+abbrev pub AreExactly : List ℕ → (ℕ → Type 0) → Type 0
+AreExactly numbers Wanted = (n : ℕ) → Contains numbers n ↔ Wanted n
 
 -- P holds of each history that the tables hold
 abbrev pub HoldsOfHistory : Trees → (History → Type 0) → Type 0
@@ -33,11 +33,12 @@ AreRowsOf s t caller db rows = HoldsOfHistory db (λ h. AreNumberRows rows (sele
 
 -- the numbers that a selection returns for a caller at a time
 abbrev pub AreNumbersOf : Selection → (t : ℤ) → (caller : ℕ) → Trees → List ℕ → Type 0
-AreNumbersOf s t caller db numbers = HoldsOfHistory db (λ h. AreAll numbers (selects s t h caller))
+AreNumbersOf s t caller db numbers = HoldsOfHistory db (λ h. AreExactly numbers (selects s t h caller))
 
 -- the numbers that at least one of these selections returns for a caller at a time
 abbrev pub AreNumbersOfAny : List Selection → (t : ℤ) → (caller : ℕ) → Trees → List ℕ → Type 0
-AreNumbersOfAny ss t caller db numbers = HoldsOfHistory db (λ h. AreAll numbers (AnySelects ss t h caller))
+AreNumbersOfAny ss t caller db numbers =
+    HoldsOfHistory db (λ h. AreExactly numbers (AnySelects ss t h caller))
 
 -- at least one of these selections returns the number for at least one of the callers
 abbrev pub AnySelectsFor : List Selection → (t : ℤ) → History → (callers : List ℕ) → (number : ℕ) → Type 0
@@ -48,7 +49,7 @@ AnySelectsFor ss t h (caller ∷ callers) number = AnySelects ss t h caller numb
 -- the numbers that at least one of these selections returns at a time for at least one of the callers
 abbrev pub AreNumbersForAny : List Selection → (t : ℤ) → (callers : List ℕ) → Trees → List ℕ → Type 0
 AreNumbersForAny ss t callers db numbers = HoldsOfHistory db
-    (λ h. AreAll numbers (AnySelectsFor ss t h callers))
+    (λ h. AreExactly numbers (AnySelectsFor ss t h callers))
 
 -- the fault `Unreadable` is returned only if the tables hold no history
 abbrev pub HoldsNoHistory : Trees → ReadFault → Type 0

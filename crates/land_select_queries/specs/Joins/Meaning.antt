@@ -1,6 +1,6 @@
 -- The meaning of a selection's SQL statement, by the semantics that the sqlite crates give to SQL.
 use Rattle.std.specs.Prelude.{◌≡◌, ◌↔◌, ℕ, ℤ, pos, List, [], ◌∷◌, Ok, Err, Result}
-use Rattle.land_select_queries.specs.Joins.Texts.{text_of}
+use Rattle.land_select_queries.specs.Joins.Texts.{selection_text}
 use Rattle.land_select_queries.specs.Sights.Selections.{selects}
 use Rattle.land_select_queries.specs.declared.sights.selection.Selection.{Selection}
 use Rattle.land_tables_history.specs.declared.history.History.{History}
@@ -49,5 +49,5 @@ pub record GivesNumbers (text : List ℕ) (indexes : List Index) (db : Trees) (c
 abbrev pub TextsSelect : Type 0
 TextsSelect = (s : Selection) (indexes : List Index) (db : Trees) (moments : List Moment) (history : History)
     (caller : ℕ) (t : ℤ)
-    → HoldsHistory db moments history → GivesNumbers (text_of s) indexes db caller t
+    → HoldsHistory db moments history → GivesNumbers (selection_text s) indexes db caller t
     (selects s t history caller)

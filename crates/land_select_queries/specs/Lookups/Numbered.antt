@@ -18,7 +18,7 @@ use Rattle.sqlite_value.specs.Order.{Row}
 
 -- In a history that the tables hold, there are versions that represent a part of the register, and the lookup
 -- by number returns those with that number.
-pub record Keeps {V : Type 0} (said : Row → Result (Version (ℕ × V)) WireFault) (l : RecordLookup)
+pub record KeepsNumbered {V : Type 0} (said : Row → Result (Version (ℕ × V)) WireFault) (l : RecordLookup)
     (part : Register → FinMap nat_cmp V) (db : Trees) (history : History) : Type 0 where
   pub versions : List (Version (ℕ × V))
   pub stand : (t : ℤ) (r : Register) → IsRegisterAt t history r → IsPartAt t versions (part r)
@@ -29,7 +29,7 @@ pub record Keeps {V : Type 0} (said : Row → Result (Version (ℕ × V)) WireFa
 -- A lookup by number returns what represents a part of the register, in each history that the tables hold.
 abbrev pub IsFoundBy : {V : Type 0} → (Row → Result (Version (ℕ × V)) WireFault) → RecordLookup
     → (Register → FinMap nat_cmp V) → Type 0
-IsFoundBy said l part = (db : Trees) → HoldsOfHistory db (Keeps said l part db)
+IsFoundBy said l part = (db : Trees) → HoldsOfHistory db (KeepsNumbered said l part db)
 
 -- The same versions, of which the statement of their kind returns those in a range of numbers.
 pub record KeepsRanges {V : Type 0} (said : Row → Result (Version (ℕ × V)) WireFault) (k : Kind)

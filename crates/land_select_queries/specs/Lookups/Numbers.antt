@@ -2,7 +2,7 @@
 use Rattle.std.specs.Prelude.{◌≡◌, ℕ, ℤ, List}
 use Rattle.land_core.specs.declared.mutation.MutationRecord.{MutationRecord}
 use Rattle.land_select_queries.specs.Joins.Meaning.{AreNumberRows}
-use Rattle.land_select_queries.specs.Joins.Execution.{AreAll, HoldsOfHistory}
+use Rattle.land_select_queries.specs.Joins.Execution.{AreExactly, HoldsOfHistory}
 use Rattle.land_select_queries.specs.Sights.Selections.{LodgedPending, IsCurrent}
 use Rattle.land_select_queries.specs.declared.lookups.column_lookup.ColumnLookup.{ColumnLookup}
 use Rattle.land_select_queries.specs.declared.lookups.column_lookup.ColumnLookup.TheVariants as record_lookup
@@ -30,4 +30,4 @@ AreColumnRows l given t db rows = HoldsOfHistory db (λ h. AreNumberRows rows (y
 
 -- the numbers that a lookup returns for a number at a time
 abbrev pub AreColumnNumbers : ColumnLookup → (given : ℕ) → (t : ℤ) → Trees → List ℕ → Type 0
-AreColumnNumbers l given t db numbers = HoldsOfHistory db (λ h. AreAll numbers (yields l t h given))
+AreColumnNumbers l given t db numbers = HoldsOfHistory db (λ h. AreExactly numbers (yields l t h given))

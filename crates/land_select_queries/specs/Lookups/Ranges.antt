@@ -8,7 +8,7 @@ use Rattle.land_core.specs.declared.party.PartyRecord.{PartyRecord}
 use Rattle.land_core.specs.declared.rrr.RrrRecord.{RrrRecord}
 use Rattle.land_core.specs.declared.source.SourceRecord.{SourceRecord}
 use Rattle.land_core.specs.declared.unit.UnitRecord.{UnitRecord}
-use Rattle.land_select_queries.specs.Lookups.RecordRows.{AreRows}
+use Rattle.land_select_queries.specs.Lookups.RecordRows.{AreMatchingRows}
 use Rattle.land_select_queries.specs.declared.lookups.texts.TheConstants as texts
 use Rattle.land_tables_history.specs.declared.version.Version.{Version}
 use Rattle.land_tables_rows.specs.Listing.Reading.{Listing, mutations, parcels, parties, rrrs, sources, units}
@@ -48,4 +48,5 @@ text_within kind.Mutation = texts.MUTATIONS_WITHIN.now
 
 -- the rows of the records in a range of numbers at a time
 abbrev pub AreRowsWithin : Kind → (first last : ℕ) → (t : ℤ) → Trees → List Row → Type 0
-AreRowsWithin k first last t db rows = AreRows (listing_of k) (λ it. is_within first last it.0) t db rows
+AreRowsWithin k first last t db rows =
+    AreMatchingRows (listing_of k) (λ it. is_within first last it.0) t db rows

@@ -20,7 +20,7 @@ use Rattle.land_tables_history.specs.declared.group_member.GroupMember.{GroupMem
 use Rattle.land_tables_history.specs.declared.version.Version.{Version}
 use Rattle.land_tables_rows.specs.Listing.Reading.{Listing, Says, mandates, members, mutations, parcels}
 use Rattle.land_tables_rows.specs.Listing.Reading.{parties, roles, rrrs, sources, units}
-use Rattle.land_tables_rows.specs.Reading.Readings.{each_of}
+use Rattle.land_tables_rows.specs.Reading.Readings.{each_row}
 use Rattle.land_tables_rows.specs.declared.listing.fault.ReadFault.{ReadFault}
 use Rattle.land_tables_rows.specs.declared.listing.fault.ReadFault.TheVariants.{Unreadable}
 use Rattle.land_wire_json.specs.declared.bodies.wire_fault.WireFault.{WireFault}
@@ -78,27 +78,28 @@ matching_versions meant t versions = filter (λ v. is_current t v && meant v.wha
 
 -- If the rows of a table decode to some versions, these rows decode to those of them that are valid at time t
 -- and match, in any order.
-abbrev pub AreRows : {X : Type 0} → Listing (Version X) → (X → Bool) → (t : ℤ) → Trees → List Row → Type 0
-AreRows {X} listing meant t db rows = (versions : List (Version X)) → Says listing db versions
+abbrev pub AreMatchingRows : {X : Type 0} → Listing (Version X) → (X → Bool) → (t : ℤ) → Trees → List Row
+    → Type 0
+AreMatchingRows {X} listing meant t db rows = (versions : List (Version X)) → Says listing db versions
     → IsPermutation (map listing.said rows) (map (λ v. Ok v) (matching_versions meant t versions))
 
 -- the rows that a lookup returns for a number at a time
 abbrev pub AreRowsOf : RecordLookup → (number : ℕ) → (t : ℤ) → Trees → List Row → Type 0
-AreRowsOf l number t db rows = AreRows (listing_of l) (is_meant l number) t db rows
+AreRowsOf l number t db rows = AreMatchingRows (listing_of l) (is_meant l number) t db rows
 
 -- the rows of the mutation that a party lodged with a reference
 abbrev pub AreLodgedRows : (lodger : ℕ) → (reference : List ℕ) → (t : ℤ) → Trees → List Row → Type 0
 AreLodgedRows lodger reference t db rows =
-    AreRows mutations (λ mutation. is_lodged_as lodger reference mutation.1) t db rows
+    AreMatchingRows mutations (λ mutation. is_lodged_as lodger reference mutation.1) t db rows
 
 -- the rows, of the given kind, decode to this list
 abbrev pub AreReadFrom : {X : Type 0} → (Row → Result X WireFault) → (List Row → Type 0) → List X → Type 0
-AreReadFrom said Are xs = (rows : List Row) × Are rows × (each_of said rows ≡ Ok xs)
+AreReadFrom said Are xs = (rows : List Row) × Are rows × (each_row said rows ≡ Ok xs)
 
 -- A fault says that rows are unreadable only if some rows of the given kind do not decode.
 abbrev pub CannotBeRead : {X : Type 0} → (Row → Result X WireFault) → (List Row → Type 0) → ReadFault → Type 0
 CannotBeRead {X} said Are fault = fault ≡ Unreadable → (rows : List Row) × Are rows
-    × ((xs : List X) → each_of said rows ≢ Ok xs)
+    × ((xs : List X) → each_row said rows ≢ Ok xs)
 
 -- the same two for the rows that a lookup returns for a number
 abbrev pub AreReadByLookup : {X : Type 0} → (Row → Result X WireFault) → RecordLookup → (number : ℕ) → (t : ℤ)
@@ -112,7 +113,7 @@ abbrev pub LookupCannotBeRead : {X : Type 0} → (Row → Result X WireFault) �
 LookupCannotBeRead said l number t db fault = CannotBeRead said (AreRowsOf l number t db) fault
 
 -- the record of one of the versions, or `None` if there are none
-abbrev pub IsOneOf : {V : Type 0} → List (Version (ℕ × V)) → Option V → Type 0
-IsOneOf versions None = versions ≡ []
-IsOneOf {V} versions (Some value) =
+abbrev pub IsValueOfOne : {V : Type 0} → List (Version (ℕ × V)) → Option V → Type 0
+IsValueOfOne versions None = versions ≡ []
+IsValueOfOne {V} versions (Some value) =
     (version : Version (ℕ × V)) × Contains versions version × (version.what.1 ≡ value)

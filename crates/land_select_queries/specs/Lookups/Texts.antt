@@ -9,19 +9,19 @@ use Rattle.land_select_queries.specs.declared.lookups.relation.Relation.{Relatio
 use Rattle.land_select_queries.specs.declared.lookups.relation.Relation.TheVariants as relation
 use Rattle.land_select_queries.specs.declared.lookups.texts.TheConstants as texts
 
-abbrev pub text_of : RecordLookup → List ℕ
-text_of record_lookup.Party = texts.PARTY.now
-text_of record_lookup.Unit = texts.UNIT.now
-text_of record_lookup.Parcel = texts.PARCEL.now
-text_of record_lookup.Entry = texts.ENTRY.now
-text_of record_lookup.Source = texts.SOURCE.now
-text_of record_lookup.Mutation = texts.MUTATION.now
-text_of record_lookup.ParcelsOfUnit = texts.PARCELS_OF_UNIT.now
-text_of record_lookup.EntriesOfUnit = texts.ENTRIES_OF_UNIT.now
-text_of record_lookup.RolesOfParty = texts.ROLES_OF_PARTY.now
-text_of record_lookup.MembersOfGroup = texts.MEMBERS_OF_GROUP.now
-text_of record_lookup.MandatesOfAgent = texts.MANDATES_OF_AGENT.now
-text_of record_lookup.Administrators = texts.ADMINISTRATORS.now
+abbrev pub lookup_text : RecordLookup → List ℕ
+lookup_text record_lookup.Party = texts.PARTY.now
+lookup_text record_lookup.Unit = texts.UNIT.now
+lookup_text record_lookup.Parcel = texts.PARCEL.now
+lookup_text record_lookup.Entry = texts.ENTRY.now
+lookup_text record_lookup.Source = texts.SOURCE.now
+lookup_text record_lookup.Mutation = texts.MUTATION.now
+lookup_text record_lookup.ParcelsOfUnit = texts.PARCELS_OF_UNIT.now
+lookup_text record_lookup.EntriesOfUnit = texts.ENTRIES_OF_UNIT.now
+lookup_text record_lookup.RolesOfParty = texts.ROLES_OF_PARTY.now
+lookup_text record_lookup.MembersOfGroup = texts.MEMBERS_OF_GROUP.now
+lookup_text record_lookup.MandatesOfAgent = texts.MANDATES_OF_AGENT.now
+lookup_text record_lookup.Administrators = texts.ADMINISTRATORS.now
 
 -- the statement of each lookup of one column
 abbrev pub column_text_of : ColumnLookup → List ℕ

@@ -5,9 +5,9 @@ use Rattle.land_core.specs.Mutations.{is_undecided}
 use Rattle.land_core.specs.Units.{is_right_of}
 use Rattle.land_core.specs.declared.mutation.MutationRecord.{MutationRecord}
 use Rattle.land_core.specs.declared.rrr.RightType.TheVariants.{Ownership}
-use Rattle.land_rules.specs.Relations.{is_mortgage, is_right}
+use Rattle.land_rules.specs.Relations.{is_mortgage_class, is_right}
 use Rattle.land_select_queries.specs.Joins.Meaning.{AreNumberRows}
-use Rattle.land_select_queries.specs.Joins.Execution.{AreAll, HoldsOfHistory, known_or_zero}
+use Rattle.land_select_queries.specs.Joins.Execution.{AreExactly, HoldsOfHistory, known_or_zero}
 use Rattle.land_select_queries.specs.Sights.Selections.{Entry, selects}
 use Rattle.land_select_queries.specs.declared.lookups.relation.Relation.{Relation}
 use Rattle.land_select_queries.specs.declared.lookups.relation.Relation.TheVariants as relation
@@ -32,16 +32,18 @@ abbrev pub IsViewer : Relation → (t : ℤ) → History → (party seer : ℕ) 
 IsViewer relation t h party seer = selects (parties_by relation) t h seer party
 
 -- An entry is visible to the holder of a right in its unit; a mortgage only if that right is ownership.
-abbrev pub is_visible_to_holder : (party : ℕ) → (seen held : Entry) → Bool
-is_visible_to_holder party seen held =
+abbrev pub is_shown_to_holder : (party : ℕ) → (seen held : Entry) → Bool
+is_shown_to_holder party seen held =
     nat_eq held.1.unit seen.1.unit && (nat_eq seen.1.party party
-    && (is_right held.1.class && (not (is_mortgage seen.1.class) || is_right_of Ownership held.1.class)))
+    && (is_right held.1.class
+    && (not (is_mortgage_class seen.1.class) || is_right_of Ownership held.1.class)))
 
 -- An entry is visible to the creditor of a mortgage on its unit; a mortgage only if it is its own.
-abbrev pub is_visible_to_creditor : (party : ℕ) → (seen held : Entry) → Bool
-is_visible_to_creditor party seen held =
+abbrev pub is_shown_to_creditor : (party : ℕ) → (seen held : Entry) → Bool
+is_shown_to_creditor party seen held =
     nat_eq held.1.unit seen.1.unit && (nat_eq seen.1.party party
-    && (is_mortgage held.1.class && (not (is_mortgage seen.1.class) || nat_eq seen.1.party held.1.party)))
+    && (is_mortgage_class held.1.class
+    && (not (is_mortgage_class seen.1.class) || nat_eq seen.1.party held.1.party)))
 
 -- An entry is visible to the lodger of a pending mutation that refers to its unit.
 abbrev pub is_told_to_lodger : (party : ℕ) → (seen : Entry) → Naming → ℕ × MutationRecord → Bool
@@ -53,10 +55,10 @@ is_told_to_lodger party seen naming mutation =
 -- entry visible: an upper bound of the number of viewers.
 abbrev pub count_ways : Relation → (t : ℤ) → History → (party : ℕ) → ℕ
 count_ways relation.Holding t h party = sum_by
-    (λ seen. count_by (is_visible_to_holder party seen) (current_values t h.rrrs))
+    (λ seen. count_by (is_shown_to_holder party seen) (current_values t h.rrrs))
     (current_values t h.rrrs)
 count_ways relation.Crediting t h party =
-    sum_by (λ seen. count_by (is_visible_to_creditor party seen) (current_values t h.rrrs))
+    sum_by (λ seen. count_by (is_shown_to_creditor party seen) (current_values t h.rrrs))
     (current_values t h.rrrs)
 count_ways relation.Awaiting t h party =
     sum_by (λ seen. sum_by (λ naming. count_by (is_told_to_lodger party seen naming)
@@ -72,6 +74,6 @@ pub record AreViewerRows (relation : Relation) (party : ℕ) (t : ℤ) (db : Tre
 -- These are the numbers of the viewers; `None` only if there are more than sixteen pairs.
 abbrev pub AreViewers : Relation → (party : ℕ) → (t : ℤ) → Trees → Option (List ℕ) → Type 0
 AreViewers relation party t db (Some viewers_of_party) = HoldsOfHistory db
-    (λ h. AreAll viewers_of_party (IsViewer relation t h party))
+    (λ h. AreExactly viewers_of_party (IsViewer relation t h party))
 AreViewers relation party t db None = HoldsOfHistory db
     (λ h. 16 < count_ways relation t h (known_or_zero party))

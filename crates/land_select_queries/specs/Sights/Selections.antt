@@ -10,7 +10,7 @@ use Rattle.land_core.specs.declared.party.PartyRecord.{PartyRecord}
 use Rattle.land_core.specs.declared.rrr.RightType.TheVariants.{Ownership}
 use Rattle.land_core.specs.declared.rrr.RrrRecord.{RrrRecord}
 use Rattle.land_core.specs.declared.unit.UnitRecord.{UnitRecord}
-use Rattle.land_rules.specs.Relations.{is_mortgage, is_right}
+use Rattle.land_rules.specs.Relations.{is_mortgage_class, is_right}
 use Rattle.land_select_queries.specs.declared.sights.selection.Selection.{Selection}
 use Rattle.land_select_queries.specs.declared.sights.selection.Selection.TheVariants as selection
 use Rattle.land_tables_history.specs.Standing.{current_values}
@@ -54,7 +54,7 @@ pub record HoldsThrough (t : ℤ) (h : History) (caller : ℕ) (held : Entry) : 
 pub record Credits (t : ℤ) (h : History) (caller : ℕ) (held : Entry) : Type 0 where
   pub stands : IsCurrent t h.rrrs held
   pub party : held.1.party ≡ caller
-  pub class : is_mortgage held.1.class ≡ true
+  pub class : is_mortgage_class held.1.class ≡ true
 
 -- has a pending mutation that refers to the unit: lodged by the caller, neither approved nor refused
 pub record LodgedPending (t : ℤ) (h : History) (caller unit : ℕ) : Type 0 where
@@ -71,11 +71,12 @@ pub record LodgedPending (t : ℤ) (h : History) (caller unit : ℕ) : Type 0 wh
 
 -- A holder sees the entries of its unit, but mortgages only if its right is ownership.
 abbrev pub IsVisibleToHolder : (held seen : Entry) → Type 0
-IsVisibleToHolder held seen = (is_mortgage seen.1.class ≡ false) ⊎ (is_right_of Ownership held.1.class ≡ true)
+IsVisibleToHolder held seen =
+    (is_mortgage_class seen.1.class ≡ false) ⊎ (is_right_of Ownership held.1.class ≡ true)
 
 -- A creditor sees the entries of the unit, but only its own mortgages.
 abbrev pub IsVisibleToCreditor : (caller : ℕ) → (seen : Entry) → Type 0
-IsVisibleToCreditor caller seen = (is_mortgage seen.1.class ≡ false) ⊎ (seen.1.party ≡ caller)
+IsVisibleToCreditor caller seen = (is_mortgage_class seen.1.class ≡ false) ⊎ (seen.1.party ≡ caller)
 
 -- an entry of a unit in which the caller has an interest, as far as that interest shows it
 pub record IsVisibleEntry (t : ℤ) (h : History) (Interest : Entry → Type 0)

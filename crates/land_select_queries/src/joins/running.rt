@@ -2,12 +2,12 @@
 ghost use Rattle.std.specs.Prelude.{◌<◌, ◌≡◌, ◌≢◌, ◌∷◌, ◌++◌, ◌^◌, [], Err, IfErr, IfOk, OnOk, length, Ok, ℕ};
 ghost use Rattle.std.specs.List.{Contains};
 ghost use Rattle.std.specs.List.Sorted.{IsStrictlyIncreasing};
-ghost use Rattle.land_select_queries.specs.Joins.Execution.{AreAll, AreNumbersForAny, AreNumbersOf};
+ghost use Rattle.land_select_queries.specs.Joins.Execution.{AreExactly, AreNumbersForAny, AreNumbersOf};
 ghost use Rattle.land_select_queries.specs.Joins.Execution.{AreNumbersOfAny, AreRowsOf, known_or_zero};
 ghost use Rattle.land_select_queries.specs.TableReads.{FailsOnlyWithoutHistory, ReadsTables};
 ghost use Rattle.land_tables_rows.specs.Listing.Reading.{IsRead};
 ghost use Rattle.land_tables_rows.specs.Reading.Cells.{natural_in};
-ghost use Rattle.land_tables_rows.specs.Reading.Readings.{each_of};
+ghost use Rattle.land_tables_rows.specs.Reading.Readings.{each_row};
 ghost use Rattle.land_tables_rows.specs.declared.listing.fault.ReadFault.TheVariants.{NoMemory};
 ghost use Rattle.land_tables_schema.specs.Connections.{HasRegisterTables, IsUsable, LeavesAutocommit};
 ghost use Rattle.land_wire_json.specs.Bodies.WireFaults.{Returns};
@@ -68,7 +68,7 @@ fn push_number(numbers: &mut NumberList, row: &Row) -> Result<(), WireFault>
 /// Decodes the number in the only column of each row. Returns error 131 for another type, 132 for a negative
 /// number, and 501 if out of memory.
 fn each_number(alloc: Global, rows: &[Row]) -> Result<NumberList, WireFault>
-    ensures { Returns (λ it. it) result (each_of (λ row. natural_in (column row 0)) rows.now) }
+    ensures { Returns (λ it. it) result (each_row (λ row. natural_in (column row 0)) rows.now) }
 {
     let mut all = Sequence::new(alloc);
     for row in rows {
@@ -179,7 +179,7 @@ fn collect_numbers_for<S: Alter>(
 /// Sorts numbers and removes repetitions.
 fn sort_unique(mut numbers: Vec<u64>) -> Result<NumberList, ReadFault>
     ensures ascending { IfOk result IsStrictlyIncreasing }
-    ensures same { IfOk result (λ it. AreAll it (λ n. Contains numbers.items n)) }
+    ensures same { IfOk result (λ it. AreExactly it (λ n. Contains numbers.items n)) }
     ensures memory { IfErr result (λ fault. fault ≡ NoMemory) }
 {
     numbers.sort()?;

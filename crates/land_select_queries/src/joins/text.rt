@@ -1,6 +1,6 @@
 //! The SQL statement of each selection.
 ghost use Rattle.std.specs.Prelude.{◌≡◌};
-ghost use Rattle.land_select_queries.specs.Joins.Texts.{all_text, text_of};
+ghost use Rattle.land_select_queries.specs.Joins.Texts.{all_text, selection_text};
 
 use crate::joins::{all, creditor, group, holder, lodger, named, own};
 use crate::sights::selection::Selection;
@@ -23,7 +23,7 @@ fn all_of(kind: Kind) -> &'static str
 /// Returns the statement of a selection. Parameter 1 is the caller's number, parameter 2 the time in Unix
 /// milliseconds.
 pub fn text_of(selection: Selection) -> &'static str
-    ensures { result.now ≡ text_of selection }
+    ensures { result.now ≡ selection_text selection }
 {
     match selection {
         Selection::All(kind) => all_of(kind),

@@ -1,6 +1,6 @@
 //! Records by their numbers.
 ghost use Rattle.std.specs.FinMap as map;
-ghost use Rattle.land_select_queries.specs.Lookups.RecordRows.{IsOneOf};
+ghost use Rattle.land_select_queries.specs.Lookups.RecordRows.{IsValueOfOne};
 ghost use Rattle.land_select_queries.specs.Lookups.Parts.{ReadsPart};
 ghost use Rattle.land_select_queries.specs.TableReads.{FailsOnlyWithoutHistory, ReadsTables};
 ghost use Rattle.land_tables_schema.specs.Connections.{HasRegisterTables, LeavesAutocommit};
@@ -16,7 +16,7 @@ use std::alloc::Global;
 
 /// Returns the record of one of the versions, or `None` if there are none.
 fn record_of<V: Drop>(found: Sequence<Version<(u64, V)>>) -> Option<V>
-    ensures { IsOneOf found result }
+    ensures { IsValueOfOne found result }
 {
     let mut versions = found.into_vec();
     match versions.pop() {

@@ -1,6 +1,6 @@
 //! The lookups of records.
 ghost use Rattle.std.specs.Prelude.{◌≡◌};
-ghost use Rattle.land_select_queries.specs.Lookups.Texts.{text_of};
+ghost use Rattle.land_select_queries.specs.Lookups.Texts.{lookup_text};
 
 use crate::lookups::texts;
 
@@ -36,7 +36,7 @@ pub enum RecordLookup {
 /// Returns the SQL statement of a lookup. Parameter 1 is the number, parameter 2 the time in Unix
 /// milliseconds.
 pub fn text_of(record_lookup: RecordLookup) -> &'static str
-    ensures { result.now ≡ text_of record_lookup }
+    ensures { result.now ≡ lookup_text record_lookup }
 {
     match record_lookup {
         RecordLookup::Party => texts::PARTY,

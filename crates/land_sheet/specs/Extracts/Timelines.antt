@@ -1,7 +1,6 @@
 -- The effect on a keeper of reading an extract.
 use Rattle.std.specs.Prelude.{◌≡◌, ℤ, Option, unwrap_or}
 use Rattle.land_core.specs.declared.register.Register.{Register}
-use Rattle.land_keep.specs.Keeping.{IsHonestAndOpen}
 use Rattle.land_keep.specs.Machine.{now_of}
 use Rattle.land_keep.specs.Timeline.{register_at}
 use Rattle.land_keep.specs.declared.keeper.Keeper.{Ghosts}
@@ -13,7 +12,3 @@ keeper_register g keeper at = register_at (g.timeline keeper) at
 -- the requested time of a read, or now if it requests none
 abbrev pub time_of : {K : Type 0} → Ghosts K → K → (clock : ℤ) → (at : Option ℤ) → ℤ
 time_of g keeper clock at = unwrap_or at (now_of clock (g.timeline keeper))
-
--- a call leaves the timeline unchanged, if the keeper is honest and open after it
-abbrev pub LeavesTimeline : {K : Type 0} → Ghosts K → (old new : K) → Type 0
-LeavesTimeline g old new = IsHonestAndOpen (g.honest new) (g.closed new) → g.timeline new ≡ g.timeline old

@@ -1,9 +1,9 @@
 //! Writes extracts part by part.
 ghost use Rattle.std.specs.Prelude.{◌≡◌, false};
-ghost use Rattle.land_keep.specs.Keepers.{WasHonest};
+ghost use Rattle.land_keep.specs.Keepers.{LeavesTimeline, WasHonest};
 ghost use Rattle.land_keep.specs.Keeping.{Closes};
 ghost use Rattle.land_sheet.specs.Extracts.{extract_of, list_reply, rows_at};
-ghost use Rattle.land_sheet.specs.Extracts.Timelines.{LeavesTimeline, keeper_register, time_of};
+ghost use Rattle.land_sheet.specs.Extracts.Timelines.{keeper_register, time_of};
 ghost use Rattle.land_sheet.specs.Extracts.Writing.{IsExtracted, WritesText, store_result, rows_of};
 
 use crate::extracts::fault::ExtractFault;

@@ -1,11 +1,11 @@
 //! The list of objects in an extract.
 ghost use Rattle.std.specs.Prelude.{◌≡◌, IfOk};
-ghost use Rattle.land_keep.specs.Keepers.{WasHonest};
+ghost use Rattle.land_keep.specs.Keepers.{LeavesTimeline, WasHonest};
 ghost use Rattle.land_keep.specs.Keeping.{Closes};
 ghost use Rattle.land_keep.specs.Moments.{now_after};
 ghost use Rattle.land_rules.specs.Rules.{seen_of};
 ghost use Rattle.land_sheet.specs.Extracts.{list_reply};
-ghost use Rattle.land_sheet.specs.Extracts.Timelines.{LeavesTimeline, keeper_register, time_of};
+ghost use Rattle.land_sheet.specs.Extracts.Timelines.{keeper_register, time_of};
 ghost use Rattle.land_sheet.specs.Extracts.Writing.{IsListed, store_result};
 
 use crate::extracts::fault::ExtractFault;

@@ -1,9 +1,9 @@
 //! Reads an object for its row.
 ghost use Rattle.std.specs.Prelude.{◌≡◌, IfOk};
-ghost use Rattle.land_keep.specs.Keepers.{WasHonest};
+ghost use Rattle.land_keep.specs.Keepers.{LeavesTimeline, WasHonest};
 ghost use Rattle.land_keep.specs.Keeping.{Closes};
 ghost use Rattle.land_sheet.specs.Extracts.Seeing.{named_object_at};
-ghost use Rattle.land_sheet.specs.Extracts.Timelines.{LeavesTimeline, keeper_register};
+ghost use Rattle.land_sheet.specs.Extracts.Timelines.{keeper_register};
 
 use land_core::kind::Kind;
 use land_keep::keeper::Keeper;

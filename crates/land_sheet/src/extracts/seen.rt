@@ -1,11 +1,11 @@
 //! Reads the objects that a caller sees, row by row.
 ghost use Rattle.std.specs.Prelude.{◌≡◌, IfOk};
-ghost use Rattle.land_keep.specs.Keepers.{WasHonest};
+ghost use Rattle.land_keep.specs.Keepers.{LeavesTimeline, WasHonest};
 ghost use Rattle.land_keep.specs.Keeping.{Closes};
 ghost use Rattle.land_rules.specs.Rules.{seen_of};
 ghost use Rattle.land_sheet.specs.Extracts.Left.{remaining_numbers};
 ghost use Rattle.land_sheet.specs.Extracts.Seeing.{AllExist, ClosesAt, IsNextRow, LeavesNumbers};
-ghost use Rattle.land_sheet.specs.Extracts.Timelines.{LeavesTimeline, keeper_register};
+ghost use Rattle.land_sheet.specs.Extracts.Timelines.{keeper_register};
 
 use crate::extracts::row::read_row;
 use land_core::caller::Caller;

@@ -5,10 +5,10 @@ use Rattle.std.specs.List.Sorted.{IsPermutation}
 use Rattle.land_core.specs.Numbers.{IsMoment}
 use Rattle.land_keep.specs.Timeline.{IsSoundTimeline, Timeline, last_register, last_stamp, register_at}
 use Rattle.land_tables.specs.Timelines.{RepresentsTimeline, timeline_of}
-use Rattle.land_tables_history.specs.History as history
+use Rattle.land_tables_history.specs.History.{register_of_history}
 use Rattle.land_tables_history.specs.Intervals.{has_intervals}
 use Rattle.land_tables_history.specs.ValidHistory.{IsValidHistory}
-use Rattle.land_tables_history.specs.Moments.{last, next_at}
+use Rattle.land_tables_history.specs.Moments.{last, next_number_at}
 use Rattle.land_tables_history.specs.declared.history.History.{History}
 use Rattle.land_tables_history.specs.declared.moment.Moment.{Moment}
 
@@ -43,7 +43,7 @@ abbrev pub ReadingIsTheRegister : Type 0
 ReadingIsTheRegister =
     (moments : List Moment) (versions : History) (tl : Timeline) (t : ℤ)
     → RepresentsTimeline moments versions tl → IsSoundTimeline tl → IsMoment t
-    → history.register_at t versions (next_at moments t) ≡ register_at tl t
+    → register_of_history t versions (next_number_at moments t) ≡ register_at tl t
 
 -- the latest moment has the timeline's last stamp and the next number of its last register
 abbrev pub LastMomentIsTheLastStamp : Type 0

@@ -41,9 +41,9 @@ with_provided s x =
     else if int_le s.need s.reach then Some (first_reach x) else None
 
 -- the reach after one more span, if all required moments can still be provided
-abbrev pub step : Option Reach → CoverageSpan → Option Reach
-step None x = if x.required then None else Some (first_reach x)
-step (Some s) x = if x.required then with_required s x else with_provided s x
+abbrev pub cover_step : Option Reach → CoverageSpan → Option Reach
+cover_step None x = if x.required then None else Some (first_reach x)
+cover_step (Some s) x = if x.required then with_required s x else with_provided s x
 
 -- all required moments are within the reach
 abbrev pub ends_well : Option Reach → Bool
@@ -53,4 +53,4 @@ ends_well (Some s) = int_le s.need s.reach
 -- all required moments of the remaining spans are provided, from this reach on
 abbrev pub covered_from : Option Reach → List CoverageSpan → Bool
 covered_from reached [] = ends_well reached
-covered_from reached (x ∷ xs) = option_map_or (λ s. covered_from (Some s) xs) (step reached x) false
+covered_from reached (x ∷ xs) = option_map_or (λ s. covered_from (Some s) xs) (cover_step reached x) false

@@ -4,7 +4,7 @@ ghost use Rattle.std.specs.Prelude.{◌≡◌, ◌↔◌, true, None, int_lt};
 ghost use Rattle.land_tables_history.specs.Sweeps.Cover.{IsCovered};
 ghost use Rattle.land_tables_history.specs.Sweeps.CoverSteps.{with_required, first_reach, covered_from};
 ghost use Rattle.land_tables_history.specs.Sweeps.CoverSteps.{is_same_key};
-ghost use Rattle.land_tables_history.specs.Sweeps.CoverSteps.{later, with_provided, step};
+ghost use Rattle.land_tables_history.specs.Sweeps.CoverSteps.{later, with_provided, cover_step};
 
 /// A span of time in which a key is provided or required. The order of the fields is the order of the sweep.
 #[derive(Clone, Copy, Debug, PartialEq, Eq, PartialOrd, Ord)]
@@ -67,7 +67,7 @@ fn is_covered_in_order(coverage_spans: &[CoverageSpan]) -> bool
 
 /// Returns the reach after one more span, or `None` if a required moment is not provided.
 fn step(reached: Option<Reach>, piece: &CoverageSpan) -> Option<Reach>
-    ensures { result ≡ step reached piece.now }
+    ensures { result ≡ cover_step reached piece.now }
 {
     match reached {
         None if piece.required => None,

@@ -21,7 +21,7 @@ use Rattle.land_tables_rows.specs.Mutation.Reading.{mutation_in}
 use Rattle.land_tables_rows.specs.Naming.Reading.{naming_in}
 use Rattle.land_tables_rows.specs.Parcel.Reading.{parcel_in}
 use Rattle.land_tables_rows.specs.Party.Reading.{party_in}
-use Rattle.land_tables_rows.specs.Reading.Readings.{each_of}
+use Rattle.land_tables_rows.specs.Reading.Readings.{each_row}
 use Rattle.land_tables_rows.specs.Role.Reading.{role_grant_in}
 use Rattle.land_tables_rows.specs.Rrr.Reading.{rrr_in}
 use Rattle.land_tables_rows.specs.Source.Reading.{source_in}
@@ -120,9 +120,9 @@ pub record DecodesHistory (db : Trees) (history : History) : Type 0 where
 -- decode
 abbrev pub IsRead : {X : Type 0} → (Row → Result X WireFault) → (List Row) → Result (List X) ReadFault
     → Type 0
-IsRead said rows (Ok xs) = each_of said rows ≡ Ok xs
+IsRead said rows (Ok xs) = each_row said rows ≡ Ok xs
 IsRead {X} said rows (Err fault) =
-    fault ≢ NoMemory → (fault ≡ Unreadable) × ((xs : List X) → each_of said rows ≢ Ok xs)
+    fault ≢ NoMemory → (fault ≡ Unreadable) × ((xs : List X) → each_row said rows ≢ Ok xs)
 
 -- a fault `Unreadable` is returned only if the rows decode to no value
 abbrev pub UnreadableOnlyIfNone : {X : Type 0} → (X → Type 0) → ReadFault → Type 0

@@ -3,7 +3,7 @@ use Rattle.std.specs.Prelude.{List, [], map, Result, Ok, Err}
 use Rattle.land_tables_history.specs.declared.history.History.{History}
 use Rattle.land_tables_rows.specs.Listing.Reading.{Listing, mandates, members, mutations, namings, parcels}
 use Rattle.land_tables_rows.specs.Listing.Reading.{parties, roles, rrrs, sources, units}
-use Rattle.land_tables_rows.specs.Reading.Readings.{each_of}
+use Rattle.land_tables_rows.specs.Reading.Readings.{each_row}
 use Rattle.land_wire_json.specs.declared.bodies.wire_fault.WireFault.{WireFault}
 use Rattle.sqlite_trees.specs.Tree.{Trees}
 
@@ -13,7 +13,7 @@ ok_or_empty (Ok xs) = xs
 ok_or_empty (Err fault) = []
 
 abbrev pub decode_rows : {X : Type 0} → Listing X → Trees → List X
-decode_rows listing db = ok_or_empty (each_of listing.said (map listing.shown (db listing.table.tree)))
+decode_rows listing db = ok_or_empty (each_row listing.said (map listing.shown (db listing.table.tree)))
 
 -- the history in tables of schema version 1
 abbrev pub decoded_history_v1 : Trees → History

@@ -7,8 +7,8 @@ use Rattle.land_tables_rows.specs.Writing.Holding.{Reading}
 use Rattle.land_tables_schema.specs.Tables as table
 
 -- the mandates of the table, by principal and agent
-abbrev pub mandates : Reading Mandate
-mandates = record { table = table.mandate; width = 4; said = mandate_in }
+abbrev pub mandate_reading : Reading Mandate
+mandate_reading = record { table = table.mandate; width = 4; said = mandate_in }
 
 -- a mandate can be written if the numbers of the principal and of the agent are within their limits
 abbrev pub fits_mandate : Mandate → Bool

@@ -7,8 +7,8 @@ use Rattle.land_tables_rows.specs.Writing.Holding.{Reading}
 use Rattle.land_tables_schema.specs.Tables as table
 
 -- members of groups
-abbrev pub members : Reading GroupMember
-members = record { table = table.member; width = 6; said = member_in }
+abbrev pub member_reading : Reading GroupMember
+member_reading = record { table = table.member; width = 6; said = member_in }
 
 -- a member can be written if the numbers of the group and of the party are within their limits
 abbrev pub fits_member : GroupMember → Bool

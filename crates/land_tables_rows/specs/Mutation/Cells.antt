@@ -5,7 +5,7 @@ use Rattle.std.specs.Str.{is_utf8}
 use Rattle.land_core.specs.Contents.{is_well_formed_content}
 use Rattle.land_core.specs.Numbers.{is_number, last_moment}
 use Rattle.land_core.specs.Texts.{is_reference}
-use Rattle.land_core.specs.Words.{act_word, state_word}
+use Rattle.land_core.specs.Words.{content_word, state_word}
 use Rattle.land_core.specs.declared.content.Content.{Content}
 use Rattle.land_core.specs.declared.content.Content.TheVariants as content
 use Rattle.land_core.specs.declared.mutation.MutationRecord.{MutationRecord}
@@ -23,7 +23,7 @@ mutation_row_of e = record {
   reference = e.1.reference;
   source = e.1.source;
   lodged = e.1.lodged;
-  act = act_word e.1.content;
+  act = content_word e.1.content;
   content = content_text e.1.content;
   state = state_word e.1.state;
 }

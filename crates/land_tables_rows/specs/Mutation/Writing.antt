@@ -6,5 +6,5 @@ use Rattle.land_tables_rows.specs.Writing.Holding.{Reading}
 use Rattle.land_tables_schema.specs.Tables as table
 
 -- mutations by number
-abbrev pub mutations : Reading (ℕ × MutationRecord)
-mutations = record { table = table.mutation; width = 10; said = mutation_in }
+abbrev pub mutation_reading : Reading (ℕ × MutationRecord)
+mutation_reading = record { table = table.mutation; width = 10; said = mutation_in }

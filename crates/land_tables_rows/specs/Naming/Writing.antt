@@ -7,8 +7,8 @@ use Rattle.land_tables_rows.specs.Writing.Holding.{Reading}
 use Rattle.land_tables_schema.specs.Tables as table
 
 -- which mutations refer to which units
-abbrev pub namings : Reading Naming
-namings = record { table = table.names; width = 4; said = naming_in }
+abbrev pub naming_reading : Reading Naming
+naming_reading = record { table = table.names; width = 4; said = naming_in }
 
 -- a link can be written if the numbers of the mutation and of the unit are within their limits
 abbrev pub fits_naming : Naming → Bool

@@ -21,8 +21,8 @@ parcel_row_of e =
     }
 
 -- the parcel that the cells of a row represent
-abbrev pub parcel_of : ParcelCells → ParcelRow
-parcel_of c =
+abbrev pub parcel_row_of_cells : ParcelCells → ParcelRow
+parcel_row_of_cells c =
     record {
       number = c.number;
       unit = c.unit;

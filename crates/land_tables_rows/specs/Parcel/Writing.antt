@@ -6,5 +6,5 @@ use Rattle.land_tables_rows.specs.Writing.Holding.{Reading}
 use Rattle.land_tables_schema.specs.Tables as table
 
 -- parcels by number
-abbrev pub parcels : Reading (ℕ × ParcelRecord)
-parcels = record { table = table.parcel; width = 7; said = parcel_in }
+abbrev pub parcel_reading : Reading (ℕ × ParcelRecord)
+parcel_reading = record { table = table.parcel; width = 7; said = parcel_in }

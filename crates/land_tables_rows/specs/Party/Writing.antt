@@ -8,8 +8,8 @@ use Rattle.land_tables_rows.specs.Writing.Holding.{Reading}
 use Rattle.land_tables_schema.specs.Tables.{party}
 
 -- parties by number
-abbrev pub parties : Reading (ℕ × PartyRecord)
-parties = record { table = party; width = 5; said = party_in }
+abbrev pub party_reading : Reading (ℕ × PartyRecord)
+party_reading = record { table = party; width = 5; said = party_in }
 
 -- a party can be written if its number and its name are within their limits
 abbrev pub fits_party : ℕ → PartyRecord → Bool

@@ -18,11 +18,11 @@ use Rattle.land_wire_json.specs.declared.bodies.wire_fault.WireFault.TheVariants
 use Rattle.sqlite_value.specs.declared.value.Value.{Value}
 
 -- the kinds of parties: groups, and those that are enrolled
-abbrev pub kind_of : List ℕ → Result PartyKind WireFault
-kind_of word = if bytes_eq word (codes "group") then Ok kind.Group else body.kind_of word
+abbrev pub party_kind_of : List ℕ → Result PartyKind WireFault
+party_kind_of word = if bytes_eq word (codes "group") then Ok kind.Group else body.enrolled_kind_of word
 
 unfoldable pub party_kind_in : Value → Result PartyKind WireFault
-party_kind_in cell = text_in cell >>= kind_of
+party_kind_in cell = text_in cell >>= party_kind_of
 
 unfoldable pub role_in : Value → Result Role WireFault
 role_in cell = text_in cell >>= body.role_of
@@ -37,22 +37,22 @@ unfoldable pub source_kind_in : Value → Result SourceKind WireFault
 source_kind_in cell = text_in cell >>= source_kind_of
 
 -- the states of mutations
-abbrev pub state_of : List ℕ → Result MutationState WireFault
-state_of word =
+abbrev pub mutation_state_of : List ℕ → Result MutationState WireFault
+mutation_state_of word =
     if bytes_eq word (codes "lodged") then Ok state.Lodged
     else (if bytes_eq word (codes "approved") then Ok state.Approved
     else (if bytes_eq word (codes "refused") then Ok state.Refused else Err fault.Text))
 
 unfoldable pub state_in : Value → Result MutationState WireFault
-state_in cell = text_in cell >>= state_of
+state_in cell = text_in cell >>= mutation_state_of
 
 -- the classes of entries; a right has the word of its type
-abbrev pub class_of : List ℕ → Result ClassWord WireFault
-class_of word =
+abbrev pub entry_class_of : List ℕ → Result ClassWord WireFault
+entry_class_of word =
     if bytes_eq word (codes "restriction") then Ok class.Restriction
     else (if bytes_eq word (codes "responsibility") then Ok class.Responsibility
     else (if bytes_eq word (codes "mortgage") then Ok class.Mortgage
-    else (body.type_of word >>= λ type. Ok (class.Right type))))
+    else (body.right_type_of word >>= λ type. Ok (class.Right type))))
 
 unfoldable pub class_word_in : Value → Result ClassWord WireFault
-class_word_in cell = text_in cell >>= class_of
+class_word_in cell = text_in cell >>= entry_class_of

@@ -68,8 +68,8 @@ fits_change change =
 -- ---- lists
 
 -- the members of one group, each with the group's number
-abbrev pub group_members : ℕ → Members → List GroupMember
-group_members group members = map_list (λ m. record { group = group; member = m }) (members_in members)
+abbrev pub memberships_of_group : ℕ → Members → List GroupMember
+memberships_of_group group members = map_list (λ m. record { group = group; member = m }) (members_in members)
 
 -- the units that a mutation refers to, each with the mutation's number
 abbrev pub names_of : (mutation : ℕ) → (units : List ℕ) → List Naming

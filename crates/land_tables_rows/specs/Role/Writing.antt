@@ -7,8 +7,8 @@ use Rattle.land_tables_rows.specs.Writing.Holding.{Reading}
 use Rattle.land_tables_schema.specs.Tables as table
 
 -- the roles of each party
-abbrev pub roles : Reading Grant
-roles = record { table = table.role; width = 4; said = role_grant_in }
+abbrev pub role_reading : Reading Grant
+role_reading = record { table = table.role; width = 4; said = role_grant_in }
 
 -- a grant can be written if the number of its party is within its limits
 abbrev pub fits_grant : Grant → Bool

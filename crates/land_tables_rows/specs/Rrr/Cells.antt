@@ -14,11 +14,11 @@ use Rattle.land_tables_rows.specs.declared.reading.words.ClassWord.TheVariants a
 use Rattle.land_tables_schema.specs.Rows.Rrr.{RrrRow}
 
 -- the word of a class; a right has that of its type
-abbrev pub class_word : ClassWord → List ℕ
-class_word (word.Right type) = right_word type
-class_word word.Restriction = codes "restriction"
-class_word word.Responsibility = codes "responsibility"
-class_word word.Mortgage = codes "mortgage"
+abbrev pub class_column_word : ClassWord → List ℕ
+class_column_word (word.Right type) = right_word type
+class_column_word word.Restriction = codes "restriction"
+class_column_word word.Responsibility = codes "responsibility"
+class_column_word word.Mortgage = codes "mortgage"
 
 -- the cells that every entry has, with the word of its class; the columns of the classes are NULL
 abbrev pub blank_row : ℕ × RrrRecord → ClassWord → RrrRow
@@ -26,7 +26,7 @@ blank_row e which = record {
   number = e.0;
   unit = e.1.unit;
   party = e.1.party;
-  class = class_word which;
+  class = class_column_word which;
   num = None;
   den = None;
   amount = None;

@@ -6,5 +6,5 @@ use Rattle.land_tables_rows.specs.Writing.Holding.{Reading}
 use Rattle.land_tables_schema.specs.Tables as table
 
 -- entries of units by number
-abbrev pub rrrs : Reading (ℕ × RrrRecord)
-rrrs = record { table = table.rrr; width = 13; said = rrr_in }
+abbrev pub rrr_reading : Reading (ℕ × RrrRecord)
+rrr_reading = record { table = table.rrr; width = 13; said = rrr_in }

@@ -8,8 +8,8 @@ use Rattle.land_tables_rows.specs.Writing.Holding.{Reading}
 use Rattle.land_tables_schema.specs.Tables as table
 
 -- sources by number
-abbrev pub sources : Reading (ℕ × SourceRecord)
-sources = record { table = table.source; width = 5; said = source_in }
+abbrev pub source_reading : Reading (ℕ × SourceRecord)
+source_reading = record { table = table.source; width = 5; said = source_in }
 
 -- a source can be written if its number and its title are within their limits
 abbrev pub fits_source : ℕ → SourceRecord → Bool

@@ -8,8 +8,8 @@ use Rattle.land_tables_rows.specs.Writing.Holding.{Reading}
 use Rattle.land_tables_schema.specs.Tables as table
 
 -- units by number
-abbrev pub units : Reading (ℕ × UnitRecord)
-units = record { table = table.unit; width = 5; said = unit_in }
+abbrev pub unit_reading : Reading (ℕ × UnitRecord)
+unit_reading = record { table = table.unit; width = 5; said = unit_in }
 
 -- a unit can be written if its number and its name are within their limits
 abbrev pub fits_unit : ℕ → UnitRecord → Bool

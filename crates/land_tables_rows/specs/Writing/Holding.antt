@@ -31,8 +31,8 @@ pub record Begins {X : Type 0} (reading : Reading X) (x : X) (since : ℤ) (old 
   pub kept : KeepsOthers reading.table old.trees new.trees
 
 -- the matching current versions end at a moment
-pub record Closes {X : Type 0} (reading : Reading X) (meant : X → Bool) (stamp : ℤ) (old new : Database)
-    : Type 0 where
+pub record ClosesVersions {X : Type 0} (reading : Reading X) (meant : X → Bool) (stamp : ℤ)
+    (old new : Database) : Type 0 where
   pub schema : new.schema ≡ old.schema
   pub held : (versions : List (Version X)) → Keeps reading old.trees versions
       → Keeps reading new.trees (map (closed_version meant stamp) versions)

@@ -4,17 +4,17 @@ use Rattle.land_tables_history.specs.declared.history.History.{History}
 use Rattle.land_tables_history.specs.declared.moment.Moment.{Moment}
 use Rattle.land_tables_history.specs.declared.version.Version.{Version}
 use Rattle.land_tables_rows.specs.Edition.Writing.{HoldsEditions, v2_edition, v1_edition}
-use Rattle.land_tables_rows.specs.Mandate.Writing as mandate
-use Rattle.land_tables_rows.specs.Member.Writing as member
+use Rattle.land_tables_rows.specs.Mandate.Writing.{mandate_reading}
+use Rattle.land_tables_rows.specs.Member.Writing.{member_reading}
 use Rattle.land_tables_rows.specs.Moment.Writing.{HoldsMoments}
-use Rattle.land_tables_rows.specs.Mutation.Writing as mutation
-use Rattle.land_tables_rows.specs.Naming.Writing as naming
-use Rattle.land_tables_rows.specs.Parcel.Writing as parcel
-use Rattle.land_tables_rows.specs.Party.Writing as party
-use Rattle.land_tables_rows.specs.Role.Writing as role
-use Rattle.land_tables_rows.specs.Rrr.Writing as rrr
-use Rattle.land_tables_rows.specs.Source.Writing as source
-use Rattle.land_tables_rows.specs.Unit.Writing as unit
+use Rattle.land_tables_rows.specs.Mutation.Writing.{mutation_reading}
+use Rattle.land_tables_rows.specs.Naming.Writing.{naming_reading}
+use Rattle.land_tables_rows.specs.Parcel.Writing.{parcel_reading}
+use Rattle.land_tables_rows.specs.Party.Writing.{party_reading}
+use Rattle.land_tables_rows.specs.Role.Writing.{role_reading}
+use Rattle.land_tables_rows.specs.Rrr.Writing.{rrr_reading}
+use Rattle.land_tables_rows.specs.Source.Writing.{source_reading}
+use Rattle.land_tables_rows.specs.Unit.Writing.{unit_reading}
 use Rattle.land_tables_rows.specs.Writing.History.{HoldsHistoryV1, HoldsHistory}
 use Rattle.land_tables_rows.specs.Writing.Holding.{Keeps, Reading}
 use Rattle.land_tables_rows.specs.Writing.NewHistory.{new_history, new_moments}
@@ -38,16 +38,16 @@ pub record TableChangesKeepHistory : Type 0 where
   pub moments : (old new : Trees) (moments others : List Moment) (history : History)
       → HoldsHistory old moments history → KeepsOthers table.moments old new → HoldsMoments new others
       → HoldsHistory new others history
-  pub parties : HoldsWith party.parties (λ vs h. record h { parties = vs })
-  pub roles : HoldsWith role.roles (λ vs h. record h { roles = vs })
-  pub members : HoldsWith member.members (λ vs h. record h { members = vs })
-  pub units : HoldsWith unit.units (λ vs h. record h { units = vs })
-  pub parcels : HoldsWith parcel.parcels (λ vs h. record h { parcels = vs })
-  pub rrrs : HoldsWith rrr.rrrs (λ vs h. record h { rrrs = vs })
-  pub sources : HoldsWith source.sources (λ vs h. record h { sources = vs })
-  pub mutations : HoldsWith mutation.mutations (λ vs h. record h { mutations = vs })
-  pub namings : HoldsWith naming.namings (λ vs h. record h { namings = vs })
-  pub mandates : HoldsWith mandate.mandates (λ vs h. record h { mandates = vs })
+  pub parties : HoldsWith party_reading (λ vs h. record h { parties = vs })
+  pub roles : HoldsWith role_reading (λ vs h. record h { roles = vs })
+  pub members : HoldsWith member_reading (λ vs h. record h { members = vs })
+  pub units : HoldsWith unit_reading (λ vs h. record h { units = vs })
+  pub parcels : HoldsWith parcel_reading (λ vs h. record h { parcels = vs })
+  pub rrrs : HoldsWith rrr_reading (λ vs h. record h { rrrs = vs })
+  pub sources : HoldsWith source_reading (λ vs h. record h { sources = vs })
+  pub mutations : HoldsWith mutation_reading (λ vs h. record h { mutations = vs })
+  pub namings : HoldsWith naming_reading (λ vs h. record h { namings = vs })
+  pub mandates : HoldsWith mandate_reading (λ vs h. record h { mandates = vs })
 
 -- the rows of a new register decode to its history and to edition 2
 pub record NewRowsAreRead (db : Trees) : Type 0 where

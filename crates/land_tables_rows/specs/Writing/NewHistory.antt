@@ -1,6 +1,6 @@
 -- The content of a new register.
 use Rattle.std.specs.Prelude.{pos, codes, List, [], ◌∷◌}
-use Rattle.land_core.specs.Grants.{grant_of}
+use Rattle.land_core.specs.Grants.{grant_to}
 use Rattle.land_core.specs.declared.kind.PartyKind.TheVariants.{NonNaturalPerson}
 use Rattle.land_core.specs.declared.role.Role.TheVariants.{StateAdministrator}
 use Rattle.land_tables_history.specs.Changed.{opened_version}
@@ -15,7 +15,7 @@ new_moments = record { stamp = pos 0; next = 2 } ∷ []
 abbrev pub new_history : History
 new_history = record {
   parties = opened_version (1, record { kind = NonNaturalPerson; name = codes "Land Office" }) (pos 0) ∷ [];
-  roles = opened_version (grant_of 1 StateAdministrator) (pos 0) ∷ [];
+  roles = opened_version (grant_to 1 StateAdministrator) (pos 0) ∷ [];
   members = [];
   units = [];
   parcels = [];

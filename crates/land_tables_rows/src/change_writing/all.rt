@@ -5,7 +5,7 @@ ghost use Rattle.land_core.specs.Numbers.{IsMoment};
 ghost use Rattle.land_tables_history.specs.Written.{existing_records};
 ghost use Rattle.land_tables_rows.specs.Effects.{Performs};
 ghost use Rattle.land_tables_rows.specs.Recording.{BeginsAll, Changes};
-ghost use Rattle.land_tables_rows.specs.Writing.Holding.{Closes};
+ghost use Rattle.land_tables_rows.specs.Writing.Holding.{ClosesVersions};
 ghost use Rattle.land_tables_schema.specs.Connections.{HasRegisterTables, SameReference};
 
 use crate::change_writing::versioned::{Closable, HasKey, Versioned};
@@ -56,7 +56,7 @@ pub fn close_all<S: Alter, K, X: Closable<K>>(
     requires has_tables { HasRegisterTables S.Store tx.old.conn.now }
     ensures same_reference { SameReference tx.old tx.new }
     ensures step { Performs S.Store result
-        (Closes X.reading (λ x. list_any (X.has x) keys.now) stamp) tx.old tx.new }
+        (ClosesVersions X.reading (λ x. list_any (X.has x) keys.now) stamp) tx.old tx.new }
 {
     for key in keys {
         X::close(tx, key, stamp)?;
@@ -77,7 +77,7 @@ pub fn close_put<S: Alter, K, P: HasKey<K>, X: Closable<K>>(
     requires has_tables { HasRegisterTables S.Store tx.old.conn.now }
     ensures same_reference { SameReference tx.old tx.new }
     ensures step { Performs S.Store result
-        (Closes X.reading
+        (ClosesVersions X.reading
         (λ x. list_any (X.has x) (map P.key (existing_records P.number next put.now))) stamp) tx.old tx.new }
 {
     for x in put {

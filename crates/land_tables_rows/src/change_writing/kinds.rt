@@ -6,9 +6,9 @@ ghost use Rattle.land_core.specs.Numbers.{is_number, IsMoment};
 ghost use Rattle.land_tables_history.specs.Changed.{is_changed, listed_members, named_by, new_mutations};
 ghost use Rattle.land_tables_history.specs.Written.{existing_records};
 ghost use Rattle.land_tables_rows.specs.Effects.{Performs};
-ghost use Rattle.land_tables_rows.specs.Member.Writing.{members};
+ghost use Rattle.land_tables_rows.specs.Member.Writing.{member_reading};
 ghost use Rattle.land_tables_rows.specs.Mutation.Cells.{fits_mutation};
-ghost use Rattle.land_tables_rows.specs.Naming.Writing.{namings};
+ghost use Rattle.land_tables_rows.specs.Naming.Writing.{naming_reading};
 ghost use Rattle.land_tables_rows.specs.Recording.{BeginsAll, Changes};
 ghost use Rattle.land_tables_rows.specs.Recording.Whole.{fits_group, fits_kind};
 ghost use Rattle.land_tables_schema.specs.Connections.{HasRegisterTables, SameReference};
@@ -99,7 +99,7 @@ pub(crate) fn change_members<S: Alter>(
     requires has_tables { HasRegisterTables S.Store tx.old.conn.now }
     ensures same_reference { SameReference tx.old tx.new }
     ensures step { Performs S.Store result
-        (Changes members (listed_members put.now)
+        (Changes member_reading (listed_members put.now)
         (λ e. is_changed (existing_records (λ g. g.0) next put.now) ended.now e.group) stamp) tx.old tx.new }
 {
     let listed = list_members(alloc, put.as_slice())?;
@@ -121,7 +121,7 @@ pub(crate) fn begin_names<S: Alter>(
     requires has_tables { HasRegisterTables S.Store tx.old.conn.now }
     ensures same_reference { SameReference tx.old tx.new }
     ensures step { Performs S.Store result
-        (BeginsAll namings (named_by (new_mutations next put.now)) stamp) tx.old tx.new }
+        (BeginsAll naming_reading (named_by (new_mutations next put.now)) stamp) tx.old tx.new }
 {
     let names = list_names(alloc, next, put.as_slice())?;
     begin_all(alloc, tx, names.as_slice(), stamp)

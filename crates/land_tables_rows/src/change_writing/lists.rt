@@ -1,7 +1,7 @@
 //! Lists rows that have no number of their own: members of groups, and links of mutations to units.
 ghost use Rattle.std.specs.Prelude.{◌≡◌, ◌++◌, ◌∷◌, [], IfOk, OnOk};
 ghost use Rattle.land_tables_history.specs.Changed.{listed_members, named_by, new_mutations};
-ghost use Rattle.land_tables_rows.specs.Recording.Whole.{group_members, mutation_names, names_of};
+ghost use Rattle.land_tables_rows.specs.Recording.Whole.{memberships_of_group, mutation_names, names_of};
 
 use land_core::content::Content;
 use land_core::member::{Member, Members};
@@ -31,7 +31,7 @@ fn add_members(
     group: u64,
     members: &Members,
 ) -> Result<(), AllocError>
-    ensures { OnOk result (listed.new ≡ listed.old ++ group_members group members.now) }
+    ensures { OnOk result (listed.new ≡ listed.old ++ memberships_of_group group members.now) }
 {
     for (party, share) in members.iter() {
         let member = Member {

@@ -2,7 +2,7 @@
 ghost use Rattle.std.specs.Prelude.{◌≡◌, ℕ, Bool, IsTrue};
 ghost use Rattle.land_core.specs.Numbers.{IsMoment};
 ghost use Rattle.land_tables_rows.specs.Effects.{Performs};
-ghost use Rattle.land_tables_rows.specs.Writing.Holding.{Begins, Closes, Reading};
+ghost use Rattle.land_tables_rows.specs.Writing.Holding.{Begins, ClosesVersions, Reading};
 ghost use Rattle.land_tables_schema.specs.Connections.{HasRegisterTables, SameReference};
 
 use sqlite::{Alter, Error, Transaction};
@@ -84,5 +84,5 @@ pub trait Closable<K>: Versioned {
         requires has_tables { HasRegisterTables S.Store tx.old.conn.now }
         ensures same_reference { SameReference tx.old tx.new }
         ensures step { Performs S.Store result
-            (Closes Self.reading (λ x. has x key.now) stamp) tx.old tx.new };
+            (ClosesVersions Self.reading (λ x. has x key.now) stamp) tx.old tx.new };
 }

@@ -2,7 +2,7 @@
 ghost use Rattle.std.specs.Prelude.{◌≡◌, IsTrue};
 ghost use Rattle.land_core.specs.declared.mandates.Mandate.{Mandate};
 ghost use Rattle.land_tables_history.specs.Intervals.{is_same_mandate};
-ghost use Rattle.land_tables_rows.specs.Mandate.Writing.{fits_mandate, mandates};
+ghost use Rattle.land_tables_rows.specs.Mandate.Writing.{fits_mandate, mandate_reading};
 
 use crate::change_writing::versioned::{Closable, HasKey, Versioned};
 use crate::mandate::writing;
@@ -11,7 +11,7 @@ use sqlite::{Alter, Error, Transaction};
 use std::alloc::Global;
 
 impl Versioned for Mandate {
-    ghost reading = { mandates };
+    ghost reading = { mandate_reading };
 
     ghost fits = { fits_mandate };
 

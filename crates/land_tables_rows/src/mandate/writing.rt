@@ -3,8 +3,8 @@ ghost use Rattle.std.specs.Prelude.{◌≡◌, ◌<◌, ◌^◌, IsTrue};
 ghost use Rattle.land_core.specs.Numbers.{IsMoment};
 ghost use Rattle.land_tables_history.specs.Intervals.{is_same_mandate};
 ghost use Rattle.land_tables_rows.specs.Effects.{Performs};
-ghost use Rattle.land_tables_rows.specs.Mandate.Writing.{fits_mandate, mandates};
-ghost use Rattle.land_tables_rows.specs.Writing.Holding.{Begins, Closes};
+ghost use Rattle.land_tables_rows.specs.Mandate.Writing.{fits_mandate, mandate_reading};
+ghost use Rattle.land_tables_rows.specs.Writing.Holding.{Begins, ClosesVersions};
 ghost use Rattle.land_tables_schema.specs.Connections.{HasRegisterTables, SameReference};
 
 use land_core::limits::is_number;
@@ -29,7 +29,7 @@ pub fn begin<S: Alter>(
     requires moment { IsMoment since }
     requires has_tables { HasRegisterTables S.Store tx.old.conn.now }
     ensures same_reference { SameReference tx.old tx.new }
-    ensures step { Performs S.Store result (Begins mandates mandate since) tx.old tx.new }
+    ensures step { Performs S.Store result (Begins mandate_reading mandate since) tx.old tx.new }
 {
     rows::mandate::begin(tx, mandate.principal, mandate.agent, since)
 }
@@ -46,7 +46,7 @@ pub fn close<S: Alter>(
     requires has_tables { HasRegisterTables S.Store tx.old.conn.now }
     ensures same_reference { SameReference tx.old tx.new }
     ensures step { Performs S.Store result
-        (Closes mandates (λ e. is_same_mandate e mandate) stamp) tx.old tx.new }
+        (ClosesVersions mandate_reading (λ e. is_same_mandate e mandate) stamp) tx.old tx.new }
 {
     rows::mandate::close(tx, mandate.principal, mandate.agent, stamp)
 }

@@ -2,7 +2,7 @@
 ghost use Rattle.std.specs.Prelude.{◌≡◌, ℕ, nat_eq, IsTrue};
 ghost use Rattle.land_core.specs.Numbers.{is_number};
 ghost use Rattle.land_tables_history.specs.declared.group_member.GroupMember.{GroupMember};
-ghost use Rattle.land_tables_rows.specs.Member.Writing.{fits_member, members};
+ghost use Rattle.land_tables_rows.specs.Member.Writing.{fits_member, member_reading};
 
 use crate::change_writing::versioned::{Closable, Versioned};
 use crate::member::writing;
@@ -12,7 +12,7 @@ use sqlite::{Alter, Error, Transaction};
 use std::alloc::Global;
 
 impl Versioned for GroupMember {
-    ghost reading = { members };
+    ghost reading = { member_reading };
 
     ghost fits = { fits_member };
 

@@ -2,8 +2,8 @@
 ghost use Rattle.std.specs.Prelude.{◌≡◌, ◌<◌, ◌^◌, IsTrue, nat_eq};
 ghost use Rattle.land_core.specs.Numbers.{IsMoment};
 ghost use Rattle.land_tables_rows.specs.Effects.{Performs};
-ghost use Rattle.land_tables_rows.specs.Member.Writing.{fits_member, members};
-ghost use Rattle.land_tables_rows.specs.Writing.Holding.{Begins, Closes};
+ghost use Rattle.land_tables_rows.specs.Member.Writing.{fits_member, member_reading};
+ghost use Rattle.land_tables_rows.specs.Writing.Holding.{Begins, ClosesVersions};
 ghost use Rattle.land_tables_schema.specs.Connections.{HasRegisterTables, SameReference};
 
 use land_core::limits::is_number;
@@ -28,7 +28,7 @@ pub fn begin<S: Alter>(
     requires moment { IsMoment since }
     requires has_tables { HasRegisterTables S.Store tx.old.conn.now }
     ensures same_reference { SameReference tx.old tx.new }
-    ensures step { Performs S.Store result (Begins members entry.now since) tx.old tx.new }
+    ensures step { Performs S.Store result (Begins member_reading entry.now since) tx.old tx.new }
 {
     let numerator = entry.member.share.numerator();
     let denominator = entry.member.share.denominator();
@@ -48,7 +48,8 @@ pub fn close<S: Alter>(tx: &mut Transaction<'_, S>, group: u64, stamp: i64) -> R
     requires moment { IsMoment stamp }
     requires has_tables { HasRegisterTables S.Store tx.old.conn.now }
     ensures same_reference { SameReference tx.old tx.new }
-    ensures step { Performs S.Store result (Closes members (λ e. nat_eq e.group group) stamp) tx.old tx.new }
+    ensures step { Performs S.Store result
+        (ClosesVersions member_reading (λ e. nat_eq e.group group) stamp) tx.old tx.new }
 {
     rows::member::close(tx, group, stamp)
 }

@@ -3,7 +3,7 @@ ghost use Rattle.std.specs.Prelude.{◌≡◌, ℕ, nat_eq, IsTrue};
 ghost use Rattle.land_core.specs.Numbers.{is_number};
 ghost use Rattle.land_core.specs.declared.mutation.MutationRecord.{MutationRecord};
 ghost use Rattle.land_tables_rows.specs.Mutation.Cells.{fits_mutation};
-ghost use Rattle.land_tables_rows.specs.Mutation.Writing.{mutations};
+ghost use Rattle.land_tables_rows.specs.Mutation.Writing.{mutation_reading};
 
 use crate::change_writing::versioned::{Closable, Versioned};
 use crate::mutation::writing;
@@ -13,7 +13,7 @@ use sqlite::{Alter, Error, Transaction};
 use std::alloc::Global;
 
 impl Versioned for (u64, MutationRecord) {
-    ghost reading = { mutations };
+    ghost reading = { mutation_reading };
 
     ghost fits = { fits_mutation };
 

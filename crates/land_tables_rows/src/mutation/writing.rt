@@ -3,8 +3,8 @@ ghost use Rattle.std.specs.Prelude.{◌≡◌, ◌<◌, ◌^◌, IsTrue, nat_eq}
 ghost use Rattle.land_core.specs.Numbers.{IsMoment};
 ghost use Rattle.land_tables_rows.specs.Effects.{Performs};
 ghost use Rattle.land_tables_rows.specs.Mutation.Cells.{fits_mutation};
-ghost use Rattle.land_tables_rows.specs.Mutation.Writing.{mutations};
-ghost use Rattle.land_tables_rows.specs.Writing.Holding.{Begins, Closes};
+ghost use Rattle.land_tables_rows.specs.Mutation.Writing.{mutation_reading};
+ghost use Rattle.land_tables_rows.specs.Writing.Holding.{Begins, ClosesVersions};
 ghost use Rattle.land_tables_schema.specs.Connections.{HasRegisterTables, SameReference};
 
 use crate::cells::laws::mutations_read_back;
@@ -36,7 +36,8 @@ pub fn begin<S: Alter>(
     requires moment { IsMoment since }
     requires has_tables { HasRegisterTables S.Store tx.old.conn.now }
     ensures same_reference { SameReference tx.old tx.new }
-    ensures step { Performs S.Store result (Begins mutations (number, mutation.now) since) tx.old tx.new }
+    ensures step { Performs S.Store result
+        (Begins mutation_reading (number, mutation.now) since) tx.old tx.new }
 {
     mutations_read_back();
     content_is_exact(&mutation.content);
@@ -54,7 +55,8 @@ pub fn close<S: Alter>(tx: &mut Transaction<'_, S>, number: u64, stamp: i64) -> 
     requires moment { IsMoment stamp }
     requires has_tables { HasRegisterTables S.Store tx.old.conn.now }
     ensures same_reference { SameReference tx.old tx.new }
-    ensures step { Performs S.Store result (Closes mutations (λ e. nat_eq e.0 number) stamp) tx.old tx.new }
+    ensures step { Performs S.Store result
+        (ClosesVersions mutation_reading (λ e. nat_eq e.0 number) stamp) tx.old tx.new }
 {
     rows::mutation::close(tx, number, stamp)
 }

@@ -1,7 +1,7 @@
 //! Links of mutations to units.
 ghost use Rattle.std.specs.Prelude.{◌≡◌, IsTrue};
 ghost use Rattle.land_tables_history.specs.declared.naming.Naming.{Naming};
-ghost use Rattle.land_tables_rows.specs.Naming.Writing.{fits_naming, namings};
+ghost use Rattle.land_tables_rows.specs.Naming.Writing.{fits_naming, naming_reading};
 
 use crate::change_writing::versioned::Versioned;
 use crate::naming::writing;
@@ -10,7 +10,7 @@ use sqlite::{Alter, Error, Transaction};
 use std::alloc::Global;
 
 impl Versioned for Naming {
-    ghost reading = { namings };
+    ghost reading = { naming_reading };
 
     ghost fits = { fits_naming };
 

@@ -2,7 +2,7 @@
 ghost use Rattle.std.specs.Prelude.{◌≡◌, IsTrue};
 ghost use Rattle.land_core.specs.Numbers.{IsMoment};
 ghost use Rattle.land_tables_rows.specs.Effects.{Performs};
-ghost use Rattle.land_tables_rows.specs.Naming.Writing.{fits_naming, namings};
+ghost use Rattle.land_tables_rows.specs.Naming.Writing.{fits_naming, naming_reading};
 ghost use Rattle.land_tables_rows.specs.Writing.Holding.{Begins};
 ghost use Rattle.land_tables_schema.specs.Connections.{HasRegisterTables, SameReference};
 
@@ -28,7 +28,7 @@ pub fn begin<S: Alter>(
     requires moment { IsMoment since }
     requires has_tables { HasRegisterTables S.Store tx.old.conn.now }
     ensures same_reference { SameReference tx.old tx.new }
-    ensures step { Performs S.Store result (Begins namings naming since) tx.old tx.new }
+    ensures step { Performs S.Store result (Begins naming_reading naming since) tx.old tx.new }
 {
     rows::names::begin(tx, naming.mutation, naming.unit, since)
 }

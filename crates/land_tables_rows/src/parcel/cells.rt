@@ -1,6 +1,7 @@
 //! The cells in which parcels are written (LA_SpatialUnit).
 ghost use Rattle.std.specs.Prelude.{◌≡◌, IfOk, true};
-ghost use Rattle.land_tables_rows.specs.Parcel.Cells.{FitsParcel, IsExactParcel, fits_parcel, parcel_of};
+ghost use Rattle.land_tables_rows.specs.Parcel.Cells.{FitsParcel, IsExactParcel, fits_parcel};
+ghost use Rattle.land_tables_rows.specs.Parcel.Cells.{parcel_row_of_cells};
 ghost use Rattle.land_tables_rows.specs.Parcel.Cells.{parcel_row_of};
 
 use crate::cells::texts::is_label;
@@ -25,7 +26,7 @@ pub struct ParcelCells<'a> {
 
 /// Returns the cells of a parcel. Fails only if out of memory.
 pub fn parcel_cells(number: u64, parcel: &ParcelRecord) -> Result<ParcelCells<'_>, AllocError>
-    ensures row { IfOk result (λ cells. parcel_of cells ≡ parcel_row_of (number, parcel.now)) }
+    ensures row { IfOk result (λ cells. parcel_row_of_cells cells ≡ parcel_row_of (number, parcel.now)) }
     ensures columns { IfOk result (λ cells. fits_parcel (number, parcel.now) ≡ true → FitsParcel cells) }
 {
     Ok(ParcelCells {

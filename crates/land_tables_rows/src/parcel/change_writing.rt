@@ -3,7 +3,7 @@ ghost use Rattle.std.specs.Prelude.{◌≡◌, ℕ, nat_eq, IsTrue};
 ghost use Rattle.land_core.specs.Numbers.{is_number};
 ghost use Rattle.land_core.specs.declared.parcel.ParcelRecord.{ParcelRecord};
 ghost use Rattle.land_tables_rows.specs.Parcel.Cells.{fits_parcel};
-ghost use Rattle.land_tables_rows.specs.Parcel.Writing.{parcels};
+ghost use Rattle.land_tables_rows.specs.Parcel.Writing.{parcel_reading};
 
 use crate::change_writing::versioned::{Closable, Versioned};
 use crate::parcel::writing;
@@ -13,7 +13,7 @@ use sqlite::{Alter, Error, Transaction};
 use std::alloc::Global;
 
 impl Versioned for (u64, ParcelRecord) {
-    ghost reading = { parcels };
+    ghost reading = { parcel_reading };
 
     ghost fits = { fits_parcel };
 

@@ -3,8 +3,8 @@ ghost use Rattle.std.specs.Prelude.{◌≡◌, ◌<◌, ◌^◌, IsTrue, nat_eq}
 ghost use Rattle.land_core.specs.Numbers.{IsMoment};
 ghost use Rattle.land_tables_rows.specs.Effects.{Performs};
 ghost use Rattle.land_tables_rows.specs.Parcel.Cells.{fits_parcel};
-ghost use Rattle.land_tables_rows.specs.Parcel.Writing.{parcels};
-ghost use Rattle.land_tables_rows.specs.Writing.Holding.{Begins, Closes};
+ghost use Rattle.land_tables_rows.specs.Parcel.Writing.{parcel_reading};
+ghost use Rattle.land_tables_rows.specs.Writing.Holding.{Begins, ClosesVersions};
 ghost use Rattle.land_tables_schema.specs.Connections.{HasRegisterTables, SameReference};
 
 use crate::cells::laws::parcels_read_back;
@@ -31,7 +31,7 @@ pub fn begin<S: Alter>(
     requires moment { IsMoment since }
     requires has_tables { HasRegisterTables S.Store tx.old.conn.now }
     ensures same_reference { SameReference tx.old tx.new }
-    ensures step { Performs S.Store result (Begins parcels (number, parcel.now) since) tx.old tx.new }
+    ensures step { Performs S.Store result (Begins parcel_reading (number, parcel.now) since) tx.old tx.new }
 {
     parcels_read_back();
     parcel.outline.points();
@@ -53,7 +53,8 @@ pub fn close<S: Alter>(tx: &mut Transaction<'_, S>, number: u64, stamp: i64) -> 
     requires moment { IsMoment stamp }
     requires has_tables { HasRegisterTables S.Store tx.old.conn.now }
     ensures same_reference { SameReference tx.old tx.new }
-    ensures step { Performs S.Store result (Closes parcels (λ e. nat_eq e.0 number) stamp) tx.old tx.new }
+    ensures step { Performs S.Store result
+        (ClosesVersions parcel_reading (λ e. nat_eq e.0 number) stamp) tx.old tx.new }
 {
     rows::parcel::close(tx, number, stamp)
 }

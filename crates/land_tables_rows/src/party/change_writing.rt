@@ -2,7 +2,7 @@
 ghost use Rattle.std.specs.Prelude.{◌≡◌, ℕ, nat_eq, IsTrue};
 ghost use Rattle.land_core.specs.Numbers.{is_number};
 ghost use Rattle.land_core.specs.declared.party.PartyRecord.{PartyRecord};
-ghost use Rattle.land_tables_rows.specs.Party.Writing.{fits_party, parties};
+ghost use Rattle.land_tables_rows.specs.Party.Writing.{fits_party, party_reading};
 
 use crate::change_writing::versioned::{Closable, Versioned};
 use crate::party::writing;
@@ -12,7 +12,7 @@ use sqlite::{Alter, Error, Transaction};
 use std::alloc::Global;
 
 impl Versioned for (u64, PartyRecord) {
-    ghost reading = { parties };
+    ghost reading = { party_reading };
 
     ghost fits = { λ e. fits_party e.0 e.1 };
 

@@ -2,8 +2,8 @@
 ghost use Rattle.std.specs.Prelude.{◌≡◌, ◌<◌, ◌^◌, IsTrue, nat_eq};
 ghost use Rattle.land_core.specs.Numbers.{IsMoment};
 ghost use Rattle.land_tables_rows.specs.Effects.{Performs};
-ghost use Rattle.land_tables_rows.specs.Party.Writing.{fits_party, parties};
-ghost use Rattle.land_tables_rows.specs.Writing.Holding.{Begins, Closes};
+ghost use Rattle.land_tables_rows.specs.Party.Writing.{fits_party, party_reading};
+ghost use Rattle.land_tables_rows.specs.Writing.Holding.{Begins, ClosesVersions};
 ghost use Rattle.land_tables_schema.specs.Connections.{HasRegisterTables, SameReference};
 
 use land_core::limits::{is_name, is_number};
@@ -30,7 +30,7 @@ pub fn begin<S: Alter>(
     requires moment { IsMoment since }
     requires has_tables { HasRegisterTables S.Store tx.old.conn.now }
     ensures same_reference { SameReference tx.old tx.new }
-    ensures step { Performs S.Store result (Begins parties (number, party.now) since) tx.old tx.new }
+    ensures step { Performs S.Store result (Begins party_reading (number, party.now) since) tx.old tx.new }
 {
     rows::party::begin(
         tx,
@@ -47,7 +47,8 @@ pub fn close<S: Alter>(tx: &mut Transaction<'_, S>, number: u64, stamp: i64) -> 
     requires moment { IsMoment stamp }
     requires has_tables { HasRegisterTables S.Store tx.old.conn.now }
     ensures same_reference { SameReference tx.old tx.new }
-    ensures step { Performs S.Store result (Closes parties (λ e. nat_eq e.0 number) stamp) tx.old tx.new }
+    ensures step { Performs S.Store result
+        (ClosesVersions party_reading (λ e. nat_eq e.0 number) stamp) tx.old tx.new }
 {
     rows::party::close(tx, number, stamp)
 }

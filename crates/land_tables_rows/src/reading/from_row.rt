@@ -1,6 +1,6 @@
 //! Decodes rows.
 ghost use Rattle.std.specs.Prelude.{◌≡◌, Result};
-ghost use Rattle.land_tables_rows.specs.Reading.Readings.{each_of};
+ghost use Rattle.land_tables_rows.specs.Reading.Readings.{each_row};
 ghost use Rattle.land_wire_json.specs.Bodies.WireFaults.{Returns};
 ghost use Rattle.land_wire_json.specs.declared.bodies.wire_fault.WireFault.{WireFault as Fault};
 ghost use Rattle.sqlite_value.specs.Order.{Row as SqlRow};
@@ -22,7 +22,7 @@ pub trait FromRow: Drop {
 
 /// Decodes rows in order.
 pub fn read_all<X: FromRow>(alloc: Global, rows: &[Row]) -> Result<Sequence<X>, WireFault>
-    ensures { Returns (λ it. it) result (each_of X.FromRow.said rows.now) }
+    ensures { Returns (λ it. it) result (each_row X.FromRow.said rows.now) }
 {
     let mut all = Sequence::new(alloc);
     for row in rows {

@@ -1,8 +1,9 @@
 //! The words of kinds, roles, classes and states.
 ghost use Rattle.std.specs.Prelude.{◌≡◌};
-ghost use Rattle.land_tables_rows.specs.Reading.Words.{class_of, class_word_in, kind_of, party_kind_in};
+ghost use Rattle.land_tables_rows.specs.Reading.Words.{entry_class_of, class_word_in};
+ghost use Rattle.land_tables_rows.specs.Reading.Words.{party_kind_of, party_kind_in};
 ghost use Rattle.land_tables_rows.specs.Reading.Words.{role_in, source_kind_in, source_kind_of, state_in};
-ghost use Rattle.land_tables_rows.specs.Reading.Words.{state_of};
+ghost use Rattle.land_tables_rows.specs.Reading.Words.{mutation_state_of};
 ghost use Rattle.land_wire_json.specs.Bodies.WireFaults.{Returns};
 ghost use Rattle.sqlite_value.specs.Order.{column};
 
@@ -38,7 +39,7 @@ pub fn party_kind_at(row: &Row, at: usize) -> Result<PartyKind, WireFault>
 }
 
 fn kind_of(word: &str) -> Result<PartyKind, WireFault>
-    ensures { result ≡ kind_of word.now }
+    ensures { result ≡ party_kind_of word.now }
 {
     if word == "group" {
         Ok(PartyKind::Group)
@@ -84,7 +85,7 @@ pub fn state_at(row: &Row, at: usize) -> Result<MutationState, WireFault>
 }
 
 fn state_of(word: &str) -> Result<MutationState, WireFault>
-    ensures { result ≡ state_of word.now }
+    ensures { result ≡ mutation_state_of word.now }
 {
     if word == "lodged" {
         Ok(MutationState::Lodged)
@@ -106,7 +107,7 @@ pub fn class_word_at(row: &Row, at: usize) -> Result<ClassWord, WireFault>
 }
 
 fn class_of(word: &str) -> Result<ClassWord, WireFault>
-    ensures { result ≡ class_of word.now }
+    ensures { result ≡ entry_class_of word.now }
 {
     if word == "restriction" {
         Ok(ClassWord::Restriction)

@@ -2,7 +2,7 @@
 ghost use Rattle.std.specs.Prelude.{◌≡◌, IsTrue};
 ghost use Rattle.land_core.specs.declared.roles.Grant.{Grant};
 ghost use Rattle.land_tables_history.specs.Intervals.{is_same_grant};
-ghost use Rattle.land_tables_rows.specs.Role.Writing.{fits_grant, roles};
+ghost use Rattle.land_tables_rows.specs.Role.Writing.{fits_grant, role_reading};
 
 use crate::change_writing::versioned::{Closable, HasKey, Versioned};
 use crate::role::writing;
@@ -11,7 +11,7 @@ use sqlite::{Alter, Error, Transaction};
 use std::alloc::Global;
 
 impl Versioned for Grant {
-    ghost reading = { roles };
+    ghost reading = { role_reading };
 
     ghost fits = { fits_grant };
 

@@ -3,8 +3,8 @@ ghost use Rattle.std.specs.Prelude.{◌≡◌, ◌<◌, ◌^◌, IsTrue};
 ghost use Rattle.land_core.specs.Numbers.{IsMoment};
 ghost use Rattle.land_tables_history.specs.Intervals.{is_same_grant};
 ghost use Rattle.land_tables_rows.specs.Effects.{Performs};
-ghost use Rattle.land_tables_rows.specs.Role.Writing.{fits_grant, roles};
-ghost use Rattle.land_tables_rows.specs.Writing.Holding.{Begins, Closes};
+ghost use Rattle.land_tables_rows.specs.Role.Writing.{fits_grant, role_reading};
+ghost use Rattle.land_tables_rows.specs.Writing.Holding.{Begins, ClosesVersions};
 ghost use Rattle.land_tables_schema.specs.Connections.{HasRegisterTables, SameReference};
 
 use land_core::limits::is_number;
@@ -30,7 +30,7 @@ pub fn begin<S: Alter>(
     requires moment { IsMoment since }
     requires has_tables { HasRegisterTables S.Store tx.old.conn.now }
     ensures same_reference { SameReference tx.old tx.new }
-    ensures step { Performs S.Store result (Begins roles grant since) tx.old tx.new }
+    ensures step { Performs S.Store result (Begins role_reading grant since) tx.old tx.new }
 {
     rows::role::begin(tx, grant.party, role_word(grant.role), since)
 }
@@ -45,7 +45,8 @@ pub fn close<S: Alter>(
     requires moment { IsMoment stamp }
     requires has_tables { HasRegisterTables S.Store tx.old.conn.now }
     ensures same_reference { SameReference tx.old tx.new }
-    ensures step { Performs S.Store result (Closes roles (λ e. is_same_grant e grant) stamp) tx.old tx.new }
+    ensures step { Performs S.Store result
+        (ClosesVersions role_reading (λ e. is_same_grant e grant) stamp) tx.old tx.new }
 {
     rows::role::close(tx, grant.party, role_word(grant.role), stamp)
 }

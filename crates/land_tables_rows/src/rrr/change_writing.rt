@@ -3,7 +3,7 @@ ghost use Rattle.std.specs.Prelude.{◌≡◌, ℕ, nat_eq, IsTrue};
 ghost use Rattle.land_core.specs.Numbers.{is_number};
 ghost use Rattle.land_core.specs.declared.rrr.RrrRecord.{RrrRecord};
 ghost use Rattle.land_tables_rows.specs.Rrr.Cells.{fits_rrr};
-ghost use Rattle.land_tables_rows.specs.Rrr.Writing.{rrrs};
+ghost use Rattle.land_tables_rows.specs.Rrr.Writing.{rrr_reading};
 
 use crate::change_writing::versioned::{Closable, Versioned};
 use crate::rrr::writing;
@@ -13,7 +13,7 @@ use sqlite::{Alter, Error, Transaction};
 use std::alloc::Global;
 
 impl Versioned for (u64, RrrRecord) {
-    ghost reading = { rrrs };
+    ghost reading = { rrr_reading };
 
     ghost fits = { fits_rrr };
 

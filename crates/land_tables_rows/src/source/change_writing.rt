@@ -2,7 +2,7 @@
 ghost use Rattle.std.specs.Prelude.{◌≡◌, ℕ, nat_eq, IsTrue};
 ghost use Rattle.land_core.specs.Numbers.{is_number};
 ghost use Rattle.land_core.specs.declared.source.SourceRecord.{SourceRecord};
-ghost use Rattle.land_tables_rows.specs.Source.Writing.{fits_source, sources};
+ghost use Rattle.land_tables_rows.specs.Source.Writing.{fits_source, source_reading};
 
 use crate::change_writing::versioned::{Closable, Versioned};
 use crate::source::writing;
@@ -12,7 +12,7 @@ use sqlite::{Alter, Error, Transaction};
 use std::alloc::Global;
 
 impl Versioned for (u64, SourceRecord) {
-    ghost reading = { sources };
+    ghost reading = { source_reading };
 
     ghost fits = { λ e. fits_source e.0 e.1 };
 

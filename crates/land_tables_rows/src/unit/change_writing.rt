@@ -2,7 +2,7 @@
 ghost use Rattle.std.specs.Prelude.{◌≡◌, ℕ, nat_eq, IsTrue};
 ghost use Rattle.land_core.specs.Numbers.{is_number};
 ghost use Rattle.land_core.specs.declared.unit.UnitRecord.{UnitRecord};
-ghost use Rattle.land_tables_rows.specs.Unit.Writing.{fits_unit, units};
+ghost use Rattle.land_tables_rows.specs.Unit.Writing.{fits_unit, unit_reading};
 
 use crate::change_writing::versioned::{Closable, Versioned};
 use crate::unit::writing;
@@ -12,7 +12,7 @@ use sqlite::{Alter, Error, Transaction};
 use std::alloc::Global;
 
 impl Versioned for (u64, UnitRecord) {
-    ghost reading = { units };
+    ghost reading = { unit_reading };
 
     ghost fits = { λ e. fits_unit e.0 e.1 };
 

@@ -2,8 +2,8 @@
 ghost use Rattle.std.specs.Prelude.{◌≡◌, ◌<◌, ◌^◌, IsTrue, nat_eq};
 ghost use Rattle.land_core.specs.Numbers.{IsMoment};
 ghost use Rattle.land_tables_rows.specs.Effects.{Performs};
-ghost use Rattle.land_tables_rows.specs.Unit.Writing.{fits_unit, units};
-ghost use Rattle.land_tables_rows.specs.Writing.Holding.{Begins, Closes};
+ghost use Rattle.land_tables_rows.specs.Unit.Writing.{fits_unit, unit_reading};
+ghost use Rattle.land_tables_rows.specs.Writing.Holding.{Begins, ClosesVersions};
 ghost use Rattle.land_tables_schema.specs.Connections.{HasRegisterTables, SameReference};
 
 use land_core::limits::{is_name, is_number};
@@ -29,7 +29,7 @@ pub fn begin<S: Alter>(
     requires moment { IsMoment since }
     requires has_tables { HasRegisterTables S.Store tx.old.conn.now }
     ensures same_reference { SameReference tx.old tx.new }
-    ensures step { Performs S.Store result (Begins units (number, unit.now) since) tx.old tx.new }
+    ensures step { Performs S.Store result (Begins unit_reading (number, unit.now) since) tx.old tx.new }
 {
     rows::unit::begin(tx, number, unit.name.as_str(), unit.checked, since)
 }
@@ -40,7 +40,8 @@ pub fn close<S: Alter>(tx: &mut Transaction<'_, S>, number: u64, stamp: i64) -> 
     requires moment { IsMoment stamp }
     requires has_tables { HasRegisterTables S.Store tx.old.conn.now }
     ensures same_reference { SameReference tx.old tx.new }
-    ensures step { Performs S.Store result (Closes units (λ e. nat_eq e.0 number) stamp) tx.old tx.new }
+    ensures step { Performs S.Store result
+        (ClosesVersions unit_reading (λ e. nat_eq e.0 number) stamp) tx.old tx.new }
 {
     rows::unit::close(tx, number, stamp)
 }

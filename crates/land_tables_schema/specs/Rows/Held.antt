@@ -3,17 +3,17 @@ use Rattle.std.specs.Prelude.{◌≡◌, pos, List, [], ◌∷◌, codes}
 use Rattle.land_tables_schema.specs.Schemas.{v2_schema}
 use Rattle.land_tables_schema.specs.Rows.Edition.{Edition, v2_edition, edition_row}
 use Rattle.land_tables_schema.specs.Rows.Forms.{Holds, Lists}
-use Rattle.land_tables_schema.specs.Rows.Mandate.{MandateRow, mandates}
-use Rattle.land_tables_schema.specs.Rows.Member.{MemberRow, members}
+use Rattle.land_tables_schema.specs.Rows.Mandate.{MandateRow, mandate_form}
+use Rattle.land_tables_schema.specs.Rows.Member.{MemberRow, member_form}
 use Rattle.land_tables_schema.specs.Rows.Moments.{Moment, moment_row}
-use Rattle.land_tables_schema.specs.Rows.Mutation.{MutationRow, mutations}
-use Rattle.land_tables_schema.specs.Rows.Names.{NamesRow, namings}
-use Rattle.land_tables_schema.specs.Rows.Parcel.{ParcelRow, parcels}
-use Rattle.land_tables_schema.specs.Rows.Party.{PartyRow, parties}
-use Rattle.land_tables_schema.specs.Rows.Role.{RoleRow, roles}
-use Rattle.land_tables_schema.specs.Rows.Rrr.{RrrRow, rrrs}
-use Rattle.land_tables_schema.specs.Rows.Source.{SourceRow, sources}
-use Rattle.land_tables_schema.specs.Rows.Unit.{UnitRow, units}
+use Rattle.land_tables_schema.specs.Rows.Mutation.{MutationRow, mutation_form}
+use Rattle.land_tables_schema.specs.Rows.Names.{NamesRow, names_form}
+use Rattle.land_tables_schema.specs.Rows.Parcel.{ParcelRow, parcel_form}
+use Rattle.land_tables_schema.specs.Rows.Party.{PartyRow, party_form}
+use Rattle.land_tables_schema.specs.Rows.Role.{RoleRow, role_form}
+use Rattle.land_tables_schema.specs.Rows.Rrr.{RrrRow, rrr_form}
+use Rattle.land_tables_schema.specs.Rows.Source.{SourceRow, source_form}
+use Rattle.land_tables_schema.specs.Rows.Unit.{UnitRow, unit_form}
 use Rattle.land_tables_schema.specs.Rows.Versions.{Version, opened_version}
 use Rattle.land_tables_schema.specs.Tables as table
 use Rattle.sqlite.specs.Effect.{Database}
@@ -38,16 +38,16 @@ pub record Rows : Type 0 where
 pub record HoldsRows (db : Trees) (rows : Rows) : Type 0 where
   pub the_editions : Lists table.edition edition_row db rows.editions
   pub the_moments : Lists table.moments moment_row db rows.moments
-  pub the_parties : Holds parties db rows.parties
-  pub the_roles : Holds roles db rows.roles
-  pub the_members : Holds members db rows.members
-  pub the_units : Holds units db rows.units
-  pub the_parcels : Holds parcels db rows.parcels
-  pub the_rrrs : Holds rrrs db rows.rrrs
-  pub the_sources : Holds sources db rows.sources
-  pub the_mutations : Holds mutations db rows.mutations
-  pub the_namings : Holds namings db rows.namings
-  pub the_mandates : Holds mandates db rows.mandates
+  pub the_parties : Holds party_form db rows.parties
+  pub the_roles : Holds role_form db rows.roles
+  pub the_members : Holds member_form db rows.members
+  pub the_units : Holds unit_form db rows.units
+  pub the_parcels : Holds parcel_form db rows.parcels
+  pub the_rrrs : Holds rrr_form db rows.rrrs
+  pub the_sources : Holds source_form db rows.sources
+  pub the_mutations : Holds mutation_form db rows.mutations
+  pub the_namings : Holds names_form db rows.namings
+  pub the_mandates : Holds mandate_form db rows.mandates
 
 -- a new register: since moment 0, party 1, the Land Office, is state administrator, and the next number is 2
 abbrev pub new_rows : Rows

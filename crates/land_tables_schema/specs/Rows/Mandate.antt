@@ -13,8 +13,8 @@ pub record MandateRow : Type 0 where
 abbrev pub mandate_cells : MandateRow → Row
 mandate_cells r = whole r.principal ∷ whole r.agent ∷ []
 
-abbrev pub mandates : Form (Version MandateRow)
-mandates = versions_in mandate 2 mandate_cells
+abbrev pub mandate_form : Form (Version MandateRow)
+mandate_form = versions_in mandate 2 mandate_cells
 
 -- whether this principal gave the mandate to this agent
 abbrev pub is_mandate : ℕ → ℕ → MandateRow → Bool

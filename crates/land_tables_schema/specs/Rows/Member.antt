@@ -16,9 +16,9 @@ pub record MemberRow : Type 0 where
 abbrev pub member_cells : MemberRow → Row
 member_cells r = whole r.grp ∷ whole r.party ∷ whole r.num ∷ whole r.den ∷ []
 
-abbrev pub members : Form (Version MemberRow)
-members = versions_in member 4 member_cells
+abbrev pub member_form : Form (Version MemberRow)
+member_form = versions_in member 4 member_cells
 
 -- whether it is a member of this group
-abbrev pub is_member_of : ℕ → MemberRow → Bool
-is_member_of grp r = r.grp == grp
+abbrev pub is_row_of_group : ℕ → MemberRow → Bool
+is_row_of_group grp r = r.grp == grp

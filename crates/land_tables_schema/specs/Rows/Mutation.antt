@@ -24,8 +24,8 @@ mutation_cells r =
     whole r.number ∷ whole r.lodger ∷ Text r.reference ∷ whole r.source ∷ Int r.lodged ∷ Text r.act
     ∷ Text r.content ∷ Text r.state ∷ []
 
-abbrev pub mutations : Form (Version MutationRow)
-mutations = versions_in mutation 8 mutation_cells
+abbrev pub mutation_form : Form (Version MutationRow)
+mutation_form = versions_in mutation 8 mutation_cells
 
 -- whether it has this number
 abbrev pub is_mutation : ℕ → MutationRow → Bool

@@ -13,5 +13,5 @@ pub record NamesRow : Type 0 where
 abbrev pub names_cells : NamesRow → Row
 names_cells r = whole r.mutation ∷ whole r.unit ∷ []
 
-abbrev pub namings : Form (Version NamesRow)
-namings = versions_in names 2 names_cells
+abbrev pub names_form : Form (Version NamesRow)
+names_form = versions_in names 2 names_cells

@@ -18,8 +18,8 @@ pub record ParcelRow : Type 0 where
 abbrev pub parcel_cells : ParcelRow → Row
 parcel_cells r = whole r.number ∷ whole r.unit ∷ Text r.label ∷ Text r.outline ∷ whole r.source ∷ []
 
-abbrev pub parcels : Form (Version ParcelRow)
-parcels = versions_in parcel 5 parcel_cells
+abbrev pub parcel_form : Form (Version ParcelRow)
+parcel_form = versions_in parcel 5 parcel_cells
 
 -- whether it has this number
 abbrev pub is_parcel : ℕ → ParcelRow → Bool

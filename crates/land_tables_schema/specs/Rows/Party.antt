@@ -15,8 +15,8 @@ pub record PartyRow : Type 0 where
 abbrev pub party_cells : PartyRow → Row
 party_cells p = whole p.number ∷ Text p.name ∷ Text p.kind ∷ []
 
-abbrev pub parties : Form (Version PartyRow)
-parties = versions_in party 3 party_cells
+abbrev pub party_form : Form (Version PartyRow)
+party_form = versions_in party 3 party_cells
 
 -- whether it has this number
 abbrev pub is_party : ℕ → PartyRow → Bool

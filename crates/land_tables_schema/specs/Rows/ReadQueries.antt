@@ -28,8 +28,8 @@ columns_from from (suc count) r = column r from ∷ columns_from (suc from) coun
 
 -- the rows of a versioned table with this number of cells before the lifespan, without rowids, in unspecified
 -- order
-abbrev pub AreAll : Table → (cells : ℕ) → Trees → List Row → Type 0
-AreAll table cells db rows = IsPermutation (map (columns_from 1 (suc (suc cells))) (db table.tree)) rows
+abbrev pub AreAllRows : Table → (cells : ℕ) → Trees → List Row → Type 0
+AreAllRows table cells db rows = IsPermutation (map (columns_from 1 (suc (suc cells))) (db table.tree)) rows
 
 -- the two columns of a row whose rowid is its first column
 abbrev pub numbered_cells : Row → Row

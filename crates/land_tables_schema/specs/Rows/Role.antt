@@ -14,8 +14,8 @@ pub record RoleRow : Type 0 where
 abbrev pub role_cells : RoleRow → Row
 role_cells r = whole r.party ∷ Text r.role ∷ []
 
-abbrev pub roles : Form (Version RoleRow)
-roles = versions_in role 2 role_cells
+abbrev pub role_form : Form (Version RoleRow)
+role_form = versions_in role 2 role_cells
 
 -- whether this party has this role by it
 abbrev pub is_grant : ℕ → List ℕ → RoleRow → Bool

@@ -31,8 +31,8 @@ rrr_cells r =
     ∷ or_null whole r.amount ∷ or_null Text r.currency
     ∷ or_null whole r.place ∷ or_null Text r.words ∷ whole r.source ∷ []
 
-abbrev pub rrrs : Form (Version RrrRow)
-rrrs = versions_in rrr 11 rrr_cells
+abbrev pub rrr_form : Form (Version RrrRow)
+rrr_form = versions_in rrr 11 rrr_cells
 
 -- whether it has this number
 abbrev pub is_rrr : ℕ → RrrRow → Bool

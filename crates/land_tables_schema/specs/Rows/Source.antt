@@ -15,8 +15,8 @@ pub record SourceRow : Type 0 where
 abbrev pub source_cells : SourceRow → Row
 source_cells r = whole r.number ∷ Text r.kind ∷ Text r.title ∷ []
 
-abbrev pub sources : Form (Version SourceRow)
-sources = versions_in source 3 source_cells
+abbrev pub source_form : Form (Version SourceRow)
+source_form = versions_in source 3 source_cells
 
 -- whether it has this number
 abbrev pub is_source : ℕ → SourceRow → Bool

@@ -15,8 +15,8 @@ pub record UnitRow : Type 0 where
 abbrev pub unit_cells : UnitRow → Row
 unit_cells r = whole r.number ∷ Text r.name ∷ flag r.checked ∷ []
 
-abbrev pub units : Form (Version UnitRow)
-units = versions_in unit 3 unit_cells
+abbrev pub unit_form : Form (Version UnitRow)
+unit_form = versions_in unit 3 unit_cells
 
 -- whether it has this number
 abbrev pub is_unit : ℕ → UnitRow → Bool

@@ -11,11 +11,11 @@ use Rattle.land_wire.specs.declared.framing.frame_fault.FrameFault.{FrameFault}
 use Rattle.land_wire.specs.declared.framing.frame_fault.FrameFault.TheVariants as fault
 use Rattle.land_wire.specs.declared.framing.named.Occurrence.{Occurrence}
 use Rattle.land_wire.specs.declared.framing.named.Occurrence.TheVariants as occurrence
-use Rattle.land_wire_json.specs.Bodies.Decimals.{are_digits}
+use Rattle.land_wire_json.specs.Bodies.Decimals.{are_digits_up_to}
 
 -- the fields of a head in order: each name, and each value without surrounding white space
-abbrev pub fields_of : RequestHead → List (List ℕ × List ℕ)
-fields_of h = map name_and_value h.fields
+abbrev pub header_fields : RequestHead → List (List ℕ × List ℕ)
+header_fields h = map name_and_value h.fields
 
 -- the maximum length of a body in bytes
 abbrev pub body_limit : ℕ
@@ -24,7 +24,7 @@ body_limit = 1048576
 -- the length in a value of 1 to 18 digits, leading zeros allowed
 abbrev pub length_of : List ℕ → Result ℕ FrameFault
 length_of value =
-    if not (are_digits 18 value) then Err fault.Head
+    if not (are_digits_up_to 18 value) then Err fault.Head
     else if nat_lt body_limit (digits_value 10 value) then Err fault.BodyLong
     else Ok (digits_value 10 value)
 
@@ -40,8 +40,9 @@ body_length (value ∷ again ∷ more) = Err fault.Head
 unfoldable pub body_length_of : RequestHead → Result ℕ FrameFault
 body_length_of h =
     if nat_lt 64 (length h.fields) then Err fault.Head
-    else if nat_lt 0 (length (values_named (codes "transfer-encoding") (fields_of h))) then Err fault.Encoding
-    else body_length (values_named (codes "content-length") (fields_of h))
+    else if nat_lt 0 (length (values_named (codes "transfer-encoding") (header_fields h)))
+    then Err fault.Encoding
+    else body_length (values_named (codes "content-length") (header_fields h))
 
 -- the word is `close`, without case, with white space around it
 abbrev pub is_close_option : List ℕ → Bool
@@ -54,7 +55,8 @@ has_close_option value = list_any is_close_option (slice_split (λ b. b == 44) v
 -- the connection closes after the request (RFC 9112, section 9.3): the version is HTTP/1.0, or a `Connection`
 -- field has the option `close`
 unfoldable pub wants_close : RequestHead → Bool
-wants_close h = (h.minor == 0) || list_any has_close_option (values_named (codes "connection") (fields_of h))
+wants_close h =
+    (h.minor == 0) || list_any has_close_option (values_named (codes "connection") (header_fields h))
 
 -- the method is `HEAD`, whose response has no body (RFC 9110, section 9.3.2)
 unfoldable pub is_head : RequestHead → Bool

@@ -5,9 +5,9 @@ use Rattle.land_wire.specs.declared.framing.frame_fault.FrameFault.TheVariants.{
 use Rattle.land_wire.specs.declared.framing.frame_fault.FrameFault.TheVariants.{Encoding, Cut}
 
 -- the number in the reply
-abbrev pub number_of : FrameFault → ℕ
-number_of Head = 140
-number_of HeadLong = 141
-number_of BodyLong = 142
-number_of Encoding = 143
-number_of Cut = 144
+abbrev pub frame_fault_number : FrameFault → ℕ
+frame_fault_number Head = 140
+frame_fault_number HeadLong = 141
+frame_fault_number BodyLong = 142
+frame_fault_number Encoding = 143
+frame_fault_number Cut = 144

@@ -1,6 +1,6 @@
 //! The faults of framing.
 ghost use Rattle.std.specs.Prelude.{◌≡◌};
-ghost use Rattle.land_wire.specs.Framing.FrameFaults.{number_of};
+ghost use Rattle.land_wire.specs.Framing.FrameFaults.{frame_fault_number};
 
 /// The reason that a stream does not begin with a whole request.
 #[derive(Clone, Copy, Debug, PartialEq, Eq)]
@@ -21,7 +21,7 @@ impl FrameFault {
     /// Returns the number in the reply: 140 `Head`, 141 `HeadLong`, 142 `BodyLong`, 143 `Encoding`, 144
     /// `Cut`.
     pub fn number(self) -> u16
-        ensures { result ≡ number_of self }
+        ensures { result ≡ frame_fault_number self }
     {
         match self {
             FrameFault::Head => 140,

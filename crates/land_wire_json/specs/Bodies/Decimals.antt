@@ -5,9 +5,10 @@ use Rattle.std.specs.List.{list_all}
 use Rattle.std.specs.Str.Parse.{digits_value}
 
 -- the text is 1 to `most` decimal digits; leading zeros are allowed
-abbrev pub are_digits : ℕ → List ℕ → Bool
-are_digits most text = nat_le 1 (length text) && nat_le (length text) most && list_all is_ascii_digit text
+abbrev pub are_digits_up_to : ℕ → List ℕ → Bool
+are_digits_up_to most text =
+    nat_le 1 (length text) && nat_le (length text) most && list_all is_ascii_digit text
 
 -- the value of the digits, or none if the text is not 1 to `most` digits
 abbrev pub digits_in : ℕ → List ℕ → Option ℕ
-digits_in most text = if are_digits most text then Some (digits_value 10 text) else None
+digits_in most text = if are_digits_up_to most text then Some (digits_value 10 text) else None

@@ -27,13 +27,13 @@ abbrev pub text_value : (text : List ℕ) → Result Data WireFault
 text_value text = or_fault (read text) fault.Json
 
 -- the key is one of these names
-abbrev pub is_among : List (List ℕ) → List ℕ → Bool
-is_among names key = list_any (λ name. bytes_eq name key) names
+abbrev pub is_listed_name : List (List ℕ) → List ℕ → Bool
+is_listed_name names key = list_any (λ name. bytes_eq name key) names
 
 -- each key is one of these names
 abbrev pub has_only : List (List ℕ) → Members → Bool
 has_only names no_members = true
-has_only names (member key value others) = is_among names key && has_only names others
+has_only names (member key value others) = is_listed_name names key && has_only names others
 
 -- fault 131 if the value is not an object, or has a key that is not one of these names
 unfoldable pub object_with : List (List ℕ) → Data → Result ⊤ WireFault
@@ -95,6 +95,6 @@ items_at least most key value =
     else Err fault.Field
 
 -- reads each item in order: the first fault, or the list of values
-abbrev pub each_of : {A : Type 0} → (Data → Result A WireFault) → Items → Result (List A) WireFault
-each_of read no_items = Ok []
-each_of read (item value items) = read value >>= λ first. each_of read items >>= λ rest. Ok (first ∷ rest)
+abbrev pub each_item : {A : Type 0} → (Data → Result A WireFault) → Items → Result (List A) WireFault
+each_item read no_items = Ok []
+each_item read (item value items) = read value >>= λ first. each_item read items >>= λ rest. Ok (first ∷ rest)

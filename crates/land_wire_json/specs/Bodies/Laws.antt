@@ -2,7 +2,7 @@
 use Rattle.std.specs.Prelude.{◌≡◌, ℕ, List, true, Ok, IfOk}
 use Rattle.land_core.specs.Acts.{is_well_formed}
 use Rattle.land_core.specs.Contents.{is_well_formed_content}
-use Rattle.land_core.specs.Words.{act_word}
+use Rattle.land_core.specs.Words.{content_word}
 use Rattle.land_core.specs.declared.act.Act.TheVariants as act
 use Rattle.land_core.specs.declared.content.Content.{Content}
 use Rattle.land_shape.specs.Faults.{IsOutlineAnswer}
@@ -44,4 +44,4 @@ ContentsAreWellFormed =
 
 -- reading the text of a content returns that content
 abbrev pub ContentsRoundTrip : Type 0
-ContentsRoundTrip = (it : Content) → IsStorable it → content_in (act_word it) (content_text it) ≡ Ok it
+ContentsRoundTrip = (it : Content) → IsStorable it → content_in (content_word it) (content_text it) ≡ Ok it

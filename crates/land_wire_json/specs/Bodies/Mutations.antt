@@ -16,7 +16,7 @@ use Rattle.land_core.specs.declared.subdivision.Part.{Part}
 use Rattle.land_core.specs.declared.subdivision.Subdivision.{Subdivision}
 use Rattle.land_wire_json.specs.Bodies.Fields.{text_value, object_with, field_at, require_text}
 use Rattle.land_wire_json.specs.Bodies.Fields.{require_text_at}
-use Rattle.land_wire_json.specs.Bodies.Fields.{number_in, number_at, require_number, items_at, each_of}
+use Rattle.land_wire_json.specs.Bodies.Fields.{number_in, number_at, require_number, items_at, each_item}
 use Rattle.land_wire_json.specs.Bodies.Outlines.{outline_in}
 use Rattle.land_wire_json.specs.Bodies.Shares.{share_at}
 use Rattle.land_wire_json.specs.Bodies.Units.{parcel_of}
@@ -63,7 +63,7 @@ part_of value = do
 
 -- `rest`: 1 to 15 parts
 unfoldable pub rest_of : Data → Result (List Part) WireFault
-rest_of value = items_at 1 15 (codes "rest") value >>= each_of part_of
+rest_of value = items_at 1 15 (codes "rest") value >>= each_item part_of
 
 unfoldable pub subdivision_of : Data → Result Subdivision WireFault
 subdivision_of value = do
@@ -82,18 +82,18 @@ merger_fields = codes "unit" ∷ codes "others" ∷ codes "parcels" ∷ codes "l
 -- `least` to `most` increasing numbers; fault 131 in another order, after each number was read
 unfoldable pub increasing_at : (least most : ℕ) → (key : List ℕ) → Data → Result (List ℕ) WireFault
 increasing_at least most key value =
-    items_at least most key value >>= each_of number_in
+    items_at least most key value >>= each_item number_in
     >>= λ numbers. if all_above 0 numbers then Ok numbers else Err fault.Field
 
 -- fault 131 if the unit itself is among the others
-abbrev pub without : (unit : ℕ) → List ℕ → Result (List ℕ) WireFault
-without unit others = if lists_number others unit then Err fault.Field else Ok others
+abbrev pub others_besides : (unit : ℕ) → List ℕ → Result (List ℕ) WireFault
+others_besides unit others = if lists_number others unit then Err fault.Field else Ok others
 
 unfoldable pub merger_of : Data → Result Merger WireFault
 merger_of value = do
   unit ← number_at (codes "unit") value
   listed ← increasing_at 0 15 (codes "others") value
-  others ← without unit listed
+  others ← others_besides unit listed
   parcels ← increasing_at 2 16 (codes "parcels") value
   label ← require_text_at is_label (codes "label") value
   outline ← outline_in value
@@ -125,12 +125,12 @@ discharge_of value = do
 -- ---- contents
 
 -- the names of a content's fields
-abbrev pub fields_of : ContentKind → List (List ℕ)
-fields_of kind.Transfer = transfer_fields
-fields_of kind.Subdivision = subdivision_fields
-fields_of kind.Merger = merger_fields
-fields_of kind.Mortgage = mortgage_fields
-fields_of kind.Discharge = discharge_fields
+abbrev pub content_fields : ContentKind → List (List ℕ)
+content_fields kind.Transfer = transfer_fields
+content_fields kind.Subdivision = subdivision_fields
+content_fields kind.Merger = merger_fields
+content_fields kind.Mortgage = mortgage_fields
+content_fields kind.Discharge = discharge_fields
 
 -- reads these fields in order
 abbrev pub content_by : ContentKind → Data → Result Content WireFault
@@ -142,7 +142,7 @@ content_by kind.Discharge value = discharge_of value >>= λ it. Ok (content.Disc
 
 -- a content by itself has its own fields and no other key
 unfoldable pub content_of : ContentKind → Data → Result Content WireFault
-content_of which value = object_with (fields_of which) value >>= λ whole. content_by which value
+content_of which value = object_with (content_fields which) value >>= λ whole. content_by which value
 
 -- the kind of a content by the word of its act; fault 133 for any other word
 abbrev pub content_kind_of : List ℕ → Result ContentKind WireFault
@@ -165,7 +165,7 @@ content_in word text = do
 -- a lodging: `reference`, `document`, then the fields of its content
 unfoldable pub lodging_of : ContentKind → Data → Result Lodging WireFault
 lodging_of which value = do
-  whole ← object_with (codes "reference" ∷ codes "document" ∷ fields_of which) value
+  whole ← object_with (codes "reference" ∷ codes "document" ∷ content_fields which) value
   reference ← require_text_at is_reference (codes "reference") value
   document ← require_text_at is_title (codes "document") value
   content ← content_by which value

@@ -8,7 +8,7 @@ use Rattle.land_core.specs.declared.act.Regroup.{Regroup}
 use Rattle.land_core.specs.declared.mandates.Mandate.{Mandate}
 use Rattle.land_core.specs.declared.member.Member.{Member}
 use Rattle.land_core.specs.declared.roles.Grant.{Grant}
-use Rattle.land_wire_json.specs.Bodies.Fields.{object_with, require_text_at, number_at, items_at, each_of}
+use Rattle.land_wire_json.specs.Bodies.Fields.{object_with, require_text_at, number_at, items_at, each_item}
 use Rattle.land_wire_json.specs.Bodies.Shares.{share_at}
 use Rattle.land_wire_json.specs.Bodies.WireFaults.{◌>>=◌}
 use Rattle.land_wire_json.specs.Bodies.Words.{kind_in, role_in}
@@ -32,15 +32,15 @@ member_of value = do
   Ok (record { party = party; share = share })
 
 -- `members`: 2 to 64 members
-unfoldable pub members_of : Data → Result (List Member) WireFault
-members_of value = items_at 2 64 (codes "members") value >>= each_of member_of
+unfoldable pub member_list_of : Data → Result (List Member) WireFault
+member_list_of value = items_at 2 64 (codes "members") value >>= each_item member_of
 
 -- a group: `name`, `members`
 unfoldable pub group_of : Data → Result NewGroup WireFault
 group_of value = do
   whole ← object_with (codes "name" ∷ codes "members" ∷ []) value
   name ← require_text_at is_name (codes "name") value
-  members ← members_of value
+  members ← member_list_of value
   Ok (record { name = name; members = members })
 
 -- new members of a group: `group`, `members`
@@ -48,7 +48,7 @@ unfoldable pub regroup_of : Data → Result Regroup WireFault
 regroup_of value = do
   whole ← object_with (codes "group" ∷ codes "members" ∷ []) value
   group ← number_at (codes "group") value
-  members ← members_of value
+  members ← member_list_of value
   Ok (record { group = group; members = members })
 
 -- a role to grant or to revoke: `party`, `role`

@@ -26,10 +26,10 @@ share_from (Some n) None = Err fault.Number
 share_from (Some n) (Some d) = share_or_fault (fraction_of (over n d))
 
 -- the numbers before and after the first `/`
-unfoldable pub share_of : List ℕ → Result Ratio WireFault
-share_of text =
+unfoldable pub share_in_text : List ℕ → Result Ratio WireFault
+share_in_text text =
     share_from (digits_in 18 (before_first is_slash text)) (digits_in 18 (after_first is_slash text))
 
 -- the share of a key
 unfoldable pub share_at : (key : List ℕ) → Data → Result Ratio WireFault
-share_at key value = text_at key value >>= share_of
+share_at key value = text_at key value >>= share_in_text

@@ -9,13 +9,13 @@ use Rattle.land_fraction.specs.Ratio.{IsFraction}
 use Rattle.land_shape.specs.Outline.{IsOutline}
 
 -- a part has an outline
-abbrev pub HasOutline : Part → Type 0
-HasOutline part = IsOutline part.outline
+abbrev pub HasPartOutline : Part → Type 0
+HasPartOutline part = IsOutline part.outline
 
 -- the share of a content is a fraction, and its outlines are outlines
 abbrev pub IsExactContent : Content → Type 0
 IsExactContent (content.Transfer it) = IsFraction it.share
-IsExactContent (content.Subdivision it) = IsOutline it.first.outline × AllByRecursion HasOutline it.rest
+IsExactContent (content.Subdivision it) = IsOutline it.first.outline × AllByRecursion HasPartOutline it.rest
 IsExactContent (content.Merger it) = IsOutline it.outline
 IsExactContent (content.Mortgage it) = ⊤
 IsExactContent (content.Discharge it) = ⊤

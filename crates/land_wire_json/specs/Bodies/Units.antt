@@ -8,7 +8,7 @@ use Rattle.land_core.specs.declared.act.NewParcel.{NewParcel}
 use Rattle.land_core.specs.declared.act.NewRight.{NewRight}
 use Rattle.land_core.specs.declared.act.NewUnit.{NewUnit}
 use Rattle.land_wire_json.specs.Bodies.Fields.{object_with, bool_at, require_text_at, number_at, items_at}
-use Rattle.land_wire_json.specs.Bodies.Fields.{each_of}
+use Rattle.land_wire_json.specs.Bodies.Fields.{each_item}
 use Rattle.land_wire_json.specs.Bodies.Outlines.{outline_in}
 use Rattle.land_wire_json.specs.Bodies.Shares.{share_at}
 use Rattle.land_wire_json.specs.Bodies.WireFaults.{◌>>=◌}
@@ -40,15 +40,15 @@ require_owner rights = if have_owner rights then Ok rights else Err fault.Field
 
 -- `rights`: 1 to 64 rights, one of them an ownership
 unfoldable pub rights_of : Data → Result (List NewRight) WireFault
-rights_of value = items_at 1 64 (codes "rights") value >>= each_of right_of >>= require_owner
+rights_of value = items_at 1 64 (codes "rights") value >>= each_item right_of >>= require_owner
 
 -- `parcels`: 1 to 64 parcels
 unfoldable pub parcels_of : Data → Result (List NewParcel) WireFault
-parcels_of value = items_at 1 64 (codes "parcels") value >>= each_of parcel_of
+parcels_of value = items_at 1 64 (codes "parcels") value >>= each_item parcel_of
 
 -- a unit: `name`, `checked`, `document`, `parcels`, `rights`
-abbrev pub unit_fields : List (List ℕ)
-unit_fields = codes "name" ∷ codes "checked" ∷ codes "document" ∷ codes "parcels" ∷ codes "rights" ∷ []
+abbrev pub new_unit_fields : List (List ℕ)
+new_unit_fields = codes "name" ∷ codes "checked" ∷ codes "document" ∷ codes "parcels" ∷ codes "rights" ∷ []
 
 unfoldable pub unit_by : Data → Result NewUnit WireFault
 unit_by value = do
@@ -60,7 +60,7 @@ unit_by value = do
   Ok (record { name = name; checked = checked; document = document; parcels = parcels; rights = rights })
 
 unfoldable pub unit_of : Data → Result NewUnit WireFault
-unit_of value = object_with unit_fields value >>= λ whole. unit_by value
+unit_of value = object_with new_unit_fields value >>= λ whole. unit_by value
 
 -- a burden: `unit`, `party`, `class`, `words`, `document`
 abbrev pub burden_fields : List (List ℕ)

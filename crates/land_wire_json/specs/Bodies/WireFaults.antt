@@ -1,7 +1,7 @@
 -- Faults of requests and bodies, and readings: a value or the first fault.
 use Rattle.std.specs.Prelude.{◌≡◌, ◌≢◌, ℕ, Option, Some, None, Result, Ok, Err}
-use Rattle.land_fraction.specs.Number.{number_of as fraction_number}
-use Rattle.land_shape.specs.FaultTexts.{number_of as shape_number}
+use Rattle.land_fraction.specs.Number.{fraction_fault_number}
+use Rattle.land_shape.specs.FaultTexts.{shape_fault_number}
 use Rattle.land_wire_json.specs.declared.bodies.wire_fault.WireFault.{WireFault}
 use Rattle.land_wire_json.specs.declared.bodies.wire_fault.WireFault.TheVariants.{Json, Field, Number, Text}
 use Rattle.land_wire_json.specs.declared.bodies.wire_fault.WireFault.TheVariants.{Role, NoRoute, Method}
@@ -16,8 +16,8 @@ fault_number Text = 133
 fault_number Role = 134
 fault_number NoRoute = 136
 fault_number Method = 137
-fault_number (Share fault) = fraction_number fault
-fault_number (Outline fault) = shape_number fault
+fault_number (Share fault) = fraction_fault_number fault
+fault_number (Outline fault) = shape_fault_number fault
 fault_number NoMemory = 501
 
 -- continues with the value, or stops at the first fault

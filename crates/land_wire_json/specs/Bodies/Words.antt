@@ -15,13 +15,13 @@ use Rattle.land_wire_json.specs.declared.bodies.wire_fault.WireFault.TheVariants
 use Rattle.serde_json.specs.Data.{Data}
 
 -- the kind of a single party; fault 133 for any other word
-abbrev pub kind_of : List ℕ → Result PartyKind WireFault
-kind_of word =
+abbrev pub enrolled_kind_of : List ℕ → Result PartyKind WireFault
+enrolled_kind_of word =
     if bytes_eq word (codes "naturalPerson") then Ok kind.NaturalPerson
     else (if bytes_eq word (codes "nonNaturalPerson") then Ok kind.NonNaturalPerson else Err fault.Text)
 
 unfoldable pub kind_in : Data → Result PartyKind WireFault
-kind_in value = text_at (codes "kind") value >>= kind_of
+kind_in value = text_at (codes "kind") value >>= enrolled_kind_of
 
 -- the role; fault 134 for any other word
 abbrev pub role_of : List ℕ → Result Role WireFault
@@ -38,20 +38,20 @@ unfoldable pub role_in : Data → Result Role WireFault
 role_in value = text_at (codes "role") value >>= role_of
 
 -- the type of a right; fault 133 for any other word
-abbrev pub type_of : List ℕ → Result RightType WireFault
-type_of word =
+abbrev pub right_type_of : List ℕ → Result RightType WireFault
+right_type_of word =
     if bytes_eq word (codes "ownership") then Ok right.Ownership
     else (if bytes_eq word (codes "lease") then Ok right.Lease
     else (if bytes_eq word (codes "usufruct") then Ok right.Usufruct else Err fault.Text))
 
 unfoldable pub type_in : Data → Result RightType WireFault
-type_in value = text_at (codes "type") value >>= type_of
+type_in value = text_at (codes "type") value >>= right_type_of
 
 -- the class of a burden; fault 133 for any other word
-abbrev pub class_of : List ℕ → Result BurdenClass WireFault
-class_of word =
+abbrev pub burden_class_of : List ℕ → Result BurdenClass WireFault
+burden_class_of word =
     if bytes_eq word (codes "restriction") then Ok burden.Restriction
     else (if bytes_eq word (codes "responsibility") then Ok burden.Responsibility else Err fault.Text)
 
 unfoldable pub class_in : Data → Result BurdenClass WireFault
-class_in value = text_at (codes "class") value >>= class_of
+class_in value = text_at (codes "class") value >>= burden_class_of

@@ -13,7 +13,7 @@ use Rattle.land_core.specs.declared.rrr.Rrr.{Rrr}
 use Rattle.land_core.specs.declared.source.Source.{Source}
 use Rattle.land_core.specs.declared.unit.Unit.{Unit}
 use Rattle.land_fraction.specs.Ratio.{Ratio, IsFraction}
-use Rattle.land_fraction.specs.Text.{text_of}
+use Rattle.land_fraction.specs.Text.{fraction_text}
 use Rattle.land_shape.specs.Outline.{IsOutline}
 use Rattle.land_shape.specs.Place.{Place}
 use Rattle.land_shape.specs.Printed.{polygon_text}
@@ -46,7 +46,7 @@ PartyTexts =
 
 -- the text of a share is its canonical form in quotation marks
 abbrev pub ShareTexts : Type 0
-ShareTexts = (share : Ratio) → IsFraction share → share_text share ≡ quoted_word (text_of share)
+ShareTexts = (share : Ratio) → IsFraction share → share_text share ≡ quoted_word (fraction_text share)
 
 -- the text of an outline is its canonical form in quotation marks
 abbrev pub OutlineTexts : Type 0

@@ -1,6 +1,6 @@
 -- Mutations and their contents in JSON.
 use Rattle.std.specs.Prelude.{List, ℕ, ◌++◌, codes, decimal}
-use Rattle.land_core.specs.Words.{act_word, state_word}
+use Rattle.land_core.specs.Words.{content_word, state_word}
 use Rattle.land_core.specs.declared.content.Content.{Content}
 use Rattle.land_core.specs.declared.content.Content.TheVariants as content
 use Rattle.land_core.specs.declared.content.Discharge.{Discharge}
@@ -53,7 +53,7 @@ content_text it = compact_text (content_data it)
 -- `lodged` is the time of lodging
 abbrev pub mutation_data : Mutation → Data
 mutation_data mutation =
-    object (member (codes "act") (string (act_word mutation.content))
+    object (member (codes "act") (string (content_word mutation.content))
     (member (codes "content") (content_data mutation.content)
     (member (codes "lodged") (number (of_integer mutation.lodged))
     (member (codes "lodger") (number_data mutation.lodger)
@@ -95,7 +95,7 @@ content_text_by_kind (content.Discharge it) = discharge_text it
 abbrev pub mutation_text : Content → (lodged lodger n : ℕ) → (reference : List ℕ) → (source : ℕ)
     → MutationState → List ℕ
 mutation_text it lodged lodger n reference source state =
-    codes "{\"act\":" ++ (quoted_word (act_word it) ++ (codes ",\"content\":" ++ (content_text it
+    codes "{\"act\":" ++ (quoted_word (content_word it) ++ (codes ",\"content\":" ++ (content_text it
     ++ (codes ",\"lodged\":" ++ (decimal lodged ++ (codes ",\"lodger\":" ++ (decimal lodger
     ++ (codes ",\"number\":" ++ (decimal n ++ (codes ",\"reference\":" ++ (reference ++ (codes ",\"source\":"
     ++ (decimal source ++ (codes ",\"state\":" ++ (quoted_word (state_word state) ++ codes "}")))))))))))))))

@@ -1,7 +1,7 @@
 -- JSON values, and texts that are built from others.
 use Rattle.std.specs.Prelude.{ℕ, Bool, true, false, List, [], ◌∷◌, ◌++◌, map, codes}
 use Rattle.land_fraction.specs.Ratio.{Ratio}
-use Rattle.land_fraction.specs.Text.{text_of}
+use Rattle.land_fraction.specs.Text.{fraction_text}
 use Rattle.land_shape.specs.Place.{Place}
 use Rattle.land_shape.specs.Printed.{polygon_text}
 use Rattle.serde_json.specs.Data.{Data, unsigned, number, string, array, object, no_members, member}
@@ -16,7 +16,7 @@ numbers_data numbers = array (items_of (map number_data numbers))
 
 -- a share in canonical form
 abbrev pub share_data : Ratio → Data
-share_data share = string (text_of share)
+share_data share = string (fraction_text share)
 
 -- an object with one member
 abbrev pub one_member : List ℕ → Data → Data

@@ -1,11 +1,11 @@
 //! Reads the contents of mutations.
 ghost use Rattle.std.specs.Prelude.{◌≡◌, Ok, codes, map};
 ghost use Rattle.land_core.specs.Contents.{is_amount, is_currency};
-ghost use Rattle.land_core.specs.Words.{act_word};
+ghost use Rattle.land_core.specs.Words.{content_word};
 ghost use Rattle.land_core.specs.declared.content.Content.{Content};
 ghost use Rattle.land_wire_json.specs.Bodies.Fields.{require_text, require_text_at, require_number};
 ghost use Rattle.land_wire_json.specs.Bodies.Mutations.{content_by, content_in, content_of, discharge_of};
-ghost use Rattle.land_wire_json.specs.Bodies.Mutations.{fields_of, mortgage_of, transfer_of};
+ghost use Rattle.land_wire_json.specs.Bodies.Mutations.{content_fields, mortgage_of, transfer_of};
 ghost use Rattle.land_wire_json.specs.Bodies.Stored.{IsStorable};
 ghost use Rattle.land_wire_json.specs.Bodies.WireFaults.{Returns};
 ghost use Rattle.land_wire_json.specs.Texts.Mutations.{content_text};
@@ -30,7 +30,7 @@ use std::alloc::Global;
 /// the fields in their order; 501 if out of memory. Reading the text of a content returns that content.
 pub fn read_content(alloc: Global, word: &str, text: &str) -> Result<Content, WireFault>
     ensures reading { Returns (λ it. it) result (content_in word.now text.now) }
-    ensures back { (it : Content) → IsStorable it → word.now ≡ act_word it → text.now ≡ content_text it
+    ensures back { (it : Content) → IsStorable it → word.now ≡ content_word it → text.now ≡ content_text it
         → Returns (λ it. it) result (Ok it) }
 {
     laws::contents_round_trip();
@@ -55,7 +55,7 @@ fn content_of(alloc: Global, kind: ContentKind, value: &Value) -> Result<Content
 }
 
 fn fields_of(kind: ContentKind) -> &'static [&'static str]
-    ensures { map (λ name. name.now) result.now ≡ fields_of kind }
+    ensures { map (λ name. name.now) result.now ≡ content_fields kind }
 {
     match kind {
         ContentKind::Transfer => &["unit", "right", "receiver", "share"],

@@ -3,7 +3,7 @@ ghost use Rattle.std.specs.Prelude.{◌≡◌, ◌≤◌, length, true};
 ghost use Rattle.std.specs.Char.{is_ascii_digit};
 ghost use Rattle.std.specs.List.{list_all};
 ghost use Rattle.std.specs.Str.Parse.{digits_value};
-ghost use Rattle.land_wire_json.specs.Bodies.Decimals.{are_digits, digits_in};
+ghost use Rattle.land_wire_json.specs.Bodies.Decimals.{are_digits_up_to, digits_in};
 
 /// Returns the value of 1 to `most` decimal digits, or `None` for any other text. Leading zeros are allowed.
 pub fn read_digits(text: &[u8], most: usize) -> Option<u64>
@@ -18,7 +18,7 @@ pub fn read_digits(text: &[u8], most: usize) -> Option<u64>
 }
 
 fn are_digits(text: &[u8], most: usize) -> bool
-    ensures { result ≡ are_digits most text.now }
+    ensures { result ≡ are_digits_up_to most text.now }
 {
     let count = text.len();
     1 <= count && count <= most && has_only_digits(text)

@@ -4,7 +4,8 @@ ghost use Rattle.std.specs.List.{list_all, list_any};
 ghost use Rattle.std.specs.BTreeMap.{keys};
 ghost use Rattle.land_core.specs.Numbers.{is_number};
 ghost use Rattle.land_core.specs.Texts.{are_words, is_label, is_name, is_reference, is_title};
-ghost use Rattle.land_wire_json.specs.Bodies.Fields.{field_at, has_only, is_among, item_count, items_at};
+ghost use Rattle.land_wire_json.specs.Bodies.Fields.{field_at, has_only, is_listed_name, item_count};
+ghost use Rattle.land_wire_json.specs.Bodies.Fields.{items_at};
 ghost use Rattle.land_wire_json.specs.Bodies.Fields.{require_text, require_text_at, number_at, number_in};
 ghost use Rattle.land_wire_json.specs.Bodies.Fields.{object_with};
 ghost use Rattle.land_wire_json.specs.Bodies.Fields.{text_at, text_value, bool_at, value_in};
@@ -68,14 +69,14 @@ fn has_only(members: &Map<String, Value>, names: &[&str]) -> bool
 }
 
 fn has_keys_among(members: &Map<String, Value>, names: &[&str]) -> bool
-    ensures { result ≡ list_all (λ key. is_among (map (λ name. name.now) names.now) (string_bytes key))
+    ensures { result ≡ list_all (λ key. is_listed_name (map (λ name. name.now) names.now) (string_bytes key))
         (keys members.now) }
 {
     members.keys().all(|key| is_among(key.as_str(), names))
 }
 
 fn is_among(key: &str, names: &[&str]) -> bool
-    ensures { result ≡ is_among (map (λ name. name.now) names.now) key.now }
+    ensures { result ≡ is_listed_name (map (λ name. name.now) names.now) key.now }
 {
     is_one_of(key, names)
 }

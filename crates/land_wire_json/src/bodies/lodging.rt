@@ -1,6 +1,6 @@
 //! Reads the bodies of lodgings, approvals and refusals.
 ghost use Rattle.std.specs.Prelude.{◌≡◌, ◌∷◌, codes, map};
-ghost use Rattle.land_wire_json.specs.Bodies.Mutations.{decision_of, fields_of, lodging_of};
+ghost use Rattle.land_wire_json.specs.Bodies.Mutations.{decision_of, content_fields, lodging_of};
 ghost use Rattle.land_wire_json.specs.Bodies.WireFaults.{Returns};
 ghost use Rattle.serde_json.specs.View.{view};
 
@@ -30,7 +30,7 @@ pub fn lodging_of(alloc: Global, kind: ContentKind, value: &Value) -> Result<Lod
 
 /// Returns the names of a lodging's fields, by the kind of its content.
 fn lodged_fields(kind: ContentKind) -> &'static [&'static str]
-    ensures { map (λ name. name.now) result.now ≡ codes "reference" ∷ codes "document" ∷ fields_of kind }
+    ensures { map (λ name. name.now) result.now ≡ codes "reference" ∷ codes "document" ∷ content_fields kind }
 {
     match kind {
         ContentKind::Transfer => &[

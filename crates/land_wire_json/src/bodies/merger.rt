@@ -1,7 +1,7 @@
 //! Reads the contents of mergers.
 ghost use Rattle.std.specs.Prelude.{◌≡◌};
-ghost use Rattle.land_wire_json.specs.Bodies.Fields.{each_of, number_in};
-ghost use Rattle.land_wire_json.specs.Bodies.Mutations.{merger_of, increasing_at, without};
+ghost use Rattle.land_wire_json.specs.Bodies.Fields.{each_item, number_in};
+ghost use Rattle.land_wire_json.specs.Bodies.Mutations.{merger_of, increasing_at, others_besides};
 ghost use Rattle.land_wire_json.specs.Bodies.WireFaults.{Returns};
 ghost use Rattle.serde_json.specs.View.{view, items_view};
 
@@ -34,7 +34,7 @@ pub(crate) fn merger_of(alloc: Global, value: &Value) -> Result<Merger, WireFaul
 }
 
 fn without(unit: u64, others: NumberList) -> Result<NumberList, WireFault>
-    ensures { result ≡ without unit others }
+    ensures { result ≡ others_besides unit others }
 {
     if lists_number(others.as_slice(), unit) {
         Err(WireFault::Field)
@@ -64,7 +64,7 @@ fn increasing_at(
 }
 
 fn each_number(alloc: Global, items: &[Value]) -> Result<NumberList, WireFault>
-    ensures { Returns (λ it. it) result (each_of number_in (items_view items.now)) }
+    ensures { Returns (λ it. it) result (each_item number_in (items_view items.now)) }
 {
     let mut numbers = Sequence::new(alloc);
     for value in items {

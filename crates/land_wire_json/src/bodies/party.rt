@@ -1,8 +1,8 @@
 //! Reads the bodies of acts on parties.
 ghost use Rattle.std.specs.Prelude.{◌≡◌};
-ghost use Rattle.land_wire_json.specs.Bodies.Fields.{each_of};
+ghost use Rattle.land_wire_json.specs.Bodies.Fields.{each_item};
 ghost use Rattle.land_wire_json.specs.Bodies.Parties.{enrol_of, grant_of, group_of, mandate_of, member_of};
-ghost use Rattle.land_wire_json.specs.Bodies.Parties.{members_of, regroup_of, withdrawal_of};
+ghost use Rattle.land_wire_json.specs.Bodies.Parties.{member_list_of, regroup_of, withdrawal_of};
 ghost use Rattle.land_wire_json.specs.Bodies.WireFaults.{Returns};
 ghost use Rattle.serde_json.specs.View.{view, items_view};
 
@@ -85,13 +85,13 @@ pub fn withdrawal_of(value: &Value) -> Result<Mandate, WireFault>
 
 #[tactic(auto, unfolding(crate::specs::Bodies::Parties::members_of))]
 fn members_of(alloc: Global, value: &Value) -> Result<Sequence<Member>, WireFault>
-    ensures { Returns (λ it. it) result (members_of (view value.now)) }
+    ensures { Returns (λ it. it) result (member_list_of (view value.now)) }
 {
     each_member(alloc, items_at(value, "members", 2, 64)?)
 }
 
 fn each_member(alloc: Global, items: &[Value]) -> Result<Sequence<Member>, WireFault>
-    ensures { Returns (λ it. it) result (each_of member_of (items_view items.now)) }
+    ensures { Returns (λ it. it) result (each_item member_of (items_view items.now)) }
 {
     let mut members = Sequence::new(alloc);
     for value in items {

@@ -1,7 +1,7 @@
 //! Reads shares from their texts.
 ghost use Rattle.std.specs.Prelude.{◌≡◌};
 ghost use Rattle.land_wire_json.specs.Bodies.Decimals.{digits_in};
-ghost use Rattle.land_wire_json.specs.Bodies.Shares.{share_at, share_from, share_of};
+ghost use Rattle.land_wire_json.specs.Bodies.Shares.{share_at, share_from, share_in_text};
 ghost use Rattle.serde_json.specs.View.{view};
 
 use crate::bodies::decimals::read_digits;
@@ -25,7 +25,7 @@ pub fn share_at(value: &Value, key: &str) -> Result<Fraction, WireFault>
 /// 103.
 #[tactic(auto, unfolding(crate::specs::Bodies::Shares::share_of))]
 pub fn share_of(text: &str) -> Result<Fraction, WireFault>
-    ensures { result ≡ share_of text.now }
+    ensures { result ≡ share_in_text text.now }
 {
     match text.split_once('/') {
         Some((numerator, denominator)) => share_from(numerator.as_bytes(), denominator.as_bytes()),

@@ -2,7 +2,7 @@
 ghost use Rattle.std.specs.List.{AllByRecursion};
 ghost use Rattle.land_fraction.specs.Ratio.{IsFraction};
 ghost use Rattle.land_shape.specs.Outline.{IsOutline};
-ghost use Rattle.land_wire_json.specs.Bodies.Stored.{HasOutline, IsExactContent};
+ghost use Rattle.land_wire_json.specs.Bodies.Stored.{HasPartOutline, IsExactContent};
 
 use land_core::content::Content;
 use land_core::subdivision::Part;
@@ -39,7 +39,7 @@ fn outline_is_exact(outline: &Ring)
 }
 
 fn parts_are_exact(parts: &[Part])
-    ensures { AllByRecursion HasOutline parts.now }
+    ensures { AllByRecursion HasPartOutline parts.now }
 {
     for part in parts {
         outline_is_exact(&part.outline);

@@ -1,6 +1,6 @@
 //! Reads the contents of subdivisions.
 ghost use Rattle.std.specs.Prelude.{◌≡◌, option_map};
-ghost use Rattle.land_wire_json.specs.Bodies.Fields.{each_of};
+ghost use Rattle.land_wire_json.specs.Bodies.Fields.{each_item};
 ghost use Rattle.land_wire_json.specs.Bodies.Mutations.{new_name_of, part_of, rest_of, subdivision_of};
 ghost use Rattle.land_wire_json.specs.Bodies.WireFaults.{Returns};
 ghost use Rattle.serde_json.specs.View.{view, items_view};
@@ -41,7 +41,7 @@ fn rest_of(alloc: Global, value: &Value) -> Result<Sequence<Part>, WireFault>
 }
 
 fn each_part(alloc: Global, items: &[Value]) -> Result<Sequence<Part>, WireFault>
-    ensures { Returns (λ it. it) result (each_of part_of (items_view items.now)) }
+    ensures { Returns (λ it. it) result (each_item part_of (items_view items.now)) }
 {
     let mut parts = Sequence::new(alloc);
     for value in items {

@@ -1,10 +1,10 @@
 //! Reads the bodies of acts on units and their entries.
 ghost use Rattle.std.specs.Prelude.{◌≡◌, map};
-ghost use Rattle.land_wire_json.specs.Bodies.Fields.{each_of};
+ghost use Rattle.land_wire_json.specs.Bodies.Fields.{each_item};
 ghost use Rattle.land_wire_json.specs.Bodies.Units.{burden_by, burden_fields, burden_of, lift_of};
 ghost use Rattle.land_wire_json.specs.Bodies.Units.{require_owner};
 ghost use Rattle.land_wire_json.specs.Bodies.Units.{parcel_of, parcels_of, right_of, rights_of, unit_by};
-ghost use Rattle.land_wire_json.specs.Bodies.Units.{unit_fields, unit_of};
+ghost use Rattle.land_wire_json.specs.Bodies.Units.{new_unit_fields, unit_of};
 ghost use Rattle.land_wire_json.specs.Bodies.WireFaults.{Returns};
 ghost use Rattle.serde_json.specs.View.{view, items_view};
 
@@ -32,7 +32,7 @@ pub fn unit_of(alloc: Global, value: &Value) -> Result<NewUnit, WireFault>
 }
 
 fn unit_fields() -> &'static [&'static str]
-    ensures { map (λ name. name.now) result.now ≡ unit_fields }
+    ensures { map (λ name. name.now) result.now ≡ new_unit_fields }
 {
     &["name", "checked", "document", "parcels", "rights"]
 }
@@ -117,7 +117,7 @@ fn parcels_of(alloc: Global, value: &Value) -> Result<Sequence<NewParcel>, WireF
 }
 
 fn each_parcel(alloc: Global, items: &[Value]) -> Result<Sequence<NewParcel>, WireFault>
-    ensures { Returns (λ it. it) result (each_of parcel_of (items_view items.now)) }
+    ensures { Returns (λ it. it) result (each_item parcel_of (items_view items.now)) }
 {
     let mut parcels = Sequence::new(alloc);
     for value in items {
@@ -144,7 +144,7 @@ fn require_owner(rights: Sequence<NewRight>) -> Result<Sequence<NewRight>, WireF
 }
 
 fn each_right(alloc: Global, items: &[Value]) -> Result<Sequence<NewRight>, WireFault>
-    ensures { Returns (λ it. it) result (each_of right_of (items_view items.now)) }
+    ensures { Returns (λ it. it) result (each_item right_of (items_view items.now)) }
 {
     let mut rights = Sequence::new(alloc);
     for value in items {

@@ -1,7 +1,8 @@
 //! Reads the words of kinds, roles, types and classes.
 ghost use Rattle.std.specs.Prelude.{◌≡◌, bytes_eq};
-ghost use Rattle.land_wire_json.specs.Bodies.Words.{class_in, class_of, kind_in, kind_of, role_in, role_of};
-ghost use Rattle.land_wire_json.specs.Bodies.Words.{type_in, type_of};
+ghost use Rattle.land_wire_json.specs.Bodies.Words.{class_in, burden_class_of, kind_in};
+ghost use Rattle.land_wire_json.specs.Bodies.Words.{enrolled_kind_of, role_in, role_of};
+ghost use Rattle.land_wire_json.specs.Bodies.Words.{type_in, right_type_of};
 ghost use Rattle.serde_json.specs.View.{view};
 
 use crate::bodies::fields::text_at;
@@ -23,7 +24,7 @@ pub fn kind_in(value: &Value) -> Result<PartyKind, WireFault>
 
 /// Returns the kind of a single party. Errors: 133 for any other word.
 pub fn kind_of(word: &str) -> Result<PartyKind, WireFault>
-    ensures { result ≡ kind_of word.now }
+    ensures { result ≡ enrolled_kind_of word.now }
 {
     if word == "naturalPerson" {
         Ok(PartyKind::NaturalPerson)
@@ -81,7 +82,7 @@ pub fn type_in(value: &Value) -> Result<RightType, WireFault>
 
 /// Returns the type of a right. Errors: 133 for any other word.
 pub fn type_of(word: &str) -> Result<RightType, WireFault>
-    ensures { result ≡ type_of word.now }
+    ensures { result ≡ right_type_of word.now }
 {
     if word == "ownership" {
         Ok(RightType::Ownership)
@@ -105,7 +106,7 @@ pub fn class_in(value: &Value) -> Result<BurdenClass, WireFault>
 
 /// Returns the class of a burden. Errors: 133 for any other word.
 fn class_of(word: &str) -> Result<BurdenClass, WireFault>
-    ensures { result ≡ class_of word.now }
+    ensures { result ≡ burden_class_of word.now }
 {
     if word == "restriction" {
         Ok(BurdenClass::Restriction)

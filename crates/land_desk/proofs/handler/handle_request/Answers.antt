@@ -4,7 +4,7 @@ use Rattle.std.specs.Int.{w64}
 use Rattle.std.proofs.lemmas.Int.{to_z-of_z}
 use Rattle.land_desk.proofs.ExchangeLemmas.{shown_has_moment, stays, steps}
 use Rattle.land_keep.proofs.Steps.{fault_element, fault_tells, opens, was_open}
-use Rattle.land_keep.specs.Faults.{number_of}
+use Rattle.land_keep.specs.Faults.{store_fault_number}
 use Rattle.land_keep.specs.Keeping.{Closes, apply_pending}
 use Rattle.land_keep.specs.declared.prepared.Prepared.{Prepared}
 use Rattle.land_keep.specs.declared.reply.Reply.{Reply}
@@ -19,12 +19,12 @@ returns-in-Err-clause-reply g c from at =
     let closes = c.in-Err.ensures.closes in
     let it = stays g.C.Clock.reads (g.K.Keeper.honest c.args.keeper.now) (g.K.Keeper.honest c.prepare.new.keeper) before closed
     (g.K.Keeper.timeline c.args.keeper.now) (g.K.Keeper.timeline c.prepare.new.keeper) c.args.clock.now c.read-reading.new.self
-    c.read-reading.result c.args.request.now c.read-reading.ensures (reply.Store (number_of c.in-Err.fault))
+    c.read-reading.result c.args.request.now c.read-reading.ensures (reply.Store (store_fault_number c.in-Err.fault))
     (λ tl. fault_element Prepared before closed c.read-reading.result c.args.request.now tl c.in-Err.fault closes)
     (fault_tells Prepared before closed c.in-Err.fault closes)
     c.in-Err.ensures.was (was_open Prepared before closed c.in-Err.fault closes) (λ trust is_open. c.in-Err.ensures.same (trust, is_open))
     from at in
-    (it.0, (reply.Store (number_of c.in-Err.fault), it.1, c.store_failure.ensures), it.2)
+    (it.0, (reply.Store (store_fault_number c.in-Err.fault), it.1, c.store_failure.ensures), it.2)
 
 pub returns-in_default-clause-reply : goal.returns-in_default-clause-reply
 returns-in_default-clause-reply g c from at =
@@ -52,13 +52,13 @@ returns-in-Err-finish-clause-reply g c from at =
     subst (λ (b : Bool). Closes {T = Reply} b closed (Err fault)) (opened.1 ∙ sym opened.0) c.in-Err-finish.ensures.closes in
     let it = stays g.C.Clock.reads (g.K.Keeper.honest c.args.keeper.now) (g.K.Keeper.honest c.finish.new.keeper) before closed
     (g.K.Keeper.timeline c.args.keeper.now) (g.K.Keeper.timeline c.finish.new.keeper) c.args.clock.now c.read-reading.new.self
-    c.read-reading.result c.args.request.now c.read-reading.ensures (reply.Store (number_of fault))
+    c.read-reading.result c.args.request.now c.read-reading.ensures (reply.Store (store_fault_number fault))
     (λ tl. fault_element Reply before closed c.read-reading.result c.args.request.now tl fault closes)
     (fault_tells Reply before closed fault closes)
     (λ trust. c.in-Ok.ensures.was (c.in-Err-finish.ensures.was trust)) (λ is_open. opened.0)
     (λ trust is_open. c.in-Err-finish.ensures.err (trust, is_open) ∙ c.in-Ok.ensures.same (c.in-Err-finish.ensures.was trust, opened.1))
     from at in
-    (it.0, (reply.Store (number_of fault), it.1, c.store_failure-in-Err-finish.ensures), it.2)
+    (it.0, (reply.Store (store_fault_number fault), it.1, c.store_failure-in-Err-finish.ensures), it.2)
 
 pub returns-in-Ok-finish-clause-reply : goal.returns-in-Ok-finish-clause-reply
 returns-in-Ok-finish-clause-reply g c from at =

@@ -4,13 +4,13 @@ use Rattle.std.proofs.lemmas.Int.{to_z-of_z}
 use Rattle.land_digest.proofs.Collected.{collected, collected_distinct}
 use Rattle.land_digest.proofs.digest.put_part.Goals as goal
 use Rattle.land_digest.specs.Entries.{Gains, event_of}
-use Rattle.land_digest.specs.Events.{Event, events_between, events_text, in_order, is_between}
+use Rattle.land_digest.specs.Events.{Event, events_between, events_text, in_order, is_stamp_between}
 use Rattle.land_digest.specs.History.{history_events}
 
 pub put_in_order-requires : goal.put_in_order-requires
 put_in_order-requires c =
     let u = to_z w64 (of_z w64 c.args.upto) in
-    let p : Event → Bool = λ e. is_between c.args.after u e.stamp in
+    let p : Event → Bool = λ e. is_stamp_between c.args.after u e.stamp in
     let all =
     collected p c.args.moments.now c.args.history.now (map_list event_of c.new-entries.result.items) _ _
     (ap (map_list event_of) c.new-entries.ensures.items) c.in_ok-add_moments.ensures
@@ -21,7 +21,7 @@ put_in_order-requires c =
 pub returns : goal.returns
 returns c =
     let u = to_z w64 (of_z w64 c.args.upto) in
-    let p : Event → Bool = λ e. is_between c.args.after u e.stamp in
+    let p : Event → Bool = λ e. is_stamp_between c.args.after u e.stamp in
     let moments = c.args.moments.now in
     let history = c.args.history.now in
     let all =

@@ -3,7 +3,7 @@ use Rattle.std.proofs.lemmas.Int.{to_z-of_z}
 use Rattle.land_digest.proofs.Collected.{Adds, adds_none, adds_versions}
 use Rattle.land_digest.proofs.entries.add_all_versions.Goals as goal
 use Rattle.land_digest.specs.Entries.{event_of}
-use Rattle.land_digest.specs.Events.{Event, events_between, is_between}
+use Rattle.land_digest.specs.Events.{Event, events_between, is_stamp_between}
 use Rattle.land_digest.specs.History.{all_version_events, events_by_table}
 use Rattle.land_digest.specs.Rows.{mandate_row, member_row, mutation_row, naming_row, parcel_row, party_row}
 use Rattle.land_digest.specs.Rows.{role_row, rrr_row, source_row, unit_row}
@@ -11,7 +11,7 @@ use Rattle.land_digest.specs.Rows.{role_row, rrr_row, source_row, unit_row}
 pub returns : goal.returns
 returns c =
     let u = to_z w64 (of_z w64 c.args.upto) in
-    let p : Event → Bool = λ e. is_between c.args.after u e.stamp in
+    let p : Event → Bool = λ e. is_stamp_between c.args.after u e.stamp in
     let h = c.args.history.now in
     let m0 = map_list event_of c.args.entries.now.items in
     let m1 = map_list event_of c.add_versions.new.entries.items in

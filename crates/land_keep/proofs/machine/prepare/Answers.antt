@@ -6,7 +6,7 @@ use Rattle.std.proofs.lemmas.Result.{IfOk-weaker}
 use Rattle.land_core.specs.Numbers.{IsMoment}
 use Rattle.land_keep.proofs.Steps.{now_is_moment, opens, role_is_held, shows_asked, step_allowed, step_denied, step_late, without_change_leads}
 use Rattle.land_keep.specs.Keeping.{SheetHasRequestedMoment, SheetHasMoment}
-use Rattle.land_keep.specs.Machine.{at_of, now_of, moment_of, verdict_at}
+use Rattle.land_keep.specs.Machine.{at_of, now_of, asked_moment, verdict_at}
 use Rattle.land_keep.specs.Moments.{now_after}
 use Rattle.land_keep.specs.declared.prepared.Prepared.{Prepared}
 use Rattle.land_keep.specs.declared.reply.Reply.{Reply}
@@ -26,8 +26,8 @@ returns-in-Allowed-clause-prepared g c honest =
     let fit_at : FitsSigned w64 c.unwrap_or-at.result = search rules in
     let last_is = c.last.ensures.last (trust, opened.0) in
     let now_is : c.now_at-now.result ≡ now_of c.args.clock tl = rw (← last_is) (simp to_z-of_z at c.now_at-now.ensures) in
-    let at_is : c.unwrap_or-at.result ≡ moment_of c.args.request.now.ask (now_of c.args.clock tl) = rw (← now_is, ← c.explicit_moment.ensures) (simp to_z-of_z at c.unwrap_or-at.ensures) in
-    let late : int_lt (now_of c.args.clock tl) (moment_of c.args.request.now.ask (now_of c.args.clock tl)) ≡ false = rw (← at_is, ← now_is) (simp to_z-of_z at c.if-now-at.false) in
+    let at_is : c.unwrap_or-at.result ≡ asked_moment c.args.request.now.ask (now_of c.args.clock tl) = rw (← now_is, ← c.explicit_moment.ensures) (simp to_z-of_z at c.unwrap_or-at.ensures) in
+    let late : int_lt (now_of c.args.clock tl) (asked_moment c.args.request.now.ask (now_of c.args.clock tl)) ≡ false = rw (← at_is, ← now_is) (simp to_z-of_z at c.if-now-at.false) in
     let free : verdict_at tl c.args.request.now.caller c.args.request.now.ask (now_of c.args.clock tl) ≡ Allowed = rw (← now_is) (sym (simp to_z-of_z at (c.in_ok-rule.ensures.value asked)) ∙ c.in-Allowed.is) in
     rw (step_allowed c.args.clock c.args.request.now tl late free, ← at_is)
     (rw (c.in_ok-rule.ensures.same (asked, opened.1)) at (simp to_z-of_z at (c.prepare_allowed.ensures.prepared honest)))
@@ -42,8 +42,8 @@ returns-in-Denied-clause-prepared g c honest =
     let fit_at : FitsSigned w64 c.unwrap_or-at.result = search rules in
     let last_is = c.last.ensures.last (trust, sym c.is_closed.ensures ∙ c.if-is_closed.false) in
     let now_is : c.now_at-now.result ≡ now_of c.args.clock tl = rw (← last_is) (simp to_z-of_z at c.now_at-now.ensures) in
-    let at_is : c.unwrap_or-at.result ≡ moment_of c.args.request.now.ask (now_of c.args.clock tl) = rw (← now_is, ← c.explicit_moment.ensures) (simp to_z-of_z at c.unwrap_or-at.ensures) in
-    let late : int_lt (now_of c.args.clock tl) (moment_of c.args.request.now.ask (now_of c.args.clock tl)) ≡ false = rw (← at_is, ← now_is) (simp to_z-of_z at c.if-now-at.false) in
+    let at_is : c.unwrap_or-at.result ≡ asked_moment c.args.request.now.ask (now_of c.args.clock tl) = rw (← now_is, ← c.explicit_moment.ensures) (simp to_z-of_z at c.unwrap_or-at.ensures) in
+    let late : int_lt (now_of c.args.clock tl) (asked_moment c.args.request.now.ask (now_of c.args.clock tl)) ≡ false = rw (← at_is, ← now_is) (simp to_z-of_z at c.if-now-at.false) in
     let denied : verdict_at tl c.args.request.now.caller c.args.request.now.ask (now_of c.args.clock tl) ≡ Denied c.in-Denied.rule = rw (← now_is) (sym (simp to_z-of_z at (c.in_ok-rule.ensures.value honest)) ∙ c.in-Denied.is) in
     without_change_leads c.without_change-in-Denied.result (reply.Denied c.in-Denied.rule) _ tl c.without_change-in-Denied.ensures.reply c.without_change-in-Denied.ensures.writing
     (step_denied c.args.clock c.args.request.now tl c.in-Denied.rule late denied)
@@ -57,8 +57,8 @@ returns-then-now-at-clause-prepared g c honest =
     let fit_at : FitsSigned w64 c.unwrap_or-at.result = search rules in
     let last_is = c.last.ensures.last (honest, sym c.is_closed.ensures ∙ c.if-is_closed.false) in
     let now_is : c.now_at-now.result ≡ now_of c.args.clock tl = rw (← last_is) (simp to_z-of_z at c.now_at-now.ensures) in
-    let at_is : c.unwrap_or-at.result ≡ moment_of c.args.request.now.ask (now_of c.args.clock tl) = rw (← now_is, ← c.explicit_moment.ensures) (simp to_z-of_z at c.unwrap_or-at.ensures) in
-    let late : int_lt (now_of c.args.clock tl) (moment_of c.args.request.now.ask (now_of c.args.clock tl)) ≡ true = rw (← at_is, ← now_is) (simp to_z-of_z at c.if-now-at.true) in
+    let at_is : c.unwrap_or-at.result ≡ asked_moment c.args.request.now.ask (now_of c.args.clock tl) = rw (← now_is, ← c.explicit_moment.ensures) (simp to_z-of_z at c.unwrap_or-at.ensures) in
+    let late : int_lt (now_of c.args.clock tl) (asked_moment c.args.request.now.ask (now_of c.args.clock tl)) ≡ true = rw (← at_is, ← now_is) (simp to_z-of_z at c.if-now-at.true) in
     without_change_leads c.without_change.result (reply.Fault 135) _ tl c.without_change.ensures.reply c.without_change.ensures.writing (step_late c.args.clock c.args.request.now tl late)
 
 pub prepare_allowed-requires-clause-role_held : goal.prepare_allowed-requires-clause-role_held

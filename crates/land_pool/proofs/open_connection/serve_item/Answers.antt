@@ -1,7 +1,7 @@
 use Rattle.std.proofs.Common.{[], ◌∙◌, ap, arith, false, refl, true}
 use Rattle.std.specs.Io.KnownBytes.{prepend_known}
 use Rattle.land_pool.proofs.Turned.{carried, same_connection, item_more, item_last, item_end, item_later, item_unread, item_broken, item_dropped}
-use Rattle.land_pool.specs.Interleaving.{IsServed, WritesPrefix}
+use Rattle.land_pool.specs.Interleaving.{IsServed, SendsPrefix}
 use Rattle.land_pool.specs.OpenConnections.{HasItems}
 use Rattle.land_wire.specs.Framing.Reads.{input_limit}
 use Rattle.land_pool.proofs.open_connection.serve_item.Goals as goal
@@ -24,7 +24,7 @@ returns-in-Ok-KeepAlive-clause-served g c trust =
     carried g.C.Clock.reads _ _ c.args.connection.now.finished c.serve_counted.new.connection.finished
     (prepend_known c.args.connection.now.input.items (g.R.Read.remaining c.args.connection.now.reader))
     (g.W.Write.contents c.args.connection.now.writer) (g.W.Write.contents c.serve_counted.new.connection.writer) c.args.connection.now.output.items
-    (λ bytes old xs. HasItems c.serve_counted.new.connection.finished bytes (prepend_known c.serve_counted.new.connection.input.items (g.R.Read.remaining c.serve_counted.new.connection.reader)) xs × WritesPrefix old (g.W.Write.contents c.serve_counted.new.connection.writer) xs c.serve_counted.new.connection.output.items)
+    (λ bytes old xs. HasItems c.serve_counted.new.connection.finished bytes (prepend_known c.serve_counted.new.connection.input.items (g.R.Read.remaining c.serve_counted.new.connection.reader)) xs × SendsPrefix old (g.W.Write.contents c.serve_counted.new.connection.writer) xs c.serve_counted.new.connection.output.items)
     c.serve_counted.ensures.finished (ap (λ w. g.W.Write.contents w) c.serve_counted.ensures.writer)
     (item_more g.C.Clock.reads _ trust _ _ (λ s at. at.0 ∙ c.requires.is_open) c.serve_counted.new.connection.finished
     (prepend_known c.args.connection.now.input.items (g.R.Read.remaining c.args.connection.now.reader))
@@ -37,7 +37,7 @@ returns-in-Ok-Close-clause-served g c trust =
     carried g.C.Clock.reads _ _ c.args.connection.now.finished c.serve_counted.new.connection.finished
     (prepend_known c.args.connection.now.input.items (g.R.Read.remaining c.args.connection.now.reader))
     (g.W.Write.contents c.args.connection.now.writer) (g.W.Write.contents c.serve_counted.new.connection.writer) c.args.connection.now.output.items
-    (λ bytes old xs. HasItems true bytes (prepend_known c.serve_counted.new.connection.input.items (g.R.Read.remaining c.serve_counted.new.connection.reader)) xs × WritesPrefix old (g.W.Write.contents c.serve_counted.new.connection.writer) xs c.serve_counted.new.connection.output.items)
+    (λ bytes old xs. HasItems true bytes (prepend_known c.serve_counted.new.connection.input.items (g.R.Read.remaining c.serve_counted.new.connection.reader)) xs × SendsPrefix old (g.W.Write.contents c.serve_counted.new.connection.writer) xs c.serve_counted.new.connection.output.items)
     c.serve_counted.ensures.finished (ap (λ w. g.W.Write.contents w) c.serve_counted.ensures.writer)
     (item_last g.C.Clock.reads _ trust _ _ (λ s at. at.0 ∙ c.requires.is_open) c.serve_counted.new.connection.finished
     (prepend_known c.args.connection.now.input.items (g.R.Read.remaining c.args.connection.now.reader))
@@ -50,7 +50,7 @@ returns-in-Ok-Eof-clause-served g c trust =
     carried g.C.Clock.reads _ _ c.args.connection.now.finished c.serve_counted.new.connection.finished
     (prepend_known c.args.connection.now.input.items (g.R.Read.remaining c.args.connection.now.reader))
     (g.W.Write.contents c.args.connection.now.writer) (g.W.Write.contents c.serve_counted.new.connection.writer) c.args.connection.now.output.items
-    (λ bytes old xs. HasItems true bytes (prepend_known c.serve_counted.new.connection.input.items (g.R.Read.remaining c.serve_counted.new.connection.reader)) xs × WritesPrefix old (g.W.Write.contents c.serve_counted.new.connection.writer) xs c.serve_counted.new.connection.output.items)
+    (λ bytes old xs. HasItems true bytes (prepend_known c.serve_counted.new.connection.input.items (g.R.Read.remaining c.serve_counted.new.connection.reader)) xs × SendsPrefix old (g.W.Write.contents c.serve_counted.new.connection.writer) xs c.serve_counted.new.connection.output.items)
     c.serve_counted.ensures.finished (ap (λ w. g.W.Write.contents w) c.serve_counted.ensures.writer)
     (item_end g.C.Clock.reads _ trust _ _ (λ s at. at.0 ∙ c.requires.is_open) c.serve_counted.new.connection.finished
     (prepend_known c.args.connection.now.input.items (g.R.Read.remaining c.args.connection.now.reader))
@@ -76,7 +76,7 @@ returns-else-connection-eq0-clause-served g c trust =
     carried g.C.Clock.reads _ _ c.args.connection.now.finished c.serve_counted.new.connection.finished
     (prepend_known c.args.connection.now.input.items (g.R.Read.remaining c.args.connection.now.reader))
     (g.W.Write.contents c.args.connection.now.writer) (g.W.Write.contents c.serve_counted.new.connection.writer) c.args.connection.now.output.items
-    (λ bytes old xs. HasItems c.serve_counted.new.connection.finished bytes (prepend_known c.serve_counted.new.connection.input.items (g.R.Read.remaining c.serve_counted.new.connection.reader)) xs × WritesPrefix old (g.W.Write.contents c.serve_counted.new.connection.writer) xs c.serve_counted.new.connection.output.items)
+    (λ bytes old xs. HasItems c.serve_counted.new.connection.finished bytes (prepend_known c.serve_counted.new.connection.input.items (g.R.Read.remaining c.serve_counted.new.connection.reader)) xs × SendsPrefix old (g.W.Write.contents c.serve_counted.new.connection.writer) xs c.serve_counted.new.connection.output.items)
     c.serve_counted.ensures.finished (ap (λ w. g.W.Write.contents w) c.serve_counted.ensures.writer)
     (item_later g.C.Clock.reads _ trust _ _ (λ s at. at.0 ∙ c.requires.is_open) c.serve_counted.new.connection.finished
     (prepend_known c.args.connection.now.input.items (g.R.Read.remaining c.args.connection.now.reader))

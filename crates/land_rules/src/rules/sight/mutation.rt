@@ -1,7 +1,7 @@
 //! The sight rules on mutations: 14, 18, 22, 25 and 27.
 ghost use Rattle.std.specs.Prelude.{◌≡◌};
+ghost use Rattle.land_core.specs.Register.{is_mutation_where};
 ghost use Rattle.land_rules.specs.Circles.{circle_of, names_held_by};
-ghost use Rattle.land_rules.specs.Relations.{is_mutation_where};
 ghost use Rattle.land_rules.specs.Rules.{first_denial, mutation_rules};
 
 use crate::circles::names_held_by;

@@ -4,7 +4,7 @@ ghost use Rattle.land_rules.specs.Acts.{decides, is_between_others, is_discharge
 ghost use Rattle.land_rules.specs.Acts.{is_mortgage_of_another, changes_mortgages, is_mandate_act};
 ghost use Rattle.land_rules.specs.Acts.{may_lodge_mortgages, changes_outlines, may_lodge_transfers};
 ghost use Rattle.land_rules.specs.Acts.{is_office_act};
-ghost use Rattle.land_rules.specs.Acts.{is_transfer, lodges, withdraws};
+ghost use Rattle.land_rules.specs.Acts.{is_transfer_content, lodges, withdraws};
 ghost use Rattle.land_rules.specs.Relations.{has_lodged, is_rrr_where};
 ghost use Rattle.land_rules.specs.Rules.{first_denial, act_rules};
 
@@ -100,7 +100,7 @@ fn may_lodge_mortgages(caller: Caller) -> bool
 }
 
 fn lodges_transfer(act: &Act) -> bool
-    ensures { result ≡ lodges is_transfer act.now }
+    ensures { result ≡ lodges is_transfer_content act.now }
 {
     match act {
         Act::Lodge(it) => is_transfer(&it.content),
@@ -109,7 +109,7 @@ fn lodges_transfer(act: &Act) -> bool
 }
 
 fn is_transfer(content: &Content) -> bool
-    ensures { result ≡ is_transfer content.now }
+    ensures { result ≡ is_transfer_content content.now }
 {
     match content {
         Content::Transfer(_) => true,

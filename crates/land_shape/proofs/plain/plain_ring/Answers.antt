@@ -2,7 +2,7 @@ use Rattle.std.proofs.Common.{◌≡◌, ◌++◌, ◌∷◌, [], ap, sym, ◌�
 use Rattle.std.proofs.lemmas.Grind.{common_steps}
 use Rattle.std.specs.Option.{option_to_list}
 use Rattle.land_shape.specs.Faults.{SomeOf, HasManyWords}
-use Rattle.land_shape.specs.Grammar.{Rings, Points, body, IsBody}
+use Rattle.land_shape.specs.Grammar.{Rings, Points, body, IsPolygonBody}
 use Rattle.land_shape.specs.Reader.{written_polygon}
 use Rattle.land_shape.specs.Steps.{IsFull}
 use Rattle.land_shape.proofs.SomeLemmas.{not_both}
@@ -17,5 +17,5 @@ returns c =
     (let l = c.len.ensures in let n = c.if-len-gt1.false in grind (arith, common_steps)) in
     let is : written_polygon c.args.polygon ≡ body false (ring ∷ []) = ap written_polygon c.in-Body.is ∙ ap (λ (rs : Rings). body c.in-Body.tagged rs) only
     ∙ ap (λ (t : Bool). body t (ring ∷ [])) c.if-tagged.false in
-    let full : IsBody (ring ∷ []) = subst IsFull is c.requires in
+    let full : IsPolygonBody (ring ∷ []) = subst IsFull is c.requires in
     (is, two_words_each ring full.1.0.1 (λ h. not_both (c.has_long_point.ensures.1 (subst (SomeOf HasManyWords) (sym c.points.ensures) h)) c.if-has_long_point.false))

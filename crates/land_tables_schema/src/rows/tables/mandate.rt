@@ -3,8 +3,8 @@ ghost use Rattle.std.specs.Prelude.{◌<◌, ◌^◌};
 ghost use Rattle.land_tables_schema.specs.Connections.{HasRegisterTables, InTransaction, LeavesAutocommit};
 ghost use Rattle.land_tables_schema.specs.Connections.{ReadsOnly, SameReference};
 ghost use Rattle.land_tables_schema.specs.Rows.Forms.{InsertsVersion, UpdatesRows};
-ghost use Rattle.land_tables_schema.specs.Rows.ReadQueries.{AreAll};
-ghost use Rattle.land_tables_schema.specs.Rows.Mandate.{is_mandate, mandates};
+ghost use Rattle.land_tables_schema.specs.Rows.ReadQueries.{AreAllRows};
+ghost use Rattle.land_tables_schema.specs.Rows.Mandate.{is_mandate, mandate_form};
 ghost use Rattle.land_tables_schema.specs.Rows.Versions.{opened_version, closed_version};
 ghost use Rattle.land_tables_schema.specs.Tables as table;
 ghost use Rattle.sqlite.specs.Held.{state};
@@ -35,7 +35,7 @@ pub fn begin<S: Alter>(
     requires has_tables { HasRegisterTables S.Store tx.old.conn.now }
     ensures same_reference { SameReference tx.old tx.new }
     ensures step { InTransaction S.Store result
-        (InsertsVersion mandates (opened_version (record { principal = principal; agent = agent }) since))
+        (InsertsVersion mandate_form (opened_version (record { principal = principal; agent = agent }) since))
         tx.old tx.new }
 {
     tx.execute(
@@ -56,7 +56,7 @@ pub fn close<S: Alter>(
     requires has_tables { HasRegisterTables S.Store tx.old.conn.now }
     ensures same_reference { SameReference tx.old tx.new }
     ensures step { InTransaction S.Store result
-        (UpdatesRows mandates (closed_version (is_mandate principal agent) stamp)) tx.old tx.new }
+        (UpdatesRows mandate_form (closed_version (is_mandate principal agent) stamp)) tx.old tx.new }
 {
     tx.execute(
         CLOSE,
@@ -68,7 +68,7 @@ pub fn close<S: Alter>(
 pub fn all<S: Alter>(conn: &mut Connection<S>) -> Result<Vec<Row>, Error>
     requires { HasRegisterTables S.Store conn.old }
     ensures reads_only { ReadsOnly S.Store result
-        (λ rows. AreAll table.mandate 2 (state S.Store conn.old).now.trees rows.items) conn.old conn.new }
+        (λ rows. AreAllRows table.mandate 2 (state S.Store conn.old).now.trees rows.items) conn.old conn.new }
     ensures autocommit { LeavesAutocommit conn.old conn.new }
 {
     conn.query_all(ALL, &[])

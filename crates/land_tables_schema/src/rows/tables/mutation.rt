@@ -3,8 +3,9 @@ ghost use Rattle.std.specs.Prelude.{◌<◌, ◌^◌};
 ghost use Rattle.land_tables_schema.specs.Connections.{HasRegisterTables, HasV1Tables, InTransaction};
 ghost use Rattle.land_tables_schema.specs.Connections.{LeavesAutocommit, ReadsOnly, SameReference};
 ghost use Rattle.land_tables_schema.specs.Rows.Forms.{InsertsVersion, UpdatesRows};
-ghost use Rattle.land_tables_schema.specs.Rows.ReadQueries.{AreAll};
-ghost use Rattle.land_tables_schema.specs.Rows.Mutation.{FitsMutation, is_mutation, mutation_of, mutations};
+ghost use Rattle.land_tables_schema.specs.Rows.ReadQueries.{AreAllRows};
+ghost use Rattle.land_tables_schema.specs.Rows.Mutation.{FitsMutation, is_mutation, mutation_of};
+ghost use Rattle.land_tables_schema.specs.Rows.Mutation.{mutation_form};
 ghost use Rattle.land_tables_schema.specs.Rows.Versions.{opened_version, closed_version};
 ghost use Rattle.land_tables_schema.specs.Tables as table;
 ghost use Rattle.sqlite.specs.Held.{state};
@@ -56,7 +57,7 @@ pub fn begin<S: Alter>(
     requires has_tables { HasRegisterTables S.Store tx.old.conn.now }
     ensures same_reference { SameReference tx.old tx.new }
     ensures step { InTransaction S.Store result
-        (InsertsVersion mutations (opened_version (mutation_of cells.entry) since)) tx.old tx.new }
+        (InsertsVersion mutation_form (opened_version (mutation_of cells.entry) since)) tx.old tx.new }
 {
     tx.execute(
         BEGIN,
@@ -80,7 +81,7 @@ pub fn close<S: Alter>(tx: &mut Transaction<'_, S>, number: u64, stamp: i64) -> 
     requires has_tables { HasRegisterTables S.Store tx.old.conn.now }
     ensures same_reference { SameReference tx.old tx.new }
     ensures step { InTransaction S.Store result
-        (UpdatesRows mutations (closed_version (is_mutation number) stamp)) tx.old tx.new }
+        (UpdatesRows mutation_form (closed_version (is_mutation number) stamp)) tx.old tx.new }
 {
     tx.execute(CLOSE, &[of_number(number), of_moment(stamp)])
 }
@@ -89,7 +90,8 @@ pub fn close<S: Alter>(tx: &mut Transaction<'_, S>, number: u64, stamp: i64) -> 
 pub fn all<S: Alter>(conn: &mut Connection<S>) -> Result<Vec<Row>, Error>
     requires { HasV1Tables S.Store conn.old }
     ensures reads_only { ReadsOnly S.Store result
-        (λ rows. AreAll table.mutation 8 (state S.Store conn.old).now.trees rows.items) conn.old conn.new }
+        (λ rows. AreAllRows table.mutation 8 (state S.Store conn.old).now.trees rows.items)
+        conn.old conn.new }
     ensures autocommit { LeavesAutocommit conn.old conn.new }
 {
     conn.query_all(ALL, &[])

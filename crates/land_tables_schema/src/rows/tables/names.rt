@@ -4,8 +4,8 @@ ghost use Rattle.std.specs.Prelude.{◌<◌, ◌^◌};
 ghost use Rattle.land_tables_schema.specs.Connections.{HasRegisterTables, HasV1Tables, InTransaction};
 ghost use Rattle.land_tables_schema.specs.Connections.{LeavesAutocommit, ReadsOnly, SameReference};
 ghost use Rattle.land_tables_schema.specs.Rows.Forms.{InsertsVersion};
-ghost use Rattle.land_tables_schema.specs.Rows.ReadQueries.{AreAll};
-ghost use Rattle.land_tables_schema.specs.Rows.Names.{namings};
+ghost use Rattle.land_tables_schema.specs.Rows.ReadQueries.{AreAllRows};
+ghost use Rattle.land_tables_schema.specs.Rows.Names.{names_form};
 ghost use Rattle.land_tables_schema.specs.Rows.Versions.{opened_version};
 ghost use Rattle.land_tables_schema.specs.Tables as table;
 ghost use Rattle.sqlite.specs.Held.{state};
@@ -32,8 +32,8 @@ pub fn begin<S: Alter>(
     requires has_tables { HasRegisterTables S.Store tx.old.conn.now }
     ensures same_reference { SameReference tx.old tx.new }
     ensures step { InTransaction S.Store result
-        (InsertsVersion namings (opened_version (record { mutation = mutation; unit = unit }) since)) tx.old
-        tx.new }
+        (InsertsVersion names_form (opened_version (record { mutation = mutation; unit = unit }) since))
+        tx.old tx.new }
 {
     tx.execute(
         BEGIN,
@@ -45,7 +45,7 @@ pub fn begin<S: Alter>(
 pub fn all<S: Alter>(conn: &mut Connection<S>) -> Result<Vec<Row>, Error>
     requires { HasV1Tables S.Store conn.old }
     ensures reads_only { ReadsOnly S.Store result
-        (λ rows. AreAll table.names 2 (state S.Store conn.old).now.trees rows.items) conn.old conn.new }
+        (λ rows. AreAllRows table.names 2 (state S.Store conn.old).now.trees rows.items) conn.old conn.new }
     ensures autocommit { LeavesAutocommit conn.old conn.new }
 {
     conn.query_all(ALL, &[])

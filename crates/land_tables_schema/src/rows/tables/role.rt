@@ -3,8 +3,8 @@ ghost use Rattle.std.specs.Prelude.{◌<◌, ◌^◌};
 ghost use Rattle.land_tables_schema.specs.Connections.{HasRegisterTables, HasV1Tables, InTransaction};
 ghost use Rattle.land_tables_schema.specs.Connections.{LeavesAutocommit, ReadsOnly, SameReference};
 ghost use Rattle.land_tables_schema.specs.Rows.Forms.{InsertsVersion, UpdatesRows};
-ghost use Rattle.land_tables_schema.specs.Rows.ReadQueries.{AreAll};
-ghost use Rattle.land_tables_schema.specs.Rows.Role.{is_grant, roles};
+ghost use Rattle.land_tables_schema.specs.Rows.ReadQueries.{AreAllRows};
+ghost use Rattle.land_tables_schema.specs.Rows.Role.{is_grant, role_form};
 ghost use Rattle.land_tables_schema.specs.Rows.Versions.{opened_version, closed_version};
 ghost use Rattle.land_tables_schema.specs.Tables as table;
 ghost use Rattle.sqlite.specs.Held.{state};
@@ -34,7 +34,7 @@ pub fn begin<S: Alter>(
     requires has_tables { HasRegisterTables S.Store tx.old.conn.now }
     ensures same_reference { SameReference tx.old tx.new }
     ensures step { InTransaction S.Store result
-        (InsertsVersion roles (opened_version (record { party = party; role = role.now }) since)) tx.old
+        (InsertsVersion role_form (opened_version (record { party = party; role = role.now }) since)) tx.old
         tx.new }
 {
     tx.execute(BEGIN, &[of_number(party), of_text(role), of_moment(since)])
@@ -51,7 +51,7 @@ pub fn close<S: Alter>(
     requires has_tables { HasRegisterTables S.Store tx.old.conn.now }
     ensures same_reference { SameReference tx.old tx.new }
     ensures step { InTransaction S.Store result
-        (UpdatesRows roles (closed_version (is_grant party role.now) stamp)) tx.old tx.new }
+        (UpdatesRows role_form (closed_version (is_grant party role.now) stamp)) tx.old tx.new }
 {
     tx.execute(CLOSE, &[of_number(party), of_text(role), of_moment(stamp)])
 }
@@ -60,7 +60,7 @@ pub fn close<S: Alter>(
 pub fn all<S: Alter>(conn: &mut Connection<S>) -> Result<Vec<Row>, Error>
     requires { HasV1Tables S.Store conn.old }
     ensures reads_only { ReadsOnly S.Store result
-        (λ rows. AreAll table.role 2 (state S.Store conn.old).now.trees rows.items) conn.old conn.new }
+        (λ rows. AreAllRows table.role 2 (state S.Store conn.old).now.trees rows.items) conn.old conn.new }
     ensures autocommit { LeavesAutocommit conn.old conn.new }
 {
     conn.query_all(ALL, &[])

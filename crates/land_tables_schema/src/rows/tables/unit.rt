@@ -3,8 +3,8 @@ ghost use Rattle.std.specs.Prelude.{◌<◌, ◌^◌};
 ghost use Rattle.land_tables_schema.specs.Connections.{HasRegisterTables, HasV1Tables, InTransaction};
 ghost use Rattle.land_tables_schema.specs.Connections.{LeavesAutocommit, ReadsOnly, SameReference};
 ghost use Rattle.land_tables_schema.specs.Rows.Forms.{InsertsVersion, UpdatesRows};
-ghost use Rattle.land_tables_schema.specs.Rows.ReadQueries.{AreAll};
-ghost use Rattle.land_tables_schema.specs.Rows.Unit.{is_unit, units};
+ghost use Rattle.land_tables_schema.specs.Rows.ReadQueries.{AreAllRows};
+ghost use Rattle.land_tables_schema.specs.Rows.Unit.{is_unit, unit_form};
 ghost use Rattle.land_tables_schema.specs.Rows.Versions.{opened_version, closed_version};
 ghost use Rattle.land_tables_schema.specs.Tables as table;
 ghost use Rattle.sqlite.specs.Held.{state};
@@ -33,7 +33,7 @@ pub fn begin<S: Alter>(
     requires number_fits { number < 2 ^ 63 }
     requires has_tables { HasRegisterTables S.Store tx.old.conn.now }
     ensures same_reference { SameReference tx.old tx.new }
-    ensures step { InTransaction S.Store result (InsertsVersion units
+    ensures step { InTransaction S.Store result (InsertsVersion unit_form
         (opened_version (record { number = number; name = name.now; checked = checked }) since))
         tx.old
         tx.new }
@@ -54,8 +54,8 @@ pub fn close<S: Alter>(tx: &mut Transaction<'_, S>, number: u64, stamp: i64) -> 
     requires number_fits { number < 2 ^ 63 }
     requires has_tables { HasRegisterTables S.Store tx.old.conn.now }
     ensures same_reference { SameReference tx.old tx.new }
-    ensures step { InTransaction S.Store result (UpdatesRows units (closed_version (is_unit number) stamp))
-        tx.old tx.new }
+    ensures step { InTransaction S.Store result
+        (UpdatesRows unit_form (closed_version (is_unit number) stamp)) tx.old tx.new }
 {
     tx.execute(CLOSE, &[of_number(number), of_moment(stamp)])
 }
@@ -64,7 +64,7 @@ pub fn close<S: Alter>(tx: &mut Transaction<'_, S>, number: u64, stamp: i64) -> 
 pub fn all<S: Alter>(conn: &mut Connection<S>) -> Result<Vec<Row>, Error>
     requires { HasV1Tables S.Store conn.old }
     ensures reads_only { ReadsOnly S.Store result
-        (λ rows. AreAll table.unit 3 (state S.Store conn.old).now.trees rows.items) conn.old conn.new }
+        (λ rows. AreAllRows table.unit 3 (state S.Store conn.old).now.trees rows.items) conn.old conn.new }
     ensures autocommit { LeavesAutocommit conn.old conn.new }
 {
     conn.query_all(ALL, &[])

@@ -1,5 +1,5 @@
-use Rattle.land_tables_validity.specs.Members.{group_of}
+use Rattle.land_tables_validity.specs.Members.{member_group}
 use Rattle.land_tables_validity.proofs.members.are_groups_there.Given as goal
 
 abbrev pub ghost-require_numbers : goal.ghost-require_numbers
-ghost-require_numbers a = group_of
+ghost-require_numbers a = member_group

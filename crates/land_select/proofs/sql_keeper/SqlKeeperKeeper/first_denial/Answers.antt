@@ -3,7 +3,7 @@ use Rattle.std.specs.Prelude.{ℤ, int_lt}
 use Rattle.std.specs.Int.{int_min}
 use Rattle.land_core.specs.Numbers.{last_moment}
 use Rattle.land_keep.proofs.Steps.{opens}
-use Rattle.land_keep.specs.Machine.{moment_of}
+use Rattle.land_keep.specs.Machine.{asked_moment}
 use Rattle.land_keep.specs.Timeline.{Timeline, last_register, register_at}
 use Rattle.land_select.proofs.KnownRoles.{still_known, verdict_shows}
 use Rattle.land_select.proofs.Seen.{verdict_told}
@@ -22,7 +22,7 @@ returns-clause-value g c clean =
     let now : to_z w64 (of_z w64 c.args.now) ≡ c.args.now = search rules in
     let t : to_z w64 (of_z w64 at) ≡ at = search rules in
     let u : to_z w64 (of_z w64 c.min-known_or_zero.result) ≡ c.min-known_or_zero.result = search rules in
-    let is_moment : at ≡ moment_of c.args.ask.now c.args.now = search rules in
+    let is_moment : at ≡ asked_moment c.args.ask.now c.args.now = search rules in
     let least : c.min-known_or_zero.result ≡ int_min at last_moment = search rules in
     let closed = (opens c.self.inside.tables.is_closed c.execute.new.tables.is_closed c.in_ok-told.told c.in_ok-told.ensures.closes).0 in
     let known = rw c.self.view_is at (c.is_known-is_held.ensures (last_register (held_timeline g.S.Store c.self.inside.tables)) (c.self.invariant (c.in_ok-told.ensures.was clean, closed)).1) in
@@ -51,7 +51,7 @@ invariant_of-self-2 g c live =
     let now : to_z w64 (of_z w64 c.args.now) ≡ c.args.now = search rules in
     let t : to_z w64 (of_z w64 at) ≡ at = search rules in
     let u : to_z w64 (of_z w64 c.min-known_or_zero.result) ≡ c.min-known_or_zero.result = search rules in
-    let is_moment : at ≡ moment_of ask c.args.now = search rules in
+    let is_moment : at ≡ asked_moment ask c.args.now = search rules in
     let least : c.min-known_or_zero.result ≡ int_min at last_moment = search rules in
     let closed = (opens c.self.inside.tables.is_closed c.execute.new.tables.is_closed it c.in_ok-told.ensures.closes).0 in
     let known_before = (c.self.invariant (c.in_ok-told.ensures.was live.0, closed)).1 in
@@ -63,6 +63,6 @@ invariant_of-self-2 g c live =
     (subst (λ (x : ℤ). IsValueFor (register_at is_held x) caller ask it.1) (sym t) (subst (λ (tl : Timeline). IsValueFor (register_at tl at) caller ask it.1) (sym same) found.1)) in
     let tl = held_timeline g.S.Store c.args.self.now in
     let shown = subst (λ (tl : Timeline). HoldsRoleIf (shows_role it.0) (last_register tl) caller) (sym same)
-    (verdict_shows (last_register tl) (register_at tl (moment_of ask c.args.now)) caller ask (int_lt (moment_of ask c.args.now) c.args.now) it.0 found.0) in
+    (verdict_shows (last_register tl) (register_at tl (asked_moment ask c.args.now)) caller ask (int_lt (asked_moment ask c.args.now) c.args.now) it.0 found.0) in
     let still = subst (λ (tl : Timeline). AreKnownIn (last_register tl) c.self.inside.known) (sym (c.in_ok-told.ensures.same live)) known_before in
     (rw c.keep.ensures kept, c.remember.ensures (last_register is_held) still shown)

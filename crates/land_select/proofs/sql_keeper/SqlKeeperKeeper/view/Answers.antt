@@ -9,7 +9,7 @@ use Rattle.land_select.proofs.KnownRoles.{still_known}
 use Rattle.land_select.proofs.Seen.{given_stands}
 use Rattle.land_select.proofs.Viewed.{renamed}
 use Rattle.land_select.specs.Cache.{IsValueOf, IsCacheOf}
-use Rattle.land_select.specs.Views.{named_at}
+use Rattle.land_select.specs.Views.{view_at_moment}
 use Rattle.land_tables.proofs.LookedAt.{look_moment}
 use Rattle.land_tables.specs.TablesState.{IsHonest, held_timeline}
 use Rattle.sqlite.specs.Held.{state}
@@ -31,7 +31,7 @@ returns-clause-value g c clean =
     let answer = rw (c.self.view_is, u) at (c.in_ok-shown.ensures.value clean) in
     let found = given_stands (λ r. IsValueOf r caller kind.Unit unit c.take_unit-found.result) (λ r. view_at r caller unit c.min-moment.result) s c.args.at c.min-moment.result (look_moment c.args.at c.min-moment.result least) c.in_ok-shown.shown answer given in
     let named = rw t at c.with_moment.ensures in
-    named ∙ ap (named_at c.args.at) found ∙ renamed (register_at (held_timeline g.S.Store c.args.self.now) c.args.at) caller unit c.args.at c.min-moment.result
+    named ∙ ap (view_at_moment c.args.at) found ∙ renamed (register_at (held_timeline g.S.Store c.args.self.now) c.args.at) caller unit c.args.at c.min-moment.result
 
 pub invariant_of-self : goal.invariant_of-self
 invariant_of-self g c live = (

@@ -4,7 +4,7 @@ use Rattle.std.specs.List.{Contains}
 use Rattle.land_rules.specs.Circles.{circle_of, is_name_of}
 use Rattle.land_select.proofs.Judged.{looked_at_nothing}
 use Rattle.land_select.proofs.ShownByInterest.{names_are}
-use Rattle.land_select.specs.Views.{AreGroupsAt}
+use Rattle.land_select.specs.Views.{AreCallerGroupsAt}
 use Rattle.land_select_queries.specs.Lookups.Parts.{IsCircleOf}
 use Rattle.land_tables_rows.specs.declared.listing.fault.ReadFault.{ReadFault}
 use Rattle.land_tables_schema.proofs.Looking.{look_fails, look_lost, look_then, look_told}
@@ -39,9 +39,9 @@ returns-clause-reads_only g c =
     let when : to_z w64 (of_z w64 t) ≡ t = search rules in
     let callers = c.in_ok-callers.callers in
     let groups = c.in_ok-groups.groups in
-    let both : IsStoreRead {X = Unit {0}} {E = ReadFault} (Ok tt) (λ _. IsCircleOf party t a.now.trees callers × AreGroupsAt callers t a.now.trees groups) a d =
+    let both : IsStoreRead {X = Unit {0}} {E = ReadFault} (Ok tt) (λ _. IsCircleOf party t a.now.trees callers × AreCallerGroupsAt callers t a.now.trees groups) a d =
     look_then a b d (rw when at c.in_ok-callers.ensures.reads_only) (rw (c.as_slice.ensures, when) at c.in_ok-groups.ensures.reads_only)
-    (λ clean same one two. (one, subst (λ (now : Database). AreGroupsAt callers t now.trees groups) same two)) in
+    (λ clean same one two. (one, subst (λ (now : Database). AreCallerGroupsAt callers t now.trees groups) same two)) in
     let all = rw c.as_slice-2.ensures at c.in_ok-together.ensures in
     look_told a d _ both
     (λ clean known moments h held r stands citizen.

@@ -5,7 +5,7 @@ use Rattle.std.proofs.lemmas.Int.{to_z-of_z}
 use Rattle.land_core.specs.declared.ask.Ask.TheVariants as ask
 use Rattle.land_core.specs.declared.ask.Request.{Request}
 use Rattle.land_keep.proofs.Steps.{step_allowed, step_denied, step_late}
-use Rattle.land_keep.specs.Machine.{Next, moment_of, now_of, verdict_at}
+use Rattle.land_keep.specs.Machine.{Next, asked_moment, now_of, verdict_at}
 use Rattle.land_keep.specs.Timeline.{register_at}
 use Rattle.land_keep.specs.declared.reply.Reply.TheVariants as reply
 use Rattle.land_rules.specs.Rules.{seen_of}
@@ -23,7 +23,7 @@ returns-then-now-moment-clause-listed g c honest =
     let last_is = c.last.ensures.last (honest, sym c.is_closed.ensures ∙ c.if-is_closed.false) in
     let now_is : c.read_moment-now.result ≡ now_of c.args.clock tl = rw (← last_is) (simp to_z-of_z at c.read_moment-now.ensures) in
     let at_is : c.unwrap_or-moment.result ≡ unwrap_or c.args.at (now_of c.args.clock tl) = rw (← now_is) (simp to_z-of_z at c.unwrap_or-moment.ensures) in
-    let late : int_lt (now_of c.args.clock tl) (moment_of request.ask (now_of c.args.clock tl)) ≡ true = rw (← at_is, ← now_is) (simp to_z-of_z at c.if-now-moment.true) in
+    let late : int_lt (now_of c.args.clock tl) (asked_moment request.ask (now_of c.args.clock tl)) ≡ true = rw (← at_is, ← now_is) (simp to_z-of_z at c.if-now-moment.true) in
     ap (λ (next : Next). next.0) (step_late c.args.clock request tl late)
 
 pub returns-in-Denied-clause-listed : goal.returns-in-Denied-clause-listed
@@ -38,7 +38,7 @@ returns-in-Denied-clause-listed g c honest =
     let last_is = c.last.ensures.last (trust, sym c.is_closed.ensures ∙ c.if-is_closed.false) in
     let now_is : c.read_moment-now.result ≡ now_of c.args.clock tl = rw (← last_is) (simp to_z-of_z at c.read_moment-now.ensures) in
     let at_is : c.unwrap_or-moment.result ≡ unwrap_or c.args.at (now_of c.args.clock tl) = rw (← now_is) (simp to_z-of_z at c.unwrap_or-moment.ensures) in
-    let late : int_lt (now_of c.args.clock tl) (moment_of request.ask (now_of c.args.clock tl)) ≡ false = rw (← at_is, ← now_is) (simp to_z-of_z at c.if-now-moment.false) in
+    let late : int_lt (now_of c.args.clock tl) (asked_moment request.ask (now_of c.args.clock tl)) ≡ false = rw (← at_is, ← now_is) (simp to_z-of_z at c.if-now-moment.false) in
     let denied : verdict_at tl c.args.caller request.ask (now_of c.args.clock tl) ≡ Denied c.in-Denied.rule = rw (← now_is) (sym (simp to_z-of_z at (c.in_ok-rule.ensures.value honest)) ∙ c.in-Denied.is) in
     ap (λ (next : Next). next.0) (step_denied c.args.clock request tl c.in-Denied.rule late denied)
 
@@ -56,7 +56,7 @@ returns-clause-listed g c honest =
     let last_is = c.last.ensures.last (trust, ajar) in
     let now_is : c.read_moment-now.result ≡ now_of c.args.clock tl = rw (← last_is) (simp to_z-of_z at c.read_moment-now.ensures) in
     let at_is : c.unwrap_or-moment.result ≡ unwrap_or c.args.at (now_of c.args.clock tl) = rw (← now_is) (simp to_z-of_z at c.unwrap_or-moment.ensures) in
-    let late : int_lt (now_of c.args.clock tl) (moment_of request.ask (now_of c.args.clock tl)) ≡ false = rw (← at_is, ← now_is) (simp to_z-of_z at c.if-now-moment.false) in
+    let late : int_lt (now_of c.args.clock tl) (asked_moment request.ask (now_of c.args.clock tl)) ≡ false = rw (← at_is, ← now_is) (simp to_z-of_z at c.if-now-moment.false) in
     let free : verdict_at tl c.args.caller request.ask (now_of c.args.clock tl) ≡ Allowed = rw (← now_is) (sym (simp to_z-of_z at (c.in_ok-rule.ensures.value between)) ∙ c.in-Allowed.is) in
     let still : g.K.Keeper.closed c.first_denial.new.self ≡ false = rw ajar at c.in_ok-rule.ensures.closes in
     let same : g.K.Keeper.timeline c.first_denial.new.self ≡ tl = c.in_ok-rule.ensures.same (between, still) in

@@ -1,7 +1,7 @@
 use Rattle.std.proofs.Common.{ap, of_z, rules, subst, to_z, w64, Err, Ok, ◌≡◌, ◌≤ℤ◌, ◌∙◌}
 use Rattle.std.specs.Prelude.{ℤ, int_lt}
 use Rattle.land_core.specs.declared.register.Register.{Register}
-use Rattle.land_keep.specs.Machine.{moment_of}
+use Rattle.land_keep.specs.Machine.{asked_moment}
 use Rattle.land_keep.specs.Timeline.{IsSoundTimeline, Timeline, last_stamp, register_at}
 use Rattle.land_rules.specs.Rules.{verdict_of}
 use Rattle.land_tables.proofs.Keeping.{closes_next, closes_ok, closes_on, stays_open, verdict_now, verdict_then}
@@ -13,7 +13,7 @@ returns-then-last-at-clause-value g c clean =
     let S = g.S.Store in
     let mid = c.last_register.new.self in
     let now : to_z w64 (of_z w64 c.args.now) ≡ c.args.now = search rules in
-    let is_moment : c.unwrap_or-at.result ≡ moment_of c.args.ask.now c.args.now = search rules in
+    let is_moment : c.unwrap_or-at.result ≡ asked_moment c.args.ask.now c.args.now = search rules in
     let le : c.last.result ≤ℤ c.unwrap_or-at.result = search rules in
     let still = stays_open c.args.self.now.tables.is_closed mid.is_closed c.in_ok-newest.newest c.in_ok-newest.ensures.closes in
     let same : held_timeline S mid ≡ held_timeline S c.args.self.now.tables = c.in_ok-newest.ensures.same (clean, still) in
@@ -35,7 +35,7 @@ returns-clause-value g c clean =
     let mid = c.last_register.new.self in
     let now : to_z w64 (of_z w64 c.args.now) ≡ c.args.now = search rules in
     let asked : to_z w64 (of_z w64 c.unwrap_or-at.result) ≡ c.unwrap_or-at.result = search rules in
-    let is_moment : c.unwrap_or-at.result ≡ moment_of c.args.ask.now c.args.now = search rules in
+    let is_moment : c.unwrap_or-at.result ≡ asked_moment c.args.ask.now c.args.now = search rules in
     let still = stays_open c.args.self.now.tables.is_closed mid.is_closed c.in_ok-newest.newest c.in_ok-newest.ensures.closes in
     let was = c.in_ok-then.ensures.was clean in
     let same : held_timeline S mid ≡ held_timeline S c.args.self.now.tables = c.in_ok-newest.ensures.same (was, still) in

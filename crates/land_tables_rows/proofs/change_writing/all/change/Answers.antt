@@ -2,7 +2,7 @@ use Rattle.std.proofs.Common.{◌≡◌, ◌++◌, Ok, map, of_z, rules, to_z, w
 use Rattle.std.specs.List.{list_any}
 use Rattle.land_tables_history.specs.Written.{existing_records}
 use Rattle.land_tables_rows.proofs.Loops.{changes, more_closed, step_after}
-use Rattle.land_tables_rows.specs.Writing.Holding.{Closes}
+use Rattle.land_tables_rows.specs.Writing.Holding.{ClosesVersions}
 use Rattle.land_tables_schema.proofs.Steps.{step_fails, step_then}
 use Rattle.land_tables_schema.specs.Steps.{IsTransactionStep}
 use Rattle.sqlite.specs.Held.{state}
@@ -25,7 +25,7 @@ returns-clause-step g c =
     let first = rw (stamp) at c.in_ok-close_put.ensures.step in
     let next = rw (stamp) at c.in_ok-close_all.ensures.step in
     let last = rw (stamp) at c.begin_all.ensures.step in
-    let ends : IsTransactionStep {X = Unit {0}} {E = Error} (Ok tt) (Closes g.X.Versioned.reading (λ x. list_any (g.X.Closable.has x) (put ++ c.args.ended.now)) c.args.stamp) a d =
+    let ends : IsTransactionStep {X = Unit {0}} {E = Error} (Ok tt) (ClosesVersions g.X.Versioned.reading (λ x. list_any (g.X.Closable.has x) (put ++ c.args.ended.now)) c.args.stamp) a d =
     step_then a b d first next (λ clean far one. more_closed g.X.Versioned.reading g.X.Closable.has c.args.stamp c.requires.moment put c.args.ended.now _ _ _ far one) in
     step_after a d e c.begin_all.result ends last
     (λ clean far one. changes g.X.Versioned.reading c.args.put.now (λ x. list_any (g.X.Closable.has x) (put ++ c.args.ended.now)) c.args.stamp _ _ _ far one)

@@ -3,7 +3,7 @@ use Rattle.std.proofs.lemmas.Grind.{common_steps}
 use Rattle.std.specs.List.{list_any}
 use Rattle.land_core.specs.Numbers.{IsMoment}
 use Rattle.land_tables_rows.proofs.Loops.{land_stays, more_closed, none_closed, one_closed}
-use Rattle.land_tables_rows.specs.Writing.Holding.{Closes}
+use Rattle.land_tables_rows.specs.Writing.Holding.{ClosesVersions}
 use Rattle.land_tables_schema.proofs.Steps.{no_step, step_fails, step_says, step_then}
 use Rattle.sqlite.specs.Held.{state}
 use Rattle.land_tables_rows.proofs.change_writing.all.close_all.Goals as goal
@@ -29,7 +29,7 @@ loop-key-preserved g c =
     let moment : IsMoment (to_z w64 (of_z w64 c.args.stamp)) = subst IsMoment (sym same) c.requires.moment in (
       e.same_reference ∙ c.loop-key.invariant.0,
       step_then (state g.S.Store c.args.tx.now.conn.now) (state g.S.Store c.loop-key.tx.conn.now) (state g.S.Store c.close.new.tx.conn.now) c.loop-key.invariant.1 e.step
-          (λ clean far one. subst (λ l. Closes g.X.Versioned.reading (λ x. list_any (g.X.Closable.has x) l) stamp (state g.S.Store c.args.tx.now.conn.now).now (state g.S.Store c.close.new.tx.conn.now).now) (sym more)
+          (λ clean far one. subst (λ l. ClosesVersions g.X.Versioned.reading (λ x. list_any (g.X.Closable.has x) l) stamp (state g.S.Store c.args.tx.now.conn.now).now (state g.S.Store c.close.new.tx.conn.now).now) (sym more)
           (more_closed g.X.Versioned.reading g.X.Closable.has stamp moment done (key ∷ []) _ _ _ far (one_closed g.X.Versioned.reading g.X.Closable.has stamp moment key _ _ one))),
     )
 
@@ -41,5 +41,5 @@ returns-clause-step g c =
     let all : take c.loop-key.key-index c.args.keys.now ≡ c.args.keys.now = grind (arith, common_steps) in
     let stamp : to_z w64 (of_z w64 c.args.stamp) ≡ c.args.stamp = search rules in
     step_says (state g.S.Store c.args.tx.now.conn.now) (state g.S.Store c.loop-key.tx.conn.now) (Ok tt) c.loop-key.invariant.1 (λ clean far.
-    subst (λ l. Closes g.X.Versioned.reading (λ x. list_any (g.X.Closable.has x) l) c.args.stamp (state g.S.Store c.args.tx.now.conn.now).now (state g.S.Store c.loop-key.tx.conn.now).now) all
-    (subst (λ m. Closes g.X.Versioned.reading (λ x. list_any (g.X.Closable.has x) (take c.loop-key.key-index c.args.keys.now)) m (state g.S.Store c.args.tx.now.conn.now).now (state g.S.Store c.loop-key.tx.conn.now).now) stamp far))
+    subst (λ l. ClosesVersions g.X.Versioned.reading (λ x. list_any (g.X.Closable.has x) l) c.args.stamp (state g.S.Store c.args.tx.now.conn.now).now (state g.S.Store c.loop-key.tx.conn.now).now) all
+    (subst (λ m. ClosesVersions g.X.Versioned.reading (λ x. list_any (g.X.Closable.has x) (take c.loop-key.key-index c.args.keys.now)) m (state g.S.Store c.args.tx.now.conn.now).now (state g.S.Store c.loop-key.tx.conn.now).now) stamp far))

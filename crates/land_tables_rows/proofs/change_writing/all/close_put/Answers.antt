@@ -6,7 +6,7 @@ use Rattle.land_core.specs.Numbers.{IsMoment}
 use Rattle.land_tables_history.specs.Written.{existing_records}
 use Rattle.land_tables_rows.proofs.Existing.{existing_more, new_more}
 use Rattle.land_tables_rows.proofs.Loops.{land_stays, more_closed, none_closed, one_closed}
-use Rattle.land_tables_rows.specs.Writing.Holding.{Closes}
+use Rattle.land_tables_rows.specs.Writing.Holding.{ClosesVersions}
 use Rattle.land_tables_schema.proofs.Steps.{no_step, step_fails, step_says, step_then}
 use Rattle.land_tables_schema.specs.Steps.{IsTransactionStep}
 use Rattle.sqlite.specs.Held.{state}
@@ -41,7 +41,7 @@ loop-x-preserved g c =
     let Holds : Transaction g.row.S.Denot → Type 0 = λ (tx : Transaction g.row.S.Denot).
     (tx.conn.ghost_name ≡ c.args.tx.now.conn.ghost_name)
     × IsTransactionStep {X = Unit {0}} {E = Error} (Ok tt)
-    (Closes g.X.Versioned.reading (λ y. list_any (g.X.Closable.has y) (map key (existing_records number next (take (c.loop-x.x-index + 1) c.args.put.now)))) stamp) start (state g.S.Store tx.conn.now) in
+    (ClosesVersions g.X.Versioned.reading (λ y. list_any (g.X.Closable.has y) (map key (existing_records number next (take (c.loop-x.x-index + 1) c.args.put.now)))) stamp) start (state g.S.Store tx.conn.now) in
     elim c.if-number-next.branch [
       | then-number-next+in_ok-close w ↦
           let less : number x < next = subst (λ (n : ℕ). n < next) c.number.ensures w.if-number-next.true in
@@ -50,7 +50,7 @@ loop-x-preserved g c =
           subst Holds (sym w.tx-is) (
             w.in_ok-close.ensures.same_reference ∙ c.loop-x.invariant.0,
             step_then start (state g.S.Store c.loop-x.tx.conn.now) (state g.S.Store w.close.new.tx.conn.now) c.loop-x.invariant.1 w.in_ok-close.ensures.step
-                (λ clean far one. subst (λ l. Closes g.X.Versioned.reading (λ y. list_any (g.X.Closable.has y) l) stamp start.now (state g.S.Store w.close.new.tx.conn.now).now) (sym named)
+                (λ clean far one. subst (λ l. ClosesVersions g.X.Versioned.reading (λ y. list_any (g.X.Closable.has y) l) stamp start.now (state g.S.Store w.close.new.tx.conn.now).now) (sym named)
                 (more_closed g.X.Versioned.reading g.X.Closable.has stamp moment keys (w.key.result.now ∷ []) _ _ _ far (one_closed g.X.Versioned.reading g.X.Closable.has stamp moment w.key.result.now _ _ one))),
           )
       | else-number-next w ↦
@@ -59,7 +59,7 @@ loop-x-preserved g c =
           subst Holds (sym w.tx-is) (
             c.loop-x.invariant.0,
             step_says start (state g.S.Store c.loop-x.tx.conn.now) (Ok tt) c.loop-x.invariant.1
-                (λ clean far. subst (λ l. Closes g.X.Versioned.reading (λ y. list_any (g.X.Closable.has y) l) stamp start.now (state g.S.Store c.loop-x.tx.conn.now).now) (sym named) far),
+                (λ clean far. subst (λ l. ClosesVersions g.X.Versioned.reading (λ y. list_any (g.X.Closable.has y) l) stamp start.now (state g.S.Store c.loop-x.tx.conn.now).now) (sym named) far),
           )
     ]
 
@@ -71,5 +71,5 @@ returns-clause-step g c =
     let all : take c.loop-x.x-index c.args.put.now ≡ c.args.put.now = grind (arith, common_steps) in
     let stamp : to_z w64 (of_z w64 c.args.stamp) ≡ c.args.stamp = search rules in
     step_says (state g.S.Store c.args.tx.now.conn.now) (state g.S.Store c.loop-x.tx.conn.now) (Ok tt) c.loop-x.invariant.1 (λ clean far.
-    subst (λ l. Closes g.X.Versioned.reading (λ x. list_any (g.X.Closable.has x) (map g.P.HasKey.key (existing_records g.P.HasKey.number c.args.next l))) c.args.stamp (state g.S.Store c.args.tx.now.conn.now).now (state g.S.Store c.loop-x.tx.conn.now).now) all
-    (subst (λ m. Closes g.X.Versioned.reading (λ x. list_any (g.X.Closable.has x) (map g.P.HasKey.key (existing_records g.P.HasKey.number c.args.next (take c.loop-x.x-index c.args.put.now)))) m (state g.S.Store c.args.tx.now.conn.now).now (state g.S.Store c.loop-x.tx.conn.now).now) stamp far))
+    subst (λ l. ClosesVersions g.X.Versioned.reading (λ x. list_any (g.X.Closable.has x) (map g.P.HasKey.key (existing_records g.P.HasKey.number c.args.next l))) c.args.stamp (state g.S.Store c.args.tx.now.conn.now).now (state g.S.Store c.loop-x.tx.conn.now).now) all
+    (subst (λ m. ClosesVersions g.X.Versioned.reading (λ x. list_any (g.X.Closable.has x) (map g.P.HasKey.key (existing_records g.P.HasKey.number c.args.next (take c.loop-x.x-index c.args.put.now)))) m (state g.S.Store c.args.tx.now.conn.now).now (state g.S.Store c.loop-x.tx.conn.now).now) stamp far))

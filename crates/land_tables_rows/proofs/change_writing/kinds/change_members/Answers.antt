@@ -8,9 +8,9 @@ use Rattle.land_tables_history.specs.Written.{existing_records}
 use Rattle.land_tables_history.specs.declared.group_member.GroupMember.{GroupMember}
 use Rattle.land_tables_rows.proofs.Fitting.{groups_known, members_fit}
 use Rattle.land_tables_rows.proofs.Loops.{changes, more_closed, step_after}
-use Rattle.land_tables_rows.specs.Member.Writing.{fits_member, members}
+use Rattle.land_tables_rows.specs.Member.Writing.{fits_member, member_reading}
 use Rattle.land_tables_rows.specs.Recording.Whole.{fits_group}
-use Rattle.land_tables_rows.specs.Writing.Holding.{Closes}
+use Rattle.land_tables_rows.specs.Writing.Holding.{ClosesVersions}
 use Rattle.land_tables_schema.proofs.Steps.{step_then}
 use Rattle.land_tables_schema.specs.Steps.{IsTransactionStep}
 use Rattle.sqlite.specs.Held.{state}
@@ -43,6 +43,6 @@ returns-clause-step g c =
     let first = rw (c.as_slice-2.ensures, stamp) at c.in_ok-close_put.ensures.step in
     let next = rw (c.as_slice-3.ensures, stamp) at c.in_ok-close_all.ensures.step in
     let last = rw (listed, stamp) at c.begin_all.ensures.step in
-    let ends : IsTransactionStep {X = Unit {0}} {E = Error} (Ok tt) (Closes members (λ x. list_any (has x) (keys ++ ended)) c.args.stamp) a d =
-    step_then a b d first next (λ clean far one. more_closed members has c.args.stamp c.requires.moment keys ended _ _ _ far one) in
-    step_after a d e c.begin_all.result ends last (λ clean far one. changes members (listed_members groups) (λ x. list_any (has x) (keys ++ ended)) c.args.stamp _ _ _ far one)
+    let ends : IsTransactionStep {X = Unit {0}} {E = Error} (Ok tt) (ClosesVersions member_reading (λ x. list_any (has x) (keys ++ ended)) c.args.stamp) a d =
+    step_then a b d first next (λ clean far one. more_closed member_reading has c.args.stamp c.requires.moment keys ended _ _ _ far one) in
+    step_after a d e c.begin_all.result ends last (λ clean far one. changes member_reading (listed_members groups) (λ x. list_any (has x) (keys ++ ended)) c.args.stamp _ _ _ far one)

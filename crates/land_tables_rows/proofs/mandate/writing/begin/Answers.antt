@@ -4,7 +4,7 @@ use Rattle.land_tables_rows.proofs.Mandates.{is_reading, row_of, what, what_is}
 use Rattle.land_tables_rows.specs.Mandate.Reading.{mandate_in}
 use Rattle.land_tables_schema.proofs.Steps.{step_says}
 use Rattle.land_tables_schema.specs.Rows.Forms.{InsertsVersion}
-use Rattle.land_tables_schema.specs.Rows.Mandate.{mandate_cells, mandates}
+use Rattle.land_tables_schema.specs.Rows.Mandate.{mandate_cells, mandate_form}
 use Rattle.land_tables_schema.specs.Rows.Versions.{opened_version}
 use Rattle.land_tables_schema.specs.Steps.{IsTransactionStep}
 use Rattle.land_tables_schema.specs.Tables as table
@@ -16,6 +16,6 @@ returns-clause-step g c =
     let old = state g.S.Store c.args.tx.now.conn.now in
     let new = state g.S.Store c.begin.new.tx.conn.now in
     let since : to_z w64 (of_z w64 c.args.since) ≡ c.args.since = search rules in
-    let step : IsTransactionStep c.begin.result (InsertsVersion mandates (opened_version (row_of c.args.mandate) c.args.since)) old new = rw (since) at c.begin.ensures.step in
+    let step : IsTransactionStep c.begin.result (InsertsVersion mandate_form (opened_version (row_of c.args.mandate) c.args.since)) old new = rw (since) at c.begin.ensures.step in
     let reads = what_is c.args.mandate c.requires.fits in
     step_says old new c.begin.result step (λ clean adds. begins table.mandate 2 mandate_cells mandate_in what is_reading (row_of c.args.mandate) c.args.mandate c.args.since reads c.requires.moment old.now new.now adds)

@@ -4,7 +4,7 @@ use Rattle.land_tables_rows.proofs.Members.{agree, is_reading, what}
 use Rattle.land_tables_rows.specs.Member.Reading.{member_in}
 use Rattle.land_tables_schema.proofs.Steps.{step_says}
 use Rattle.land_tables_schema.specs.Rows.Forms.{UpdatesRows}
-use Rattle.land_tables_schema.specs.Rows.Member.{members, member_cells, is_member_of}
+use Rattle.land_tables_schema.specs.Rows.Member.{member_form, member_cells, is_row_of_group}
 use Rattle.land_tables_schema.specs.Rows.Versions.{closed_version}
 use Rattle.land_tables_schema.specs.Steps.{IsTransactionStep}
 use Rattle.land_tables_schema.specs.Tables as table
@@ -16,6 +16,6 @@ returns-clause-step g c =
     let old = state g.S.Store c.args.tx.now.conn.now in
     let new = state g.S.Store c.close.new.tx.conn.now in
     let stamp : to_z w64 (of_z w64 c.args.stamp) ≡ c.args.stamp = search rules in
-    let step : IsTransactionStep c.close.result (UpdatesRows members (closed_version (is_member_of c.args.group) c.args.stamp)) old new = rw (stamp) at c.close.ensures.step in
+    let step : IsTransactionStep c.close.result (UpdatesRows member_form (closed_version (is_row_of_group c.args.group) c.args.stamp)) old new = rw (stamp) at c.close.ensures.step in
     step_says old new c.close.result step
-    (λ clean turns. closes table.member 4 member_cells member_in what is_reading (is_member_of c.args.group) (λ e. nat_eq e.group c.args.group) (agree c.args.group) c.args.stamp c.requires.moment old.now new.now turns)
+    (λ clean turns. closes table.member 4 member_cells member_in what is_reading (is_row_of_group c.args.group) (λ e. nat_eq e.group c.args.group) (agree c.args.group) c.args.stamp c.requires.moment old.now new.now turns)

@@ -4,7 +4,7 @@ use Rattle.land_tables_rows.proofs.Namings.{is_reading, row_of, what, what_is}
 use Rattle.land_tables_rows.specs.Naming.Reading.{naming_in}
 use Rattle.land_tables_schema.proofs.Steps.{step_says}
 use Rattle.land_tables_schema.specs.Rows.Forms.{InsertsVersion}
-use Rattle.land_tables_schema.specs.Rows.Names.{namings, names_cells}
+use Rattle.land_tables_schema.specs.Rows.Names.{names_form, names_cells}
 use Rattle.land_tables_schema.specs.Rows.Versions.{opened_version}
 use Rattle.land_tables_schema.specs.Steps.{IsTransactionStep}
 use Rattle.land_tables_schema.specs.Tables as table
@@ -16,6 +16,6 @@ returns-clause-step g c =
     let old = state g.S.Store c.args.tx.now.conn.now in
     let new = state g.S.Store c.begin.new.tx.conn.now in
     let since : to_z w64 (of_z w64 c.args.since) ≡ c.args.since = search rules in
-    let step : IsTransactionStep c.begin.result (InsertsVersion namings (opened_version (row_of c.args.naming) c.args.since)) old new = rw (since) at c.begin.ensures.step in
+    let step : IsTransactionStep c.begin.result (InsertsVersion names_form (opened_version (row_of c.args.naming) c.args.since)) old new = rw (since) at c.begin.ensures.step in
     let reads = what_is c.args.naming c.requires.fits in
     step_says old new c.begin.result step (λ clean adds. begins table.names 2 names_cells naming_in what is_reading (row_of c.args.naming) c.args.naming c.args.since reads c.requires.moment old.now new.now adds)

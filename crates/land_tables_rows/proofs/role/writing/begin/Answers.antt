@@ -5,7 +5,7 @@ use Rattle.land_tables_rows.proofs.Roles.{is_reading, row_of, what, what_is}
 use Rattle.land_tables_rows.specs.Role.Reading.{role_grant_in}
 use Rattle.land_tables_schema.proofs.Steps.{step_says}
 use Rattle.land_tables_schema.specs.Rows.Forms.{InsertsVersion}
-use Rattle.land_tables_schema.specs.Rows.Role.{roles, role_cells}
+use Rattle.land_tables_schema.specs.Rows.Role.{role_form, role_cells}
 use Rattle.land_tables_schema.specs.Rows.Versions.{opened_version}
 use Rattle.land_tables_schema.specs.Steps.{IsTransactionStep}
 use Rattle.land_tables_schema.specs.Tables as table
@@ -17,6 +17,6 @@ returns-clause-step g c =
     let old = state g.S.Store c.args.tx.now.conn.now in
     let new = state g.S.Store c.begin.new.tx.conn.now in
     let since : to_z w64 (of_z w64 c.args.since) ≡ c.args.since = search rules in
-    let step : IsTransactionStep c.begin.result (InsertsVersion roles (opened_version (row_of c.args.grant) c.args.since)) old new = rw (c.role_word.ensures, since) at c.begin.ensures.step in
+    let step : IsTransactionStep c.begin.result (InsertsVersion role_form (opened_version (row_of c.args.grant) c.args.since)) old new = rw (c.role_word.ensures, since) at c.begin.ensures.step in
     let reads = what_is c.args.grant c.requires.fits (subst IsUtf8 c.role_word.ensures c.role_word.utf8) in
     step_says old new c.begin.result step (λ clean adds. begins table.role 2 role_cells role_grant_in what is_reading (row_of c.args.grant) c.args.grant c.args.since reads c.requires.moment old.now new.now adds)

@@ -6,7 +6,7 @@ use Rattle.land_tables_rows.specs.Rrr.Cells.{rrr_row_of}
 use Rattle.land_tables_rows.specs.Rrr.Reading.{rrr_in}
 use Rattle.land_tables_schema.proofs.Steps.{step_says}
 use Rattle.land_tables_schema.specs.Rows.Forms.{InsertsVersion}
-use Rattle.land_tables_schema.specs.Rows.Rrr.{rrrs, rrr_cells, is_rrr, rrr_of}
+use Rattle.land_tables_schema.specs.Rows.Rrr.{rrr_form, rrr_cells, is_rrr, rrr_of}
 use Rattle.land_tables_schema.specs.Rows.Versions.{opened_version}
 use Rattle.land_tables_schema.specs.Steps.{IsTransactionStep}
 use Rattle.land_tables_schema.specs.Tables as table
@@ -19,7 +19,7 @@ returns-clause-step g c =
     let new = state g.S.Store c.begin.new.tx.conn.now in
     let since : to_z w64 (of_z w64 c.args.since) ≡ c.args.since = search rules in
     let e : ℕ × RrrRecord = (c.args.number, c.args.entry.now) in
-    let first : IsTransactionStep c.begin.result (InsertsVersion rrrs (opened_version (rrr_of c.rrr_cells.result) c.args.since)) old new = rw (since) at c.begin.ensures.step in
-    let step : IsTransactionStep c.begin.result (InsertsVersion rrrs (opened_version (rrr_row_of e) c.args.since)) old new = subst (λ r. IsTransactionStep c.begin.result (InsertsVersion rrrs (opened_version r c.args.since)) old new) c.rrr_cells.ensures.row first in
+    let first : IsTransactionStep c.begin.result (InsertsVersion rrr_form (opened_version (rrr_of c.rrr_cells.result) c.args.since)) old new = rw (since) at c.begin.ensures.step in
+    let step : IsTransactionStep c.begin.result (InsertsVersion rrr_form (opened_version (rrr_row_of e) c.args.since)) old new = subst (λ r. IsTransactionStep c.begin.result (InsertsVersion rrr_form (opened_version r c.args.since)) old new) c.rrr_cells.ensures.row first in
     let reads = c.rrrs_read_back.ensures e c.args.since c.requires.fits c.class_is_exact.ensures c.requires.moment in
     step_says old new c.begin.result step (λ clean adds. begins table.rrr 11 rrr_cells rrr_in is_rrr rrr_cells_decode (rrr_row_of e) e c.args.since reads old.now new.now adds)

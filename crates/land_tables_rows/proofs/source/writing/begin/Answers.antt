@@ -5,7 +5,7 @@ use Rattle.land_tables_rows.proofs.Sources.{is_reading, row_of, what, what_is}
 use Rattle.land_tables_rows.specs.Source.Reading.{source_in}
 use Rattle.land_tables_schema.proofs.Steps.{step_says}
 use Rattle.land_tables_schema.specs.Rows.Forms.{InsertsVersion}
-use Rattle.land_tables_schema.specs.Rows.Source.{sources, source_cells}
+use Rattle.land_tables_schema.specs.Rows.Source.{source_form, source_cells}
 use Rattle.land_tables_schema.specs.Rows.Versions.{opened_version}
 use Rattle.land_tables_schema.specs.Steps.{IsTransactionStep}
 use Rattle.land_tables_schema.specs.Tables as table
@@ -19,6 +19,6 @@ returns-clause-step g c =
     let since : to_z w64 (of_z w64 c.args.since) ≡ c.args.since = search rules in
     let number = c.args.number in
     let s = c.args.source.now in
-    let step : IsTransactionStep c.begin.result (InsertsVersion sources (opened_version (row_of number s) c.args.since)) old new = rw (c.source_word.ensures, c.as_str.ensures, since) at c.begin.ensures.step in
+    let step : IsTransactionStep c.begin.result (InsertsVersion source_form (opened_version (row_of number s) c.args.since)) old new = rw (c.source_word.ensures, c.as_str.ensures, since) at c.begin.ensures.step in
     let reads = what_is number s c.requires.fits (subst IsUtf8 c.source_word.ensures c.source_word.utf8) (subst IsUtf8 c.as_str.ensures c.as_str.utf8) in
     step_says old new c.begin.result step (λ clean adds. begins table.source 3 source_cells source_in what is_reading (row_of number s) (number, s) c.args.since reads c.requires.moment old.now new.now adds)

@@ -4,7 +4,7 @@ use Rattle.land_tables_rows.proofs.Units.{agree, is_reading, what}
 use Rattle.land_tables_rows.specs.Unit.Reading.{unit_in}
 use Rattle.land_tables_schema.proofs.Steps.{step_says}
 use Rattle.land_tables_schema.specs.Rows.Forms.{UpdatesRows}
-use Rattle.land_tables_schema.specs.Rows.Unit.{units, unit_cells, is_unit}
+use Rattle.land_tables_schema.specs.Rows.Unit.{unit_form, unit_cells, is_unit}
 use Rattle.land_tables_schema.specs.Rows.Versions.{closed_version}
 use Rattle.land_tables_schema.specs.Steps.{IsTransactionStep}
 use Rattle.land_tables_schema.specs.Tables as table
@@ -16,6 +16,6 @@ returns-clause-step g c =
     let old = state g.S.Store c.args.tx.now.conn.now in
     let new = state g.S.Store c.close.new.tx.conn.now in
     let stamp : to_z w64 (of_z w64 c.args.stamp) ≡ c.args.stamp = search rules in
-    let step : IsTransactionStep c.close.result (UpdatesRows units (closed_version (is_unit c.args.number) c.args.stamp)) old new = rw (stamp) at c.close.ensures.step in
+    let step : IsTransactionStep c.close.result (UpdatesRows unit_form (closed_version (is_unit c.args.number) c.args.stamp)) old new = rw (stamp) at c.close.ensures.step in
     step_says old new c.close.result step
     (λ clean turns. closes table.unit 3 unit_cells unit_in what is_reading (is_unit c.args.number) (λ e. nat_eq e.0 c.args.number) (agree c.args.number) c.args.stamp c.requires.moment old.now new.now turns)

@@ -1,5 +1,5 @@
 use Rattle.std.proofs.Common.{◌≡◌, ◌++◌, drop, Ok}
-use Rattle.land_wire_json.specs.Bodies.Fields.{each_of}
+use Rattle.land_wire_json.specs.Bodies.Fields.{each_item}
 use Rattle.land_wire_json.specs.Bodies.Parties.{member_of}
 use Rattle.land_wire_json.specs.Bodies.WireFaults.{◌>>=◌}
 use Rattle.serde_json.specs.View.{items_view}
@@ -7,4 +7,4 @@ use Rattle.land_wire_json.proofs.bodies.party.each_member.Given as goal
 
 abbrev pub invariant-loop-value : goal.invariant-loop-value
 invariant-loop-value l =
-    each_of member_of (items_view l.items) ≡ (each_of member_of (items_view (drop l.value-index l.items)) >>= λ rest. Ok (l.members ++ rest))
+    each_item member_of (items_view l.items) ≡ (each_item member_of (items_view (drop l.value-index l.items)) >>= λ rest. Ok (l.members ++ rest))

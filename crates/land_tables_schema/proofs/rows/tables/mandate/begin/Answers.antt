@@ -3,7 +3,7 @@ use Rattle.land_tables_schema.proofs.Mandates.{beginning}
 use Rattle.land_tables_schema.proofs.Steps.{statement_steps}
 use Rattle.land_tables_schema.proofs.Versions.{begins}
 use Rattle.land_tables_schema.specs.Rows.Forms.{InsertsVersion}
-use Rattle.land_tables_schema.specs.Rows.Mandate.{MandateRow, mandate_cells, mandates}
+use Rattle.land_tables_schema.specs.Rows.Mandate.{MandateRow, mandate_cells, mandate_form}
 use Rattle.land_tables_schema.specs.Rows.Versions.{opened_version}
 use Rattle.land_tables_schema.specs.Tables as table
 use Rattle.land_tables_schema.specs.declared.rows.tables.mandate.TheConstants.{BEGIN}
@@ -15,6 +15,6 @@ returns-clause-step g c =
     let e = c.execute.ensures in
     let since : to_z w64 (of_z w64 c.args.since) ≡ c.args.since = search rules in
     let row : MandateRow = record { principal = c.args.principal; agent = c.args.agent } in
-    statement_steps g.S.Store c.args.tx.now.conn.now c.execute.new.self.conn.now _ _ _ (InsertsVersion mandates (opened_version row c.args.since)) c.execute.result e.ended e.runs e.survives
+    statement_steps g.S.Store c.args.tx.now.conn.now c.execute.new.self.conn.now _ _ _ (InsertsVersion mandate_form (opened_version row c.args.since)) c.execute.result e.ended e.runs e.survives
     (λ clean count ran. begins table.mandate mandate_cells BEGIN.now 11 2 beginning (state g.S.Store c.args.tx.now.conn.now) (state g.S.Store c.execute.new.self.conn.now) row c.args.since count (c.requires.has_tables clean)
     (rw (c.of_number.ensures, c.of_number-2.ensures, c.of_moment.ensures, since) at ran.0))

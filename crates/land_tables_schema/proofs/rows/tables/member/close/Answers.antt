@@ -3,7 +3,7 @@ use Rattle.land_tables_schema.proofs.Members.{closing, where_it_stands}
 use Rattle.land_tables_schema.proofs.Steps.{statement_steps}
 use Rattle.land_tables_schema.proofs.Versions.{close_terms, closes}
 use Rattle.land_tables_schema.specs.Rows.Forms.{UpdatesRows}
-use Rattle.land_tables_schema.specs.Rows.Member.{is_member_of, member_cells, members}
+use Rattle.land_tables_schema.specs.Rows.Member.{is_row_of_group, member_cells, member_form}
 use Rattle.land_tables_schema.specs.Rows.Versions.{closed_version, whole}
 use Rattle.land_tables_schema.specs.Tables.{member}
 use Rattle.land_tables_schema.specs.declared.rows.tables.member.TheConstants.{CLOSE}
@@ -14,6 +14,6 @@ pub returns-clause-step : goal.returns-clause-step
 returns-clause-step g c =
     let e = c.execute.ensures in
     let stamp : to_z w64 (of_z w64 c.args.stamp) ≡ c.args.stamp = search rules in
-    statement_steps g.S.Store c.args.tx.now.conn.now c.execute.new.self.conn.now _ _ _ (UpdatesRows members (closed_version (is_member_of c.args.grp) c.args.stamp)) c.execute.result e.ended e.runs e.survives
-    (λ clean count ran. closes member 4 member_cells CLOSE.now 4 where_it_stands (close_terms 4 1) (whole c.args.grp ∷ []) (is_member_of c.args.grp) (closing c.args.grp) (state g.S.Store c.args.tx.now.conn.now) (state g.S.Store c.execute.new.self.conn.now) c.args.stamp count
+    statement_steps g.S.Store c.args.tx.now.conn.now c.execute.new.self.conn.now _ _ _ (UpdatesRows member_form (closed_version (is_row_of_group c.args.grp) c.args.stamp)) c.execute.result e.ended e.runs e.survives
+    (λ clean count ran. closes member 4 member_cells CLOSE.now 4 where_it_stands (close_terms 4 1) (whole c.args.grp ∷ []) (is_row_of_group c.args.grp) (closing c.args.grp) (state g.S.Store c.args.tx.now.conn.now) (state g.S.Store c.execute.new.self.conn.now) c.args.stamp count
     (c.requires.has_tables clean) (rw (c.of_number.ensures, c.of_moment.ensures, stamp) at ran.0))

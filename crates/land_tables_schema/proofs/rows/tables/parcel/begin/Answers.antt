@@ -3,7 +3,7 @@ use Rattle.land_tables_schema.proofs.Parcels.{beginning}
 use Rattle.land_tables_schema.proofs.Steps.{statement_steps}
 use Rattle.land_tables_schema.proofs.Versions.{begins}
 use Rattle.land_tables_schema.specs.Rows.Forms.{InsertsVersion}
-use Rattle.land_tables_schema.specs.Rows.Parcel.{ParcelRow, parcel_cells, parcels}
+use Rattle.land_tables_schema.specs.Rows.Parcel.{ParcelRow, parcel_cells, parcel_form}
 use Rattle.land_tables_schema.specs.Rows.Versions.{opened_version}
 use Rattle.land_tables_schema.specs.Tables.{parcel}
 use Rattle.land_tables_schema.specs.declared.rows.tables.parcel.TheConstants.{BEGIN}
@@ -15,6 +15,6 @@ returns-clause-step g c =
     let e = c.execute.ensures in
     let since : to_z w64 (of_z w64 c.args.since) ≡ c.args.since = search rules in
     let row : ParcelRow = record { number = c.args.number; unit = c.args.unit; label = c.args.label.now; outline = c.args.outline.now; source = c.args.source } in
-    statement_steps g.S.Store c.args.tx.now.conn.now c.execute.new.self.conn.now _ _ _ (InsertsVersion parcels (opened_version row c.args.since)) c.execute.result e.ended e.runs e.survives
+    statement_steps g.S.Store c.args.tx.now.conn.now c.execute.new.self.conn.now _ _ _ (InsertsVersion parcel_form (opened_version row c.args.since)) c.execute.result e.ended e.runs e.survives
     (λ clean count ran. begins parcel parcel_cells BEGIN.now 6 5 beginning (state g.S.Store c.args.tx.now.conn.now) (state g.S.Store c.execute.new.self.conn.now) row c.args.since count (c.requires.has_tables clean)
     (rw (c.of_number.ensures, c.of_number-2.ensures, c.of_text.ensures, c.of_text-2.ensures, c.of_number-3.ensures, c.of_moment.ensures, since) at ran.0))

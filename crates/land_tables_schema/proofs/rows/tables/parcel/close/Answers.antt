@@ -3,7 +3,7 @@ use Rattle.land_tables_schema.proofs.Parcels.{closing, where_it_stands}
 use Rattle.land_tables_schema.proofs.Steps.{statement_steps}
 use Rattle.land_tables_schema.proofs.Versions.{close_terms, closes}
 use Rattle.land_tables_schema.specs.Rows.Forms.{UpdatesRows}
-use Rattle.land_tables_schema.specs.Rows.Parcel.{is_parcel, parcel_cells, parcels}
+use Rattle.land_tables_schema.specs.Rows.Parcel.{is_parcel, parcel_cells, parcel_form}
 use Rattle.land_tables_schema.specs.Rows.Versions.{closed_version, whole}
 use Rattle.land_tables_schema.specs.Tables.{parcel}
 use Rattle.land_tables_schema.specs.declared.rows.tables.parcel.TheConstants.{CLOSE}
@@ -14,6 +14,6 @@ pub returns-clause-step : goal.returns-clause-step
 returns-clause-step g c =
     let e = c.execute.ensures in
     let stamp : to_z w64 (of_z w64 c.args.stamp) ≡ c.args.stamp = search rules in
-    statement_steps g.S.Store c.args.tx.now.conn.now c.execute.new.self.conn.now _ _ _ (UpdatesRows parcels (closed_version (is_parcel c.args.number) c.args.stamp)) c.execute.result e.ended e.runs e.survives
+    statement_steps g.S.Store c.args.tx.now.conn.now c.execute.new.self.conn.now _ _ _ (UpdatesRows parcel_form (closed_version (is_parcel c.args.number) c.args.stamp)) c.execute.result e.ended e.runs e.survives
     (λ clean count ran. closes parcel 5 parcel_cells CLOSE.now 6 where_it_stands (close_terms 5 1) (whole c.args.number ∷ []) (is_parcel c.args.number) (closing c.args.number) (state g.S.Store c.args.tx.now.conn.now) (state g.S.Store c.execute.new.self.conn.now) c.args.stamp count
     (c.requires.has_tables clean) (rw (c.of_number.ensures, c.of_moment.ensures, stamp) at ran.0))

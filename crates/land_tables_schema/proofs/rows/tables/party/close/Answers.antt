@@ -3,7 +3,7 @@ use Rattle.land_tables_schema.proofs.Parties.{closing, where_it_stands}
 use Rattle.land_tables_schema.proofs.Steps.{statement_steps}
 use Rattle.land_tables_schema.proofs.Versions.{close_terms, closes}
 use Rattle.land_tables_schema.specs.Rows.Forms.{UpdatesRows}
-use Rattle.land_tables_schema.specs.Rows.Party.{is_party, parties, party_cells}
+use Rattle.land_tables_schema.specs.Rows.Party.{is_party, party_form, party_cells}
 use Rattle.land_tables_schema.specs.Rows.Versions.{closed_version, whole}
 use Rattle.land_tables_schema.specs.Tables.{party}
 use Rattle.land_tables_schema.specs.declared.rows.tables.party.TheConstants.{CLOSE}
@@ -15,6 +15,6 @@ returns-clause-step g c =
     let e = c.execute.ensures in
     let stamp : to_z w64 (of_z w64 c.args.stamp) ≡ c.args.stamp = search rules in
     let number = c.args.number in
-    statement_steps g.S.Store c.args.tx.now.conn.now c.execute.new.self.conn.now _ _ _ (UpdatesRows parties (closed_version (is_party number) c.args.stamp)) c.execute.result e.ended e.runs e.survives
+    statement_steps g.S.Store c.args.tx.now.conn.now c.execute.new.self.conn.now _ _ _ (UpdatesRows party_form (closed_version (is_party number) c.args.stamp)) c.execute.result e.ended e.runs e.survives
     (λ clean count ran. closes party 3 party_cells CLOSE.now 2 where_it_stands (close_terms 3 1) (whole number ∷ []) (is_party number) (closing number) (state g.S.Store c.args.tx.now.conn.now) (state g.S.Store c.execute.new.self.conn.now) c.args.stamp count
     (c.requires.has_tables clean) (rw (c.of_number.ensures, c.of_moment.ensures, stamp) at ran.0))

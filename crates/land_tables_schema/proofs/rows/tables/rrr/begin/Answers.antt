@@ -5,7 +5,7 @@ use Rattle.land_tables_schema.proofs.Rrrs.{beginning}
 use Rattle.land_tables_schema.proofs.Steps.{statement_steps}
 use Rattle.land_tables_schema.proofs.Versions.{begins}
 use Rattle.land_tables_schema.specs.Rows.Forms.{InsertsVersion}
-use Rattle.land_tables_schema.specs.Rows.Rrr.{RrrRow, rrr_cells, rrr_of, rrrs}
+use Rattle.land_tables_schema.specs.Rows.Rrr.{RrrRow, rrr_cells, rrr_of, rrr_form}
 use Rattle.land_tables_schema.specs.Rows.Versions.{opened_version}
 use Rattle.land_tables_schema.specs.Tables.{rrr}
 use Rattle.land_tables_schema.specs.declared.rows.tables.rrr.TheConstants.{BEGIN}
@@ -18,7 +18,7 @@ returns-clause-step g c =
     let since : to_z w64 (of_z w64 c.args.since) ≡ c.args.since = search rules in
     let a = c.args.cells in
     let row : RrrRow = rrr_of c.args.cells in
-    statement_steps g.S.Store c.args.tx.now.conn.now c.execute.new.self.conn.now _ _ _ (InsertsVersion rrrs (opened_version row c.args.since)) c.execute.result e.ended e.runs e.survives
+    statement_steps g.S.Store c.args.tx.now.conn.now c.execute.new.self.conn.now _ _ _ (InsertsVersion rrr_form (opened_version row c.args.since)) c.execute.result e.ended e.runs e.survives
     (λ clean count ran. begins rrr rrr_cells BEGIN.now 7 11 beginning (state g.S.Store c.args.tx.now.conn.now) (state g.S.Store c.execute.new.self.conn.now) row c.args.since count (c.requires.has_tables clean)
     (rw (
       c.of_number.ensures,
