@@ -30,7 +30,7 @@ unfoldable pub MeetOnlyAtJoint : List Place → ℕ → ℕ → Type 0
 MeetOnlyAtJoint ps i j = MatchOption (joint (length ps) i j)
     (¬ HaveCommonPoint (place_at ps i) (next_place_at ps i) (place_at ps j) (next_place_at ps j))
     (λ k. MeetOnlyAt (place_at ps k) (place_at ps i) (next_place_at ps i) (place_at ps j)
-        (next_place_at ps j))
+    (next_place_at ps j))
 
 -- no two different edges have a common point except the joint of neighbours
 abbrev pub AllMeetOnlyAtJoints : List Place → Type 0

@@ -27,6 +27,7 @@ pub mod RowidOrders
 pub mod RrrCells
 pub mod Sources
 pub mod Stepping
+pub mod Streaming
 pub mod Tellings
 pub mod TextReadings
 pub mod Texts

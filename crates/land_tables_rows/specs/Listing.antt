@@ -2,4 +2,5 @@
 pub mod Faults
 pub mod Groups
 pub mod Reading
+pub mod Statements
 pub mod Told

@@ -20,15 +20,14 @@ use land_tables_history::version::Version;
 use land_tables_schema::rows::tables::{
     edition, mandate, member, moments, mutation, names, parcel, party, role, rrr, source, unit,
 };
-use sqlite::{Alter, Connection, Error, Row};
 
 impl Listed for Version<(u64, PartyRecord)> {
     ghost listing = { listing.parties };
 
     ghost has = { ContainsSchemaV1 };
 
-    fn all<S: Alter>(conn: &mut Connection<S>) -> Result<Vec<Row>, Error> {
-        party::all(conn)
+    fn text() -> &'static str {
+        party::ALL
     }
 
     ghost says = { refl };
@@ -39,8 +38,8 @@ impl Listed for Version<Grant> {
 
     ghost has = { ContainsSchemaV1 };
 
-    fn all<S: Alter>(conn: &mut Connection<S>) -> Result<Vec<Row>, Error> {
-        role::all(conn)
+    fn text() -> &'static str {
+        role::ALL
     }
 
     ghost says = { refl };
@@ -51,8 +50,8 @@ impl Listed for Version<GroupMember> {
 
     ghost has = { ContainsSchemaV1 };
 
-    fn all<S: Alter>(conn: &mut Connection<S>) -> Result<Vec<Row>, Error> {
-        member::all(conn)
+    fn text() -> &'static str {
+        member::ALL
     }
 
     ghost says = { refl };
@@ -63,8 +62,8 @@ impl Listed for Version<(u64, UnitRecord)> {
 
     ghost has = { ContainsSchemaV1 };
 
-    fn all<S: Alter>(conn: &mut Connection<S>) -> Result<Vec<Row>, Error> {
-        unit::all(conn)
+    fn text() -> &'static str {
+        unit::ALL
     }
 
     ghost says = { refl };
@@ -75,8 +74,8 @@ impl Listed for Version<(u64, ParcelRecord)> {
 
     ghost has = { ContainsSchemaV1 };
 
-    fn all<S: Alter>(conn: &mut Connection<S>) -> Result<Vec<Row>, Error> {
-        parcel::all(conn)
+    fn text() -> &'static str {
+        parcel::ALL
     }
 
     ghost says = { refl };
@@ -87,8 +86,8 @@ impl Listed for Version<(u64, RrrRecord)> {
 
     ghost has = { ContainsSchemaV1 };
 
-    fn all<S: Alter>(conn: &mut Connection<S>) -> Result<Vec<Row>, Error> {
-        rrr::all(conn)
+    fn text() -> &'static str {
+        rrr::ALL
     }
 
     ghost says = { refl };
@@ -99,8 +98,8 @@ impl Listed for Version<(u64, SourceRecord)> {
 
     ghost has = { ContainsSchemaV1 };
 
-    fn all<S: Alter>(conn: &mut Connection<S>) -> Result<Vec<Row>, Error> {
-        source::all(conn)
+    fn text() -> &'static str {
+        source::ALL
     }
 
     ghost says = { refl };
@@ -111,8 +110,8 @@ impl Listed for Version<(u64, MutationRecord)> {
 
     ghost has = { ContainsSchemaV1 };
 
-    fn all<S: Alter>(conn: &mut Connection<S>) -> Result<Vec<Row>, Error> {
-        mutation::all(conn)
+    fn text() -> &'static str {
+        mutation::ALL
     }
 
     ghost says = { refl };
@@ -123,8 +122,8 @@ impl Listed for Version<Naming> {
 
     ghost has = { ContainsSchemaV1 };
 
-    fn all<S: Alter>(conn: &mut Connection<S>) -> Result<Vec<Row>, Error> {
-        names::all(conn)
+    fn text() -> &'static str {
+        names::ALL
     }
 
     ghost says = { refl };
@@ -135,8 +134,8 @@ impl Listed for Version<Mandate> {
 
     ghost has = { IsSchemaV2 };
 
-    fn all<S: Alter>(conn: &mut Connection<S>) -> Result<Vec<Row>, Error> {
-        mandate::all(conn)
+    fn text() -> &'static str {
+        mandate::ALL
     }
 
     ghost says = { refl };
@@ -147,8 +146,8 @@ impl Listed for Moment {
 
     ghost has = { ContainsSchemaV1 };
 
-    fn all<S: Alter>(conn: &mut Connection<S>) -> Result<Vec<Row>, Error> {
-        moments::all(conn)
+    fn text() -> &'static str {
+        moments::ALL
     }
 
     ghost says = { refl };
@@ -159,8 +158,8 @@ impl Listed for Edition {
 
     ghost has = { ContainsSchemaV1 };
 
-    fn all<S: Alter>(conn: &mut Connection<S>) -> Result<Vec<Row>, Error> {
-        edition::all(conn)
+    fn text() -> &'static str {
+        edition::ALL
     }
 
     ghost says = { refl };

@@ -17,7 +17,7 @@ const INSERT: &str = "INSERT INTO edition (id, version) VALUES (1, 2)";
 const RAISE: &str = "UPDATE edition SET version = 2 WHERE id = 1";
 
 /// Lists all rows.
-const ALL: &str = "SELECT id, version FROM edition";
+pub const ALL: &str = "SELECT id, version FROM edition";
 
 /// Inserts the row, with schema version 2.
 pub fn insert<S: Alter>(tx: &mut Transaction<'_, S>) -> Result<usize, Error>

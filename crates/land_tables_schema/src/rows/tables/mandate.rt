@@ -21,7 +21,7 @@ const CLOSE: &str =
     "UPDATE mandate SET until = ?3 WHERE principal = ?1 AND agent = ?2 AND until = 4102444800000";
 
 /// Lists all versions.
-const ALL: &str = "SELECT principal, agent, since, until FROM mandate";
+pub const ALL: &str = "SELECT principal, agent, since, until FROM mandate";
 
 /// Inserts a current version of a mandate.
 pub fn begin<S: Alter>(

@@ -20,7 +20,7 @@ const BEGIN: &str = "INSERT INTO member (grp, party, num, den, since, until) \
 const CLOSE: &str = "UPDATE member SET until = ?2 WHERE grp = ?1 AND until = 4102444800000";
 
 /// Lists all versions.
-const ALL: &str = "SELECT grp, party, num, den, since, until FROM member";
+pub const ALL: &str = "SELECT grp, party, num, den, since, until FROM member";
 
 /// Inserts a current version of a member of a group.
 pub fn begin<S: Alter>(

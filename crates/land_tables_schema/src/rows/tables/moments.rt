@@ -15,7 +15,7 @@ use sqlite::{Alter, Connection, Error, Row, Transaction};
 const INSERT: &str = "INSERT INTO moments (stamp, next) VALUES (?1, ?2)";
 
 /// Lists all rows.
-const ALL: &str = "SELECT stamp, next FROM moments";
+pub const ALL: &str = "SELECT stamp, next FROM moments";
 
 /// Inserts a commit: its stamp, and the next number after it.
 pub fn insert<S: Alter>(tx: &mut Transaction<'_, S>, stamp: i64, next: u64) -> Result<usize, Error>

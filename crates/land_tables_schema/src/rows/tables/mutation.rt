@@ -22,7 +22,7 @@ const BEGIN: &str = "INSERT INTO mutation \
 const CLOSE: &str = "UPDATE mutation SET until = ?2 WHERE number = ?1 AND until = 4102444800000";
 
 /// Lists all versions.
-const ALL: &str = "SELECT \
+pub const ALL: &str = "SELECT \
     number, lodger, reference, source, lodged, act, content, state, since, until \
     FROM mutation";
 

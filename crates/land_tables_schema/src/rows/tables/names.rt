@@ -18,7 +18,7 @@ const BEGIN: &str =
     "INSERT INTO names (mutation, unit, since, until) VALUES (?1, ?2, ?3, 4102444800000)";
 
 /// Lists all versions.
-const ALL: &str = "SELECT mutation, unit, since, until FROM names";
+pub const ALL: &str = "SELECT mutation, unit, since, until FROM names";
 
 /// Inserts a current version: a mutation refers to a unit.
 pub fn begin<S: Alter>(

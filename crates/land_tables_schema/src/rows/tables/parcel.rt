@@ -20,7 +20,7 @@ const BEGIN: &str = "INSERT INTO parcel (number, unit, label, outline, source, s
 const CLOSE: &str = "UPDATE parcel SET until = ?2 WHERE number = ?1 AND until = 4102444800000";
 
 /// Lists all versions.
-const ALL: &str = "SELECT number, unit, label, outline, source, since, until FROM parcel";
+pub const ALL: &str = "SELECT number, unit, label, outline, source, since, until FROM parcel";
 
 /// Inserts a current version of a parcel.
 pub fn begin<S: Alter>(

@@ -20,7 +20,7 @@ const BEGIN: &str =
 const CLOSE: &str = "UPDATE party SET until = ?2 WHERE number = ?1 AND until = 4102444800000";
 
 /// Lists all versions.
-const ALL: &str = "SELECT number, name, kind, since, until FROM party";
+pub const ALL: &str = "SELECT number, name, kind, since, until FROM party";
 
 /// Inserts a current version of a party.
 pub fn begin<S: Alter>(

@@ -21,7 +21,7 @@ const CLOSE: &str =
     "UPDATE role SET until = ?3 WHERE party = ?1 AND role = ?2 AND until = 4102444800000";
 
 /// Lists all versions.
-const ALL: &str = "SELECT party, role, since, until FROM role";
+pub const ALL: &str = "SELECT party, role, since, until FROM role";
 
 /// Inserts a current version of a role of a party.
 pub fn begin<S: Alter>(

@@ -21,7 +21,7 @@ const BEGIN: &str = "INSERT INTO rrr \
 const CLOSE: &str = "UPDATE rrr SET until = ?2 WHERE number = ?1 AND until = 4102444800000";
 
 /// Lists all versions.
-const ALL: &str = "SELECT \
+pub const ALL: &str = "SELECT \
     number, unit, party, class, num, den, amount, currency, place, words, source, since, until \
     FROM rrr";
 

@@ -20,7 +20,7 @@ const BEGIN: &str =
 const CLOSE: &str = "UPDATE source SET until = ?2 WHERE number = ?1 AND until = 4102444800000";
 
 /// Lists all versions.
-const ALL: &str = "SELECT number, kind, title, since, until FROM source";
+pub const ALL: &str = "SELECT number, kind, title, since, until FROM source";
 
 /// Inserts a current version of a source.
 pub fn begin<S: Alter>(

@@ -20,7 +20,7 @@ const BEGIN: &str =
 const CLOSE: &str = "UPDATE unit SET until = ?2 WHERE number = ?1 AND until = 4102444800000";
 
 /// Lists all versions.
-const ALL: &str = "SELECT number, name, checked, since, until FROM unit";
+pub const ALL: &str = "SELECT number, name, checked, since, until FROM unit";
 
 /// Inserts a current version of a unit.
 pub fn begin<S: Alter>(

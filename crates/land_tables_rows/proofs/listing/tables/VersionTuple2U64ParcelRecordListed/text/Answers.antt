@@ -1,0 +1,6 @@
+use Rattle.land_tables_schema.proofs.Parcels.{listing}
+use Rattle.land_tables_schema.proofs.Versions.{columns_of}
+use Rattle.land_tables_rows.proofs.listing.tables.VersionTuple2U64ParcelRecordListed.text.Goals as goal
+
+pub returns : goal.returns
+returns c = (columns_of 1 1 7, listing)
