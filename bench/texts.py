@@ -120,8 +120,8 @@ ACTS = {
     "transfer": (2, [f"MUTATION_LODGED_AS $1 {LAST} $2", *begun("source", "next+0", "=administrative", "=Deed"),
                      *begun("mutation", "next+1", "$1", "$2", "next+0", "stamp", "=transfer", "$5", "=lodged"),
                      "names/BEGIN next+1 $3 stamp", "moments/INSERT stamp next+2"]),
-    # $2 is the mutation, $3 its unit, $4 the transferred right, $5 the receiver; caller::read_referenced reads the mutation too.
-    "approve": (1, [f"MUTATION $2 {LAST}", f"MUTATION $2 {LAST}", f"PARTY $5 {LAST}", f"UNIT $3 {LAST}", f"ENTRIES_OF_UNIT $3 {LAST}",
+    # $2 is the mutation, $3 its unit, $4 the transferred right, $5 the receiver.
+    "approve": (1, [f"MUTATION $2 {LAST}", f"PARTY $5 {LAST}", f"UNIT $3 {LAST}", f"ENTRIES_OF_UNIT $3 {LAST}",
                     "rrr/CLOSE $4 stamp", "rrr/BEGIN next+0 $3 $5 =ownership 1 2 - - - - MUTATION.source stamp",
                     *replaced("mutation", "$2", "MUTATION.lodger", "MUTATION.reference", "MUTATION.source", "MUTATION.lodged",
                               "MUTATION.act", "MUTATION.content", "=approved"), "moments/INSERT stamp next+1"]),

@@ -1,7 +1,11 @@
 -- Facts of a register, with the cached value.
-use Rattle.std.proofs.Common.{◌≡◌, ◌∙◌, ℕ, ℤ, Option, Some, None, is_some, refl, sym, ap, subst}
+use Rattle.std.proofs.Common.{◌≡◌, ◌∙◌, ℕ, ℤ, true, false, Option, Some, None, IfSome, is_some, refl, sym, ap, subst}
+use Rattle.std.proofs.lemmas.Bool.{false≢true}
 use Rattle.std.specs.FinMap as map
+use Rattle.std.specs.FinMap.{FinMap}
 use Rattle.std.specs.Option.{option_map}
+use Rattle.std.specs.Ordering.{nat_cmp}
+use Rattle.std.specs.Prelude.{if◌then◌else◌}
 use Rattle.land_core.specs.Laws.{SoundnessByNumber}
 use Rattle.land_core.specs.Register.{mutation_at, object_at, parcel_at, party_at, rrr_at, source_at, stands, unit_at}
 use Rattle.land_core.specs.declared.ask.Ask.{Ask}
@@ -9,14 +13,19 @@ use Rattle.land_core.specs.declared.ask.Ask.TheVariants as ask
 use Rattle.land_core.specs.declared.caller.Caller.{Caller}
 use Rattle.land_core.specs.declared.kind.Kind.{Kind}
 use Rattle.land_core.specs.declared.kind.Kind.TheVariants as kind
+use Rattle.land_core.specs.declared.mutation.MutationRecord.{MutationRecord}
 use Rattle.land_core.specs.declared.object.Object.{Object}
 use Rattle.land_core.specs.declared.object.Object.TheVariants as object
 use Rattle.land_core.specs.declared.register.Register.{Register}
 use Rattle.land_core.specs.declared.unit.Unit.{Unit as UnitShown}
 use Rattle.land_core.specs.declared.unit.UnitRecord.{UnitRecord}
 use Rattle.land_keep.specs.Timeline.{Timeline, register_at}
+use Rattle.land_rules.specs.Denials.Standing.{mutation_of_act, mutation_of_ask}
+use Rattle.land_rules.specs.Rules.{first_denial, sight_rules}
+use Rattle.land_rules.specs.declared.verdict.Verdict.TheVariants.{Allowed}
 use Rattle.land_select.proofs.Viewed.{have_members}
-use Rattle.land_select.specs.Cache.{IsValueOf, IsValueFor, IsCacheOf, IsObjectValueOf, IsFactWith, cached_object}
+use Rattle.land_select.specs.Cache.{IsValueOf, IsValueFor, IsCacheOf, IsObjectValueOf, IsFactWith, IsMutationValue, cached_object}
+use Rattle.land_select.specs.Verdicts.{IsDecidedValue, is_read}
 use Rattle.land_select.specs.declared.cache.CachedValue.{CachedValue}
 use Rattle.land_select.specs.declared.cache.CachedValue.TheVariants as found
 use Rattle.land_select.specs.declared.cache.Cache.{Cache}
@@ -55,6 +64,7 @@ pub object_among : (r : Register) (caller : Caller) (k : Kind) (n : ℕ) (it : C
 object_among r caller k n found.Nothing is = tt
 object_among r caller k n (found.Object it) is = is
 object_among r caller k n (found.VisibleEntries entries) is = tt
+object_among r caller k n (found.Mutations mutations) is = tt
 
 -- the record of a cached unit
 pub record_found : (r : Register) (n : ℕ) (it : UnitShown) → IsObjectValueOf r kind.Unit n (found.Object (object.Unit it)) → Some (record { name = it.name; checked = it.checked }) ≡ map.get r.units n
@@ -64,12 +74,43 @@ record_found r n it is = go (map.get r.units n) is
     go None is = absurd (let e = is in cc)
     go (Some u) is = let e : record { number = n; name = u.name; checked = u.checked } ≡ it = cc in ap (λ (shown : UnitShown). Some (record { name = shown.name; checked = shown.checked })) (sym e)
 
--- an empty cache is correct for each request
-pub nothing_for : (r : Register) (caller : Caller) (a : Ask) → IsValueFor r caller a found.Nothing
-nothing_for r caller (ask.View k n at) = tt
-nothing_for r caller (ask.List k at) = tt
-nothing_for r caller (ask.Sheet unit at) = tt
-nothing_for r caller (ask.Do act) = tt
+-- the mutations of the evidence are cached if the request decides one
+pub decided_cached : (r : Register) (caller : Caller) (o : Option ℕ) (mutations : FinMap nat_cmp MutationRecord) → IfSome o (λ n. map.get mutations n ≡ map.get r.mutations n)
+    → IsDecidedValue r caller o (if is_some o then found.Mutations mutations else found.Nothing)
+decided_cached r caller None mutations is = refl
+decided_cached r caller (Some n) mutations is = is
+
+-- a request that only reads decides none
+pub reads_decide_none : (r : Register) (caller : Caller) (a : Ask) → is_read a ≡ true → IsDecidedValue r caller (mutation_of_ask a) found.Nothing
+reads_decide_none r caller (ask.View k n at) is = refl
+reads_decide_none r caller (ask.List k at) is = refl
+reads_decide_none r caller (ask.Sheet unit at) is = refl
+reads_decide_none r caller (ask.Do act) is = absurd (false≢true is)
+
+-- so each cached value is correct for its mutation
+pub read_for : (r : Register) (caller : Caller) (a : Ask) (it : CachedValue) → is_read a ≡ true → IsMutationValue r caller (mutation_of_ask a) it
+read_for r caller (ask.View k n at) it is = tt
+read_for r caller (ask.List k at) it is = tt
+read_for r caller (ask.Sheet unit at) it is = tt
+read_for r caller (ask.Do act) it is = absurd (false≢true is)
+
+some_decided : (r : Register) (caller : Caller) (o : Option ℕ) (it : CachedValue) → IsDecidedValue r caller o it → IsMutationValue r caller o it
+some_decided r caller None it is = tt
+some_decided r caller (Some n) it is = is
+
+-- what is cached while the standing rules are decided is correct for the request and for the mutation
+pub decided_for : (now at : Register) (caller : Caller) (a : Ask) (it : CachedValue) → IsDecidedValue now caller (mutation_of_ask a) it → IsValueFor at caller a it × IsMutationValue now caller (mutation_of_ask a) it
+decided_for now at caller (ask.View k n t) it is = (subst (IsValueOf at caller k n) (sym is) tt, tt)
+decided_for now at caller (ask.List k t) it is = (tt, tt)
+decided_for now at caller (ask.Sheet unit t) it is = (subst (IsValueOf at caller kind.Unit unit) (sym is) tt, tt)
+decided_for now at caller (ask.Do act) it is = (tt, some_decided now caller (mutation_of_act act) it is)
+
+-- the sight rules deny no act
+pub acts_are_allowed : (r : Register) (caller : Caller) (a : Ask) → is_read a ≡ false → Allowed ≡ first_denial (sight_rules r caller a)
+acts_are_allowed r caller (ask.View k n at) is = absurd (false≢true (sym is))
+acts_are_allowed r caller (ask.List k at) is = absurd (false≢true (sym is))
+acts_are_allowed r caller (ask.Sheet unit at) is = absurd (false≢true (sym is))
+acts_are_allowed r caller (ask.Do act) is = refl
 
 -- a cached object is correct for a request with its key
 pub cache_is : (tl : Timeline) (kept : Option Cache) (it : Cache) → kept ≡ Some it → IsCacheOf tl kept → (caller : Caller) (k : Kind) (n : ℕ) (t : ℤ) → it.caller ≡ caller → it.kind ≡ k → it.number ≡ n → it.moment ≡ t

@@ -14,11 +14,12 @@ use Rattle.land_keep.specs.Keeping.{Closes}
 use Rattle.land_keep.specs.Machine.{asked_moment, verdict_at}
 use Rattle.land_keep.specs.Timeline.{last_register, register_at}
 use Rattle.land_keep.specs.declared.store_fault.StoreFault.{StoreFault}
+use Rattle.land_rules.specs.Denials.Standing.{mutation_of_act, mutation_of_ask}
 use Rattle.land_rules.specs.Rules.{seen_of, verdict_of}
 use Rattle.land_rules.specs.declared.verdict.Verdict.{Verdict}
 use Rattle.land_select.specs.Results.{IsResult}
 use Rattle.land_select.specs.Slices.Gathered.{HoldsOfRegister, read_slice_of}
-use Rattle.land_select.specs.Cache.{IsValueFor}
+use Rattle.land_select.specs.Cache.{IsMutationValue, IsValueFor}
 use Rattle.land_select.specs.KnownRoles.{HoldsRoleIf}
 use Rattle.land_select.specs.Verdicts.{IsVerdictWith}
 use Rattle.land_select.specs.Views.{AgreesIfGiven}
@@ -61,9 +62,9 @@ the_last : IsMoment last_moment
 the_last = (omega (arith, ints), omega (arith, ints))
 
 -- the verdict on the tables is that of the latest register and the register at the time, and the cached value
--- is correct for the latter
+-- is correct for the object in the latter and for the mutation in the former
 verdict_stands : SoundnessByNumber → (s : State) (caller : Caller) (is_held : Bool) (a : Ask) (past : Bool) (t u : ℤ) → IsLookedAt t u → (it : Verdict × CachedValue) → IsResult (IsVerdictWith caller is_held a past u) s it
-    → HoldsRoleIf is_held (last_register (decoded_timeline s.now.trees)) caller → (it.0 ≡ verdict_of (last_register (decoded_timeline s.now.trees)) (register_at (decoded_timeline s.now.trees) t) caller a past) × IsValueFor (register_at (decoded_timeline s.now.trees) t) caller a it.1
+    → HoldsRoleIf is_held (last_register (decoded_timeline s.now.trees)) caller → (it.0 ≡ verdict_of (last_register (decoded_timeline s.now.trees)) (register_at (decoded_timeline s.now.trees) t) caller a past) × IsValueFor (register_at (decoded_timeline s.now.trees) t) caller a it.1 × IsMutationValue (register_at (decoded_timeline s.now.trees) last_moment) caller (mutation_of_ask a) it.1
 verdict_stands look_ups s caller is_held a past t u place it answer known =
     let tl = decoded_timeline s.now.trees in
     let sound = answer.register.sound in
@@ -71,26 +72,27 @@ verdict_stands look_ups s caller is_held a past t u place it answer known =
     let last : register_at tl last_moment ≡ last_register tl = stays_last tl last_moment sound.rising (last_is_moment tl sound) in
     let told = answer.answer holds.listed holds.history holds.holds (register_at tl last_moment) (register_at tl t) (sound_or_nothing tl last_moment sound) (sound_or_nothing tl t sound)
     (holds.stands.stands last_moment the_last) (place s answer.register) (subst (λ (now : Register). HoldsRoleIf is_held now caller) (sym last) known) in
-    (told.0 ∙ ap (λ (now : Register). verdict_of now (register_at tl t) caller a past) last, told.1)
+    (told.0 ∙ ap (λ (now : Register). verdict_of now (register_at tl t) caller a past) last, told.1, told.2)
 
 -- so it is the verdict on the request, and the cached value is correct at the requested time
 pub verdict_told : SoundnessByNumber → (s : State) (caller : Caller) (is_held : Bool) (a : Ask) (now t u : ℤ) → t ≡ asked_moment a now → IsLookedAt t u → (it : Verdict × CachedValue)
-    → IsResult (IsVerdictWith caller is_held a (int_lt t now) u) s it → HoldsRoleIf is_held (last_register (decoded_timeline s.now.trees)) caller → (it.0 ≡ verdict_at (decoded_timeline s.now.trees) caller a now) × IsValueFor (register_at (decoded_timeline s.now.trees) t) caller a it.1
+    → IsResult (IsVerdictWith caller is_held a (int_lt t now) u) s it → HoldsRoleIf is_held (last_register (decoded_timeline s.now.trees)) caller → (it.0 ≡ verdict_at (decoded_timeline s.now.trees) caller a now) × IsValueFor (register_at (decoded_timeline s.now.trees) t) caller a it.1 × IsMutationValue (register_at (decoded_timeline s.now.trees) last_moment) caller (mutation_of_ask a) it.1
 verdict_told look_ups s caller is_held a now t u is_moment place it answer known =
     let tl = decoded_timeline s.now.trees in
     let told = verdict_stands look_ups s caller is_held a (int_lt t now) t u place it answer known in
-    (subst (λ (x : ℤ). it.0 ≡ verdict_of (last_register tl) (register_at tl x) caller a (int_lt x now)) is_moment told.0, told.1)
+    (subst (λ (x : ℤ). it.0 ≡ verdict_of (last_register tl) (register_at tl x) caller a (int_lt x now)) is_moment told.0, told.1, told.2)
 
 -- the slice of the tables is that of the latest register; a closed store has none
-pub slice_stands : SoundnessByNumber → (needed_only : Bool) (s : State) (caller : Caller) (a : Act) (next : ℕ) (before after : Bool) → (r : Result Register StoreFault) → Closes before after r
-    → (before ≡ false → next ≡ (last_register (decoded_timeline s.now.trees)).next) → IfOk r (IsResult (λ db it. HoldsOfRegister (λ r. r.next ≡ next → it ≡ read_slice_of needed_only r caller a) last_moment db) s)
+pub slice_stands : SoundnessByNumber → (needed_only : Bool) (s : State) (caller : Caller) (a : Act) (known : CachedValue) (next : ℕ) (before after : Bool) → (r : Result Register StoreFault) → Closes before after r
+    → (before ≡ false → next ≡ (last_register (decoded_timeline s.now.trees)).next) → (before ≡ false → IsMutationValue (register_at (decoded_timeline s.now.trees) last_moment) caller (mutation_of_act a) known)
+    → IfOk r (IsResult (λ db it. HoldsOfRegister (λ r. IsMutationValue r caller (mutation_of_act a) known → r.next ≡ next → it ≡ read_slice_of needed_only r caller a) last_moment db) s)
     → IfOk r (λ it. it ≡ read_slice_of needed_only (last_register (decoded_timeline s.now.trees)) caller a)
-slice_stands look_ups needed_only s caller a next true after (Ok it) closes is answer = absurd closes
-slice_stands look_ups needed_only s caller a next false after (Ok it) closes is answer =
+slice_stands look_ups needed_only s caller a known next true after (Ok it) closes is mutation answer = absurd closes
+slice_stands look_ups needed_only s caller a known next false after (Ok it) closes is mutation answer =
     let tl = decoded_timeline s.now.trees in
     let sound = answer.register.sound in
     let holds = answer.register.holds in
     let last : register_at tl last_moment ≡ last_register tl = stays_last tl last_moment sound.rising (last_is_moment tl sound) in
     subst (λ (r : Register). r.next ≡ next → it ≡ read_slice_of needed_only r caller a) last
-    (answer.answer holds.listed holds.history holds.holds (register_at tl last_moment) (have_members look_ups tl last_moment sound) (holds.stands.stands last_moment the_last)) (sym (is refl))
-slice_stands look_ups needed_only s caller a next before after (Err fault) closes is answer = tt
+    (answer.answer holds.listed holds.history holds.holds (register_at tl last_moment) (have_members look_ups tl last_moment sound) (holds.stands.stands last_moment the_last) (mutation refl)) (sym (is refl))
+slice_stands look_ups needed_only s caller a known next before after (Err fault) closes is mutation answer = tt

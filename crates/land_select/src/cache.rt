@@ -1,13 +1,18 @@
 //! Caches what was read while a request was authorized, so that building its reply does not read it again.
 ghost use Rattle.std.specs.Prelude.{◌≡◌, IfSome, None, Some, true};
+ghost use Rattle.land_core.specs.Numbers.{last_moment};
 ghost use Rattle.land_core.specs.Register.{object_at};
-ghost use Rattle.land_core.specs.declared.kind.Kind.TheVariants as kinds;
 ghost use Rattle.land_keep.specs.Timeline.{Timeline, register_at};
-ghost use Rattle.land_select.specs.Cache.{IsValueOf, IsValueFor, IsCacheOf, cached_object};
+ghost use Rattle.land_rules.specs.Denials.Standing.{mutation_of_act, mutation_of_ask};
+ghost use Rattle.land_select.specs.Cache.{IsCacheOf, IsMutationValue, IsValueFor, IsValueOf};
+ghost use Rattle.land_select.specs.Cache.{cached_object};
 
+use land_core::act::Act;
 use land_core::ask::Ask;
 use land_core::caller::Caller;
 use land_core::kind::Kind;
+use land_core::limits::LAST_MOMENT;
+use land_core::mutation::MutationRecord;
 use land_core::object::Object;
 use land_core::records::Records;
 use land_core::rrr::RrrRecord;
@@ -21,6 +26,8 @@ pub(crate) enum CachedValue {
     Object(Object),
     /// The entries of the requested unit that the caller sees.
     VisibleEntries(Records<RrrRecord>),
+    /// The mutation that the act decides, with its number.
+    Mutations(Records<MutationRecord>),
 }
 
 /// A cached read with its key. It is valid for one request: each other call of the keeper clears it.
@@ -65,37 +72,26 @@ pub(crate) fn cached_object(object: Option<Object>) -> CachedValue
     }
 }
 
-/// Returns a new cache for the view of an object or the sheet of a unit; `None` for lists and acts, whose
-/// replies reuse nothing.
+/// Returns a new cache for the view of an object, the sheet of a unit or the decision on a mutation; `None`
+/// for lists and other acts, whose replies reuse nothing. A decision uses the mutation of the latest register.
 pub(crate) fn cache_for(caller: Caller, ask: &Ask, at: i64, found: CachedValue) -> Option<Cache>
-    ensures { (tl : Timeline) → IsValueFor (register_at tl at) caller ask.now found → IsCacheOf tl result }
+    ensures { (tl : Timeline) → IsValueFor (register_at tl at) caller ask.now found
+        → IsMutationValue (register_at tl last_moment) caller (mutation_of_ask ask.now) found
+        → IsCacheOf tl result }
 {
-    let (kind, number) = match ask {
-        Ask::View { kind, number, .. } => (*kind, *number),
-        Ask::Sheet { unit, .. } => (Kind::Unit, *unit),
+    let (kind, number, moment) = match ask {
+        Ask::View { kind, number, .. } => (*kind, *number, at),
+        Ask::Sheet { unit, .. } => (Kind::Unit, *unit, at),
+        Ask::Do(Act::Approve(it) | Act::Refuse(it)) => (Kind::Mutation, it.mutation, LAST_MOMENT),
         Ask::List { .. } | Ask::Do(_) => return None,
     };
     Some(Cache {
         caller,
         kind,
         number,
-        moment: at,
+        moment,
         found,
     })
-}
-
-/// Replaces the cache.
-pub(crate) fn keep(cache: &mut Option<Cache>, found: Option<Cache>)
-    ensures { cache.new ≡ found }
-{
-    *cache = found;
-}
-
-/// Clears the cache.
-pub(crate) fn forget(cache: &mut Option<Cache>)
-    ensures { cache.new ≡ None }
-{
-    *cache = None;
 }
 
 /// Returns the object of a kind and a number at a time, if it is cached.
@@ -111,26 +107,46 @@ pub(crate) fn take_object(cache: Option<Cache>, kind: Kind, number: u64, at: i64
             let Cache { found, .. } = it;
             match found {
                 CachedValue::Object(object) => Some(object),
-                CachedValue::Nothing | CachedValue::VisibleEntries(_) => None,
+                CachedValue::Nothing | CachedValue::VisibleEntries(_) | CachedValue::Mutations(_) =>
+                    None,
             }
         }
         None => None,
     }
 }
 
-/// Returns the value that is cached for a caller, a unit and a time.
-pub(crate) fn take_unit(cache: Option<Cache>, caller: Caller, unit: u64, at: i64) -> CachedValue
+/// Returns the value that is cached for a caller, an object and a time.
+pub(crate) fn take_value(
+    cache: Option<Cache>,
+    caller: Caller,
+    kind: Kind,
+    number: u64,
+    at: i64,
+) -> CachedValue
     ensures { (tl : Timeline) → IsCacheOf tl cache
-        → IsValueOf (register_at tl at) caller kinds.Unit unit result }
+        → IsValueOf (register_at tl at) caller kind number result }
 {
     match cache {
         Some(it) => {
-            if !it.is_for_caller(caller) || !it.is_for(Kind::Unit, unit, at) {
+            if !it.is_for_caller(caller) || !it.is_for(kind, number, at) {
                 return CachedValue::Nothing;
             }
             let Cache { found, .. } = it;
             found
         }
         None => CachedValue::Nothing,
+    }
+}
+
+/// Returns the value that is cached for a caller and the mutation that an act decides.
+pub(crate) fn take_mutation(cache: Option<Cache>, caller: Caller, act: &Act) -> CachedValue
+    ensures { (tl : Timeline) → IsCacheOf tl cache
+        → IsMutationValue (register_at tl last_moment) caller (mutation_of_act act.now) result }
+{
+    match act {
+        Act::Approve(it) | Act::Refuse(it) => {
+            take_value(cache, caller, Kind::Mutation, it.mutation, LAST_MOMENT)
+        }
+        _ => CachedValue::Nothing,
     }
 }

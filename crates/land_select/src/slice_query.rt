@@ -1,6 +1,7 @@
 //! Reads the slice of the latest register for an act, or the part of it that the outcome depends on.
 ghost use Rattle.std.specs.Prelude.{◌≡◌};
 
+use crate::cache::CachedValue;
 use crate::query::Query;
 use crate::slices::slice::slice_at;
 use land_acts::slice::Slice;
@@ -19,6 +20,8 @@ pub(crate) struct SliceQuery<'a> {
     pub(crate) act: &'a Act,
     /// Whether only the part that the outcome of the act depends on is read.
     pub(crate) needed_only: bool,
+    /// The cached value of the mutation that the act decides.
+    pub(crate) known: &'a CachedValue,
     /// The next number of the register.
     pub(crate) next: u64,
     /// The time, in Unix milliseconds.
@@ -26,10 +29,13 @@ pub(crate) struct SliceQuery<'a> {
 }
 
 impl Query<Slice> for SliceQuery<'_> {
+    ghost use Rattle.land_rules.specs.Denials.Standing.{mutation_of_act};
+    ghost use Rattle.land_select.specs.Cache.{IsMutationValue};
     ghost use Rattle.land_select.specs.Slices.Gathered.{HoldsOfRegister, read_slice_of};
 
     ghost results = { λ it db slice. HoldsOfRegister
-        (λ r. r.next ≡ it.next → slice ≡ read_slice_of it.needed_only r it.caller it.act.now) it.moment db };
+        (λ r. IsMutationValue r it.caller (mutation_of_act it.act.now) it.known.now
+        → r.next ≡ it.next → slice ≡ read_slice_of it.needed_only r it.caller it.act.now) it.moment db };
 
     fn run<S: Alter>(&self, alloc: Global, conn: &mut Connection<S>) -> Result<Slice, ReadFault> {
         slice_at(
@@ -38,6 +44,7 @@ impl Query<Slice> for SliceQuery<'_> {
             self.caller,
             self.act,
             self.needed_only,
+            self.known,
             self.next,
             self.moment,
         )

@@ -2,7 +2,7 @@
 ghost use Rattle.std.specs.Prelude.{◌≡◌, ◌≤ℤ◌};
 ghost use Rattle.land_core.specs.Numbers.{last_moment};
 
-use crate::cache::{Cache, cache_for, forget, keep, take_object, take_unit};
+use crate::cache::{Cache, cache_for, take_mutation, take_object, take_value};
 use crate::known_roles::{
     KnownRoles, forget_outdated, holds_no_mandate, is_known, is_latest, remember,
     remember_no_mandate,
@@ -132,7 +132,7 @@ impl<S: Alter> Keeper for SqlKeeper<S> {
         ask: &Ask,
         now: i64,
     ) -> Result<Verdict, StoreFault> {
-        forget(&mut self.cache);
+        self.cache = None;
         let at = explicit_moment(ask).unwrap_or(now);
         soundness_by_number();
         let known_or_zero = at.min(LAST_MOMENT);
@@ -146,8 +146,7 @@ impl<S: Alter> Keeper for SqlKeeper<S> {
         };
         let told = execute(alloc, &mut self.tables, &denial)?;
         let (verdict, found) = told;
-        let cache = cache_for(caller, ask, at, found);
-        keep(&mut self.cache, cache);
+        self.cache = cache_for(caller, ask, at, found);
         remember(alloc, &mut self.known, caller, is_held, verdict);
         Ok(verdict)
     }
@@ -159,7 +158,7 @@ impl<S: Alter> Keeper for SqlKeeper<S> {
         kind: Kind,
         at: i64,
     ) -> Result<NumberList, StoreFault> {
-        forget(&mut self.cache);
+        self.cache = None;
         let latest = is_latest(self.tables.last(), at);
         let holds_none = holds_no_mandate(&self.known, caller, latest);
         let sight = SightQuery {
@@ -205,7 +204,7 @@ impl<S: Alter> Keeper for SqlKeeper<S> {
         numbers: &[u64],
         at: i64,
     ) -> Result<Sequence<NamedObject>, StoreFault> {
-        forget(&mut self.cache);
+        self.cache = None;
         soundness_by_number();
         let moment = at.min(LAST_MOMENT);
         let listed = ObjectsQuery {
@@ -224,7 +223,7 @@ impl<S: Alter> Keeper for SqlKeeper<S> {
         at: i64,
     ) -> Result<Option<View>, StoreFault> {
         let cache = self.cache.take();
-        let found = take_unit(cache, caller, unit, at);
+        let found = take_value(cache, caller, Kind::Unit, unit, at);
         let moment = at.min(LAST_MOMENT);
         let seen = UnitViewQuery {
             caller,
@@ -237,12 +236,14 @@ impl<S: Alter> Keeper for SqlKeeper<S> {
     }
 
     fn slice(&mut self, alloc: Global, caller: Caller, act: &Act) -> Result<Slice, StoreFault> {
-        forget(&mut self.cache);
+        let cache = self.cache.take();
+        let known = take_mutation(cache, caller, act);
         soundness_by_number();
         let sliced = SliceQuery {
             caller,
             act,
             needed_only: false,
+            known: &known,
             next: self.tables.next(),
             moment: LAST_MOMENT,
         };
@@ -255,12 +256,14 @@ impl<S: Alter> Keeper for SqlKeeper<S> {
         caller: Caller,
         act: &Act,
     ) -> Result<Slice, StoreFault> {
-        forget(&mut self.cache);
+        let cache = self.cache.take();
+        let known = take_mutation(cache, caller, act);
         soundness_by_number();
         let sliced = SliceQuery {
             caller,
             act,
             needed_only: true,
+            known: &known,
             next: self.tables.next(),
             moment: LAST_MOMENT,
         };
@@ -268,7 +271,7 @@ impl<S: Alter> Keeper for SqlKeeper<S> {
     }
 
     fn write(&mut self, alloc: Global, change: &Change, stamp: i64) -> Result<(), StoreFault> {
-        forget(&mut self.cache); // The change may be to the cached object.
+        self.cache = None; // The change may be to the cached object.
         forget_outdated(&mut self.known, change);
         self.tables.write(alloc, change, stamp)
     }

@@ -232,7 +232,7 @@ fn read_named_entries<S: Alter>(
 {
     match found {
         CachedValue::VisibleEntries(entries) => attach_names(alloc, conn, unit, entries, at),
-        CachedValue::Object(_) | CachedValue::Nothing => {
+        CachedValue::Object(_) | CachedValue::Mutations(_) | CachedValue::Nothing => {
             let entries = read_visible_entries(alloc, conn, caller, unit, at)?;
             attach_names(alloc, conn, unit, &entries, at)
         }
@@ -297,9 +297,10 @@ fn read_unit_record<S: Alter>(
             name: it.name.copy(alloc)?,
             checked: it.checked,
         })),
-        CachedValue::Object(_) | CachedValue::VisibleEntries(_) | CachedValue::Nothing => {
-            by_number::record(alloc, conn, unit, at)
-        }
+        CachedValue::Object(_)
+        | CachedValue::VisibleEntries(_)
+        | CachedValue::Mutations(_)
+        | CachedValue::Nothing => { by_number::record(alloc, conn, unit, at) }
     }
 }
 

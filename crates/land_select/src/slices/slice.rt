@@ -8,6 +8,8 @@ ghost use Rattle.land_core.specs.Role.{is_role};
 ghost use Rattle.land_core.specs.declared.act.Act.{Act as Deed};
 ghost use Rattle.land_core.specs.declared.caller.Caller.{Caller as Asker};
 ghost use Rattle.land_core.specs.declared.role.Role.TheVariants.{StateAdministrator};
+ghost use Rattle.land_rules.specs.Denials.Standing.{mutation_of_act};
+ghost use Rattle.land_select.specs.Cache.{IsMutationValue};
 ghost use Rattle.land_select.specs.Slices.Gathered.{HoldsOfRegister, IsKnown, KnowsParties, KnowsUnits};
 ghost use Rattle.land_select.specs.Slices.Gathered.{numbers_if, parts_to_read, read_slice_of};
 ghost use Rattle.land_select.specs.Slices.Named.{lists, parties_of, units_of};
@@ -15,6 +17,7 @@ ghost use Rattle.land_select_queries.specs.Lookups.Parts.{ReadsPart};
 ghost use Rattle.land_select_queries.specs.TableReads.{ReadsTables};
 ghost use Rattle.land_tables_schema.specs.Connections.{HasRegisterTables, IsUsable, LeavesAutocommit};
 
+use crate::cache::CachedValue;
 use crate::slices::gathers::{gather_all, gather_included};
 use crate::slices::mutations::mutations_of;
 use crate::slices::named::{parties_of, sources_of, units_of};
@@ -339,26 +342,26 @@ fn parts_to_read(needed_only: bool, mutations: &Records<MutationRecord>, act: &A
 
 /// Reads the slice for an act at a time, in Unix milliseconds, with the given next number, or only the part
 /// of it that the outcome of the act depends on. Only records of the numbers that the act refers to, and
-/// those of its caller, are read. Returns error 520 only if the tables hold no history, and 501 if out of
-/// memory.
-pub fn slice_at<S: Alter>(
+/// those of its caller, are read; the mutation that it decides only if it is not cached. Returns error 520
+/// only if the tables hold no history, and 501 if out of memory.
+pub(crate) fn slice_at<S: Alter>(
     alloc: Global,
     conn: &mut Connection<S>,
     caller: Caller,
     act: &Act,
     needed_only: bool,
+    known: &CachedValue,
     next: u64,
     at: i64,
 ) -> Result<Slice, ReadFault>
     requires open { IsUsable S.Store conn.old }
     requires has_tables { HasRegisterTables S.Store conn.old }
     ensures reads_only { ReadsTables S.Store result
-        (λ db it.
-        HoldsOfRegister (λ r. r.next ≡ next → it ≡ read_slice_of needed_only r caller act.now) at db)
-        conn.old conn.new }
+        (λ db it. HoldsOfRegister (λ r. IsMutationValue r caller (mutation_of_act act.now) known.now
+        → r.next ≡ next → it ≡ read_slice_of needed_only r caller act.now) at db) conn.old conn.new }
     ensures autocommit { LeavesAutocommit conn.old conn.new }
 {
-    let mutations = mutations_of(alloc, conn, caller, act, at)?;
+    let mutations = mutations_of(alloc, conn, caller, act, known, at)?;
     let mandates = mandates_of(alloc, conn, caller, act, at)?;
     let parts = parts_to_read(needed_only, &mutations, act);
     slice_about(alloc, conn, act, parts, mutations, mandates, next, at)

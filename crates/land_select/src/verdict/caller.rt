@@ -4,16 +4,15 @@ ghost use Rattle.land_core.specs.Grants.{grant_to, has_grant};
 ghost use Rattle.land_core.specs.Register.{stands};
 ghost use Rattle.land_core.specs.declared.kind.Kind.TheVariants as kinds;
 ghost use Rattle.land_rules.specs.Denials.Standing.{mutation_of_ask, entry_of_ask};
-ghost use Rattle.land_rules.specs.Rules.{first_denial, standing_rules};
-ghost use Rattle.land_select.specs.KnownRoles.{HoldsRoleIf};
-ghost use Rattle.land_select.specs.Verdicts.{IsCallerWithRoles, IsEvidence, holder_verdict, is_read};
-ghost use Rattle.land_select.specs.Verdicts.{record_at};
-ghost use Rattle.land_select.specs.Verdicts.{roles_in, placeholder_party};
-ghost use Rattle.land_select.specs.Views.{AgreesWithRegister, AgreesIfGiven};
+ghost use Rattle.land_select.specs.Verdicts.{IsCallerWithRoles, IsEvidence, IsStandingVerdictWith};
+ghost use Rattle.land_select.specs.Verdicts.{cached_mutations, holder_verdict, is_read};
+ghost use Rattle.land_select.specs.Verdicts.{placeholder_party, record_at, roles_in};
+ghost use Rattle.land_select.specs.Views.{AgreesWithRegister};
 ghost use Rattle.land_select_queries.specs.Lookups.Parts.{ReadsPart};
 ghost use Rattle.land_select_queries.specs.TableReads.{ReadsTables};
 ghost use Rattle.land_tables_schema.specs.Connections.{HasRegisterTables, IsUsable, LeavesAutocommit};
 
+use crate::cache::CachedValue;
 use crate::known_roles::claimed_role;
 use land_core::ask::Ask;
 use land_core::caller::Caller;
@@ -21,6 +20,7 @@ use land_core::kind::PartyKind;
 use land_core::laws::soundness_by_number;
 use land_core::mutation::MutationRecord;
 use land_core::party::PartyRecord;
+use land_core::records::Records;
 use land_core::register::Register;
 use land_core::role::Role;
 use land_core::roles::Roles;
@@ -190,7 +190,7 @@ fn evidence<S: Alter>(
 }
 
 /// Checks if a request only reads.
-fn is_read(ask: &Ask) -> bool
+pub(crate) fn is_read(ask: &Ask) -> bool
     ensures { result ≡ is_read ask.now }
 {
     match ask {
@@ -210,8 +210,20 @@ fn holder_verdict(caller: Caller, past: bool) -> Verdict
     }
 }
 
+/// Returns the mutations of the evidence as a cached value, if the request decides one of them.
+fn cached_mutations(ask: &Ask, mutations: Records<MutationRecord>) -> CachedValue
+    ensures { result ≡ cached_mutations ask.now mutations }
+{
+    if mutation_of_ask(ask).is_some() {
+        CachedValue::Mutations(mutations)
+    } else {
+        CachedValue::Nothing
+    }
+}
+
 /// Returns the verdict of the standing rules on a request, by the register at a time: the lowest number of a
-/// rule that denies it. `is_held` states that the caller is known to hold the role that it claims.
+/// rule that denies it. Also returns the mutation that the request decides. `is_held` states that the caller
+/// is known to hold the role that it claims.
 pub(crate) fn read_standing_verdict<S: Alter>(
     alloc: Global,
     conn: &mut Connection<S>,
@@ -220,19 +232,19 @@ pub(crate) fn read_standing_verdict<S: Alter>(
     ask: &Ask,
     past: bool,
     at: i64,
-) -> Result<Verdict, ReadFault>
+) -> Result<(Verdict, CachedValue), ReadFault>
     requires open { IsUsable S.Store conn.old }
     requires has_tables { HasRegisterTables S.Store conn.old }
-    ensures reads_only { ReadsTables S.Store result
-        (AgreesIfGiven (λ r. HoldsRoleIf is_held r caller)
-        (λ r. first_denial (standing_rules r caller ask.now past)) at) conn.old conn.new }
+    ensures reads_only { ReadsTables S.Store result (IsStandingVerdictWith caller is_held ask.now past at)
+        conn.old conn.new }
     ensures autocommit { LeavesAutocommit conn.old conn.new }
 {
     evidence_is_enough();
     soundness_by_number();
     if is_held && is_read(ask) {
-        return Ok(holder_verdict(caller, past));
+        return Ok((holder_verdict(caller, past), CachedValue::Nothing));
     }
     let evidence = evidence(alloc, conn, caller, is_held, ask, at)?;
-    Ok(standing_verdict(&evidence, caller, ask, past))
+    let verdict = standing_verdict(&evidence, caller, ask, past);
+    Ok((verdict, cached_mutations(ask, evidence.mutations)))
 }

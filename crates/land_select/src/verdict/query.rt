@@ -6,7 +6,7 @@ ghost use Rattle.land_tables_schema.specs.Connections.{HasRegisterTables, IsUsab
 
 use crate::cache::CachedValue;
 use crate::query::Query;
-use crate::verdict::caller::read_standing_verdict;
+use crate::verdict::caller::{is_read, read_standing_verdict};
 use crate::verdict::sheet::read_sheet_verdict;
 use crate::verdict::view::read_view_verdict;
 use land_core::ask::Ask;
@@ -39,8 +39,9 @@ fn read_sight_verdict<S: Alter>(
     }
 }
 
-/// Returns the verdict on a request at a time, and the value that it read. The standing rules use the
-/// register at the last moment. `is_held` states that the caller is known to hold the role that it claims.
+/// Returns the verdict on a request at a time, and the value that it read: the object or the entries, or the
+/// mutation that the request decides. The standing rules use the register at the last moment. `is_held`
+/// states that the caller is known to hold the role that it claims.
 fn read_verdict<S: Alter>(
     alloc: Global,
     conn: &mut Connection<S>,
@@ -56,10 +57,16 @@ fn read_verdict<S: Alter>(
         conn.new }
     ensures autocommit { LeavesAutocommit conn.old conn.new }
 {
-    let first = read_standing_verdict(alloc, conn, caller, is_held, ask, past, LAST_MOMENT)?;
+    let told = read_standing_verdict(alloc, conn, caller, is_held, ask, past, LAST_MOMENT)?;
+    let (first, decided) = told;
     match first {
-        Verdict::Allowed => read_sight_verdict(alloc, conn, caller, ask, at),
-        Verdict::Denied(rule) => Ok((Verdict::Denied(rule), CachedValue::Nothing)),
+        Verdict::Allowed => {
+            if is_read(ask) {
+                return read_sight_verdict(alloc, conn, caller, ask, at);
+            }
+            Ok((Verdict::Allowed, decided))
+        }
+        Verdict::Denied(rule) => Ok((Verdict::Denied(rule), decided)),
     }
 }
 

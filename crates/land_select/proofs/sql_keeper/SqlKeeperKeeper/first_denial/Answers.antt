@@ -7,7 +7,8 @@ use Rattle.land_keep.specs.Machine.{asked_moment}
 use Rattle.land_keep.specs.Timeline.{Timeline, last_register, register_at}
 use Rattle.land_select.proofs.KnownRoles.{still_known, verdict_shows}
 use Rattle.land_select.proofs.Seen.{verdict_told}
-use Rattle.land_select.specs.Cache.{IsCacheOf, IsValueFor}
+use Rattle.land_rules.specs.Denials.Standing.{mutation_of_ask}
+use Rattle.land_select.specs.Cache.{IsMutationValue, IsValueFor}
 use Rattle.land_select.specs.KnownRoles.{AreKnownIn, HoldsRoleIf, shows_role}
 use Rattle.land_tables.proofs.Keeping.{closes_ok}
 use Rattle.land_tables.proofs.LookedAt.{look_moment}
@@ -34,7 +35,7 @@ returns-clause-closes g c = rw c.self.view_is at (closes_ok c.self.inside.tables
 
 pub invariant_of-self : goal.invariant_of-self
 invariant_of-self g c live = (
-  subst (IsCacheOf (held_timeline g.S.Store c.execute.new.tables)) (sym c.forget.ensures) tt,
+  tt,
   still_known (IsHonest g.S.Store c.self.inside.tables) (IsHonest g.S.Store c.execute.new.tables) c.self.inside.tables.is_closed c.execute.new.tables.is_closed c.execute.result
       (held_timeline g.S.Store c.self.inside.tables) (held_timeline g.S.Store c.execute.new.tables) c.self.inside.known c.execute.ensures.closes c.execute.ensures.was c.execute.ensures.same (λ was. (c.self.invariant was).1) live,
 )
@@ -59,10 +60,11 @@ invariant_of-self-2 g c live =
     let answer = rw (c.self.view_is, now, t, u) at (c.in_ok-told.ensures.value live.0) in
     let found = verdict_told c.soundness_by_number.ensures s caller c.is_known-is_held.result ask c.args.now at c.min-known_or_zero.result is_moment (look_moment at c.min-known_or_zero.result least) it answer known in
     let same = rw c.self.view_is at (c.in_ok-told.ensures.same live) in
-    let kept = c.cache_for-cache.ensures is_held
-    (subst (λ (x : ℤ). IsValueFor (register_at is_held x) caller ask it.1) (sym t) (subst (λ (tl : Timeline). IsValueFor (register_at tl at) caller ask it.1) (sym same) found.1)) in
+    let kept = c.cache_for.ensures is_held
+    (subst (λ (x : ℤ). IsValueFor (register_at is_held x) caller ask it.1) (sym t) (subst (λ (tl : Timeline). IsValueFor (register_at tl at) caller ask it.1) (sym same) found.1))
+    (subst (λ (tl : Timeline). IsMutationValue (register_at tl last_moment) caller (mutation_of_ask ask) it.1) (sym same) found.2) in
     let tl = held_timeline g.S.Store c.args.self.now in
     let shown = subst (λ (tl : Timeline). HoldsRoleIf (shows_role it.0) (last_register tl) caller) (sym same)
     (verdict_shows (last_register tl) (register_at tl (asked_moment ask c.args.now)) caller ask (int_lt (asked_moment ask c.args.now) c.args.now) it.0 found.0) in
     let still = subst (λ (tl : Timeline). AreKnownIn (last_register tl) c.self.inside.known) (sym (c.in_ok-told.ensures.same live)) known_before in
-    (rw c.keep.ensures kept, c.remember.ensures (last_register is_held) still shown)
+    (kept, c.remember.ensures (last_register is_held) still shown)

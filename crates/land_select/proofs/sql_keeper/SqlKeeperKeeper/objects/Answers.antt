@@ -1,11 +1,10 @@
-use Rattle.std.proofs.Common.{of_z, rules, to_z, w64, ◌≡◌, subst, sym}
+use Rattle.std.proofs.Common.{of_z, rules, to_z, w64, ◌≡◌}
 use Rattle.std.specs.Int.{int_min}
 use Rattle.land_core.specs.Numbers.{last_moment}
 use Rattle.land_keep.specs.Named.{objects_at}
 use Rattle.land_select.proofs.KnownRoles.{still_known}
 use Rattle.land_select.proofs.Seen.{part_stands}
 use Rattle.land_tables.proofs.LookedAt.{look_moment}
-use Rattle.land_select.specs.Cache.{IsCacheOf}
 use Rattle.land_tables.specs.TablesState.{IsHonest, held_timeline}
 use Rattle.sqlite.specs.Held.{state}
 use Rattle.land_select.proofs.sql_keeper.SqlKeeperKeeper.objects.Goals as goal
@@ -20,7 +19,7 @@ returns-clause-value g c clean =
 
 pub invariant_of-self : goal.invariant_of-self
 invariant_of-self g c live = (
-  subst (IsCacheOf (held_timeline g.S.Store c.execute.new.tables)) (sym c.forget.ensures) tt,
+  tt,
   still_known (IsHonest g.S.Store c.self.inside.tables) (IsHonest g.S.Store c.execute.new.tables) c.self.inside.tables.is_closed c.execute.new.tables.is_closed c.execute.result
       (held_timeline g.S.Store c.self.inside.tables) (held_timeline g.S.Store c.execute.new.tables) c.self.inside.known c.execute.ensures.closes c.execute.ensures.was c.execute.ensures.same (λ was. (c.self.invariant was).1) live,
 )

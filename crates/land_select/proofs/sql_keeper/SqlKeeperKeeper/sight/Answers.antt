@@ -7,7 +7,6 @@ use Rattle.land_keep.specs.Keeping.{IsHonestAndOpen}
 use Rattle.land_keep.specs.Timeline.{Timeline, last_register, last_stamp}
 use Rattle.land_select.proofs.KnownRoles.{none_now, none_then, reaches, still_known}
 use Rattle.land_select.proofs.Seen.{sight_seen}
-use Rattle.land_select.specs.Cache.{IsCacheOf}
 use Rattle.land_select.specs.KnownRoles.{AreKnownIn}
 use Rattle.land_select_queries.specs.Joins.Sight.{HoldsNoMandateIf}
 use Rattle.land_tables.proofs.LookedAt.{look_moment}
@@ -17,7 +16,7 @@ use Rattle.land_select.proofs.sql_keeper.SqlKeeperKeeper.sight.Goals as goal
 
 pub invariant_of-self : goal.invariant_of-self
 invariant_of-self g c live = (
-  subst (IsCacheOf (held_timeline g.S.Store c.execute.new.tables)) (sym c.forget.ensures) tt,
+  tt,
   still_known (IsHonest g.S.Store c.self.inside.tables) (IsHonest g.S.Store c.execute.new.tables) c.self.inside.tables.is_closed c.execute.new.tables.is_closed c.execute.result
       (held_timeline g.S.Store c.self.inside.tables) (held_timeline g.S.Store c.execute.new.tables) c.self.inside.known c.execute.ensures.closes c.execute.ensures.was c.execute.ensures.same (λ was. (c.self.invariant was).1) live,
 )
@@ -45,7 +44,7 @@ invariant_of-self-2 g c live =
     let none = none_now tl at is_latest it.1 caller.party rising (λ is. reaches (last_stamp tl) at (sym latest ∙ is)) seen.1 in
     let same = rw c.self.view_is at (c.in_ok-told.ensures.same live) in
     let still = subst (λ (tl : Timeline). AreKnownIn (last_register tl) c.self.inside.known) (sym (c.in_ok-told.ensures.same live)) (c.self.invariant was).1 in (
-      subst (IsCacheOf (held_timeline g.S.Store c.execute.new.tables)) (sym c.forget.ensures) tt,
+      tt,
       c.remember_no_mandate.ensures (last_register (held_timeline g.S.Store c.execute.new.tables)) still
           (subst (λ (tl : Timeline). is_latest ≡ true → HoldsNoMandateIf it.1 (last_register tl) caller.party) (sym same) none),
     )

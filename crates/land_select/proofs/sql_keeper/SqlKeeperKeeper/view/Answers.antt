@@ -27,9 +27,9 @@ returns-clause-value g c clean =
     let closed = (opens c.self.inside.tables.is_closed c.execute.new.tables.is_closed c.in_ok-shown.shown c.in_ok-shown.ensures.closes).0 in
     let tl = held_timeline g.S.Store c.self.inside.tables in
     let kept = subst (IsCacheOf tl) (sym c.take-cache.ensures.value) (c.self.invariant (was, closed)).0 in
-    let given = rw (c.self.view_is, t) at (c.take_unit-found.ensures tl kept) in
+    let given = rw (c.self.view_is, t) at (c.take_value-found.ensures tl kept) in
     let answer = rw (c.self.view_is, u) at (c.in_ok-shown.ensures.value clean) in
-    let found = given_stands (λ r. IsValueOf r caller kind.Unit unit c.take_unit-found.result) (λ r. view_at r caller unit c.min-moment.result) s c.args.at c.min-moment.result (look_moment c.args.at c.min-moment.result least) c.in_ok-shown.shown answer given in
+    let found = given_stands (λ r. IsValueOf r caller kind.Unit unit c.take_value-found.result) (λ r. view_at r caller unit c.min-moment.result) s c.args.at c.min-moment.result (look_moment c.args.at c.min-moment.result least) c.in_ok-shown.shown answer given in
     let named = rw t at c.with_moment.ensures in
     named ∙ ap (view_at_moment c.args.at) found ∙ renamed (register_at (held_timeline g.S.Store c.args.self.now) c.args.at) caller unit c.args.at c.min-moment.result
 
