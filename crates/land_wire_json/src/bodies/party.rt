@@ -83,7 +83,7 @@ pub fn withdrawal_of(value: &Value) -> Result<Mandate, WireFault>
     Ok(Mandate { principal, agent })
 }
 
-#[tactic(auto, unfolding(crate::specs::Bodies::Parties::members_of))]
+#[tactic(auto, unfolding(crate::specs::Bodies::Parties::member_list_of))]
 fn members_of(alloc: Global, value: &Value) -> Result<Sequence<Member>, WireFault>
     ensures { Returns (λ it. it) result (member_list_of (view value.now)) }
 {

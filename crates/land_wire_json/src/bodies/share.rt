@@ -23,7 +23,7 @@ pub fn share_at(value: &Value, key: &str) -> Result<Fraction, WireFault>
 
 /// Reads a share from its text. Errors: 132 if it is not 1 to 18 digits, `/`, 1 to 18 digits; then 101 to
 /// 103.
-#[tactic(auto, unfolding(crate::specs::Bodies::Shares::share_of))]
+#[tactic(auto, unfolding(crate::specs::Bodies::Shares::share_in_text))]
 pub fn share_of(text: &str) -> Result<Fraction, WireFault>
     ensures { result ≡ share_in_text text.now }
 {
