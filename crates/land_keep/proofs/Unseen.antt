@@ -211,7 +211,7 @@ view_passes false h late v e = absurd (let it : Denied 1 ≡ Allowed = e in cc)
 same_shown : (now : ℤ) (last other_last at other_at : Register) (caller : Caller) (a : Ask) (past : Bool) → WorldsLookAlike last other_last at other_at caller
     → IsReadRequest a → verdict_of last at caller a past ≡ Allowed → shows now at caller a ≡ shows now other_at caller a
 same_shown now last other_last at other_at caller (ask.View k number moment) past alike read free =
-    ap (λ o. Rattle.land_keep.specs.Machine.shown o) (same_objects at other_at caller alike.asked k number (view_passes _ _ (past && sees_only_present caller) (first_denial (view_rules at caller k number)) free))
+    ap (λ o. Rattle.land_keep.specs.Machine.object_reply o) (same_objects at other_at caller alike.asked k number (view_passes _ _ (past && sees_only_present caller) (first_denial (view_rules at caller k number)) free))
 same_shown now last other_last at other_at caller (ask.List k moment) past alike read free = ap reply.Numbers (Rattle.land_rules.proofs.Alike.same_numbers at other_at caller alike.asked k)
 same_shown now last other_last at other_at caller (ask.Sheet unit moment) past alike read free =
     ap sheet_reply (same_sheet at other_at caller alike.one alike.asked unit (unwrap_or moment now)
