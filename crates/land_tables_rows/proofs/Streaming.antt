@@ -1,7 +1,7 @@
 -- The rows of a table, decoded as they come.
 use Rattle.std.proofs.Common.{◌≡◌, ◌≢◌, false, ℕ, List, [], ◌∷◌, ◌++◌, map, Option, Some, None, Ok, Err, Result, IfErr, IsErr, IsTrue, IsPermutation, arith, ◌+◌, ◌-◌, ◌^◌, ◌<◌, inl, inr, refl, sym, ap, ap₂, subst, ◌∙◌, ◌⊎◌}
 use Rattle.std.specs.Prelude.{IsErrAnd, SomeIff}
-use Rattle.core.specs.Option.{ok_or}
+use Rattle.std.specs.Option.{ok_or}
 use Rattle.land_tables_rows.proofs.Readings.{told, unreadable}
 use Rattle.land_tables_rows.specs.Listing.Reading.{IsRead, IsUnreadableTable, Listing, Says}
 use Rattle.land_tables_rows.specs.Listing.Statements.{ListsTable}
