@@ -83,7 +83,7 @@ INCLUSIVE = {
 OPENING = {
     "the kit opens the file and checks its pages and trees": "sqlite::file",
     "the kit checks each row against its keys and indexes": "sqlite::connection::Connection::over",
-    "the kit lists rows and rowids": "sqlite::connection::Connection::query_all",
+    "the kit lists rows and rowids": "sqlite::connection::Connection::query sqlite::rows::stream::Rows::next",
     "decoding rows": "land_tables::store_versions land_tables_rows",
     "reading outlines and contents": "land_wire_json land_shape",
     "comparing rowids": "land_tables_rows::rowids",
