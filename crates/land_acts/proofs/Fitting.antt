@@ -22,6 +22,7 @@ use Rattle.land_acts.specs.declared.mutations.refusal.Refusal.TheVariants.{NotLo
 use Rattle.land_acts.specs.declared.mutations.transfer.HeldRight.{HeldRight}
 use Rattle.land_core.proofs.SoundRegisters.{refers}
 use Rattle.land_core.specs.Changes.{after}
+use Rattle.land_core.specs.Numbers.{last_next}
 use Rattle.land_core.specs.Units.{rrr_count}
 use Rattle.land_core.specs.declared.act.Act.{Act}
 use Rattle.land_core.specs.declared.act.Act.TheVariants as act
@@ -34,7 +35,7 @@ use Rattle.land_core.specs.declared.register.Register.{Register}
 use Rattle.land_core.specs.declared.soundness.Unsound.TheVariants.{Reference}
 
 one_left : (s : Register) → runs_out_of_numbers s 1 ≡ false → s.next ≤ 1000000000
-one_left s h = let most : s.next + 1 ≤ 1000000001 = ltb-false 1000000001 (s.next + 1) h in omega (arith, most)
+one_left s h = let most : s.next + 1 ≤ last_next = ltb-false last_next (s.next + 1) h in omega (arith, most)
 
 -- if no refusal applies to an approval, none applies to its content
 content_unrefused : (s : Register) (it : Decision) (stamp : Option ℤ) (m : MutationRecord) → map.get s.mutations it.mutation ≡ Some m
@@ -43,10 +44,10 @@ content_unrefused s it stamp m is none =
     let lines = (first_none NotLodged (not (is_lodged s it.mutation)) (option_map_or (λ m. content_refusals s m.content stamp) (map.get s.mutations it.mutation) []) none).rest in
     sym (ap (λ o. first_refusal_of (option_map_or (λ m. content_refusals s m.content stamp) o [])) is) ∙ lines
 
-next_bound : (s : Register) → nat_lt s.next 1000000002 ≡ true → s.next ≤ 1000000001
+next_bound : (s : Register) → nat_lt s.next 1000000002 ≡ true → s.next ≤ last_next
 next_bound s room = let under = ltb-true s.next 1000000002 room in omega (arith, under)
 
-room_next : (s : Register) (c : Content) → has_room s c ≡ true → s.next ≤ 1000000001
+room_next : (s : Register) (c : Content) → has_room s c ≡ true → s.next ≤ last_next
 room_next s (content.Transfer it) room = next_bound s room
 room_next s (content.Subdivision it) room = next_bound s room
 room_next s (content.Merger it) room = next_bound s room
@@ -55,7 +56,7 @@ room_next s (content.Discharge it) room = next_bound s room
 
 -- ---- the range, from the numbers of the register
 
-counted : (s : Register) (o to : Option HeldRight) → s.next ≤ 1000000001 → o ≡ to → (is_none to ≡ true → runs_out_of_numbers s 1 ≡ false) → number_after s to ≤ 1000000001
+counted : (s : Register) (o to : Option HeldRight) → s.next ≤ last_next → o ≡ to → (is_none to ≡ true → runs_out_of_numbers s 1 ≡ false) → number_after s to ≤ last_next
 counted s o None most e h = let few = one_left s (h refl) in omega (arith, few)
 counted s o (Some to) most e h = most
 
@@ -68,7 +69,7 @@ content_fits s stamp (content.Transfer it) room none = λ from held.
   where
     one_right : {a b : HeldRight} → Some a ≡ Some b → a ≡ b
     one_right e = cc
-content_fits s stamp (content.Subdivision it) room none = ltb-false 1000000001 (s.next + subdivision_count s it) (unrefused_subdivision s it stamp none).room
+content_fits s stamp (content.Subdivision it) room none = ltb-false last_next (s.next + subdivision_count s it) (unrefused_subdivision s it stamp none).room
 content_fits s stamp (content.Merger it) room none = merger_fits s it stamp none
 content_fits s stamp (content.Mortgage it) room none =
     let mortgage = unrefused_mortgage s it stamp none in
@@ -88,8 +89,8 @@ module _ (s : Register) (caller : Caller) (it : Decision) (slice : IsSliceOfSoun
   next_same : s.next ≡ slice.register.next
   next_same = ap (λ (r : Register). r.next) slice.is
 
-  most : s.next ≤ 1000000001
-  most = subst (λ (n : ℕ). n ≤ 1000000001) (sym next_same) (ltb-false 1000000001 slice.register.next (refers slice.register (slice.sound Reference)).room)
+  most : s.next ≤ last_next
+  most = subst (λ (n : ℕ). n ≤ last_next) (sym next_same) (ltb-false last_next slice.register.next (refers slice.register (slice.sound Reference)).room)
 
   rank_fits : (unit : ℕ) → runs_out_of_numbers s 1 ≡ false → next_rank s unit ≤ 1000000000
   rank_fits unit room =

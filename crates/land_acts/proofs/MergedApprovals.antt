@@ -17,6 +17,7 @@ use Rattle.land_core.proofs.SoundRegisters.{refers}
 use Rattle.land_core.specs.Changes.{NamesKeysOnce, after}
 use Rattle.land_core.specs.Contents.{is_well_formed_content}
 use Rattle.land_core.specs.Entries.{has}
+use Rattle.land_core.specs.Numbers.{last_next}
 use Rattle.land_core.specs.Soundness.{IsSound, is_dangling_mutation}
 use Rattle.land_core.specs.declared.content.Content.TheVariants as content
 use Rattle.land_core.specs.declared.merger.Merger.{Merger}
@@ -53,5 +54,5 @@ module _ (r : Register) (it : Merger) (stamp : Option ℤ) (none : first_refusal
   -- its new parcel has a valid number
   pub merger_fits : StaysInRange r (content.Merger it)
   merger_fits =
-      let most : r.next + 1 ≤ 1000000001 = ltb-false 1000000001 (r.next + 1) (unrefused_merger r it stamp none).room in
+      let most : r.next + 1 ≤ last_next = ltb-false last_next (r.next + 1) (unrefused_merger r it stamp none).room in
       omega (arith, most)

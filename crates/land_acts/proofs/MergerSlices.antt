@@ -19,6 +19,7 @@ use Rattle.land_core.proofs.Pairs.{list_any_same}
 use Rattle.land_core.specs.Contents.{content_names_unit}
 use Rattle.land_core.specs.Entries.{has}
 use Rattle.land_core.specs.Mergers.{lists_number}
+use Rattle.land_core.specs.Numbers.{last_next}
 use Rattle.land_core.specs.declared.content.Content.TheVariants as content
 use Rattle.land_core.specs.declared.merger.Merger.{Merger}
 use Rattle.land_core.specs.declared.register.Register.{Register}
@@ -87,7 +88,7 @@ module _ (s r : Register) (it : Merger) (named : ℕ → Bool) (agree : AgreeOnU
 
   many_agrees : is_many s ≡ is_many r
   many_agrees =
-      ap (λ next. nat_lt 1000000001 (next + 1) || would_have_more_parcels s it) agree.next
+      ap (λ next. nat_lt last_next (next + 1) || would_have_more_parcels s it) agree.next
       ∙ ap (λ beside. runs_out_of_numbers r 1 || nat_lt 256 (beside + 1)) (beside_agrees s r named agree it.unit unit_named it.parcels)
 
   -- if a listed parcel belongs to none of the units, its outline may be in only one of the two registers; an

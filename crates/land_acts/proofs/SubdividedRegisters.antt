@@ -13,6 +13,7 @@ use Rattle.land_acts.specs.Mutations.Planning.{runs_out_of_numbers}
 use Rattle.land_acts.specs.Mutations.Subdividing.{Origin, all_parts, copies_made, count_for, entries_made, list_entries_of, has_parcel_in, in_unit, next_after, numbers_for, origin_of, parcel_of_part, parcel_made, count_other_parcels, parcels_made, count_staying, subdivision_change, subdivision_count, unit_made, units_made, would_have_many_parcels}
 use Rattle.land_core.specs.Changes.{after}
 use Rattle.land_core.specs.Entries.{has, with_entries}
+use Rattle.land_core.specs.Numbers.{last_next}
 use Rattle.land_core.specs.Soundness.{IsSound}
 use Rattle.land_core.specs.Units.{parcel_count}
 use Rattle.land_core.specs.declared.parcel.ParcelRecord.{ParcelRecord}
@@ -103,20 +104,20 @@ record IsReady (origin : Origin) (parts : List Part) (r : Register) : Type 0 whe
   entries : list_entries_of r origin.unit ≡ origin.entries
   source : has r.sources origin.source ≡ true
   few : parcel_count r origin.unit + count_staying parts ≤ 256
-  room : next_after origin r.next parts ≤ 1000000001
+  room : next_after origin r.next parts ≤ last_next
 
 -- it holds before the others if it holds before the first
 ready_next : (origin : Origin) (part : Part) (parts : List Part) (r : Register) → IsReady origin (part ∷ parts) r → IsReady origin parts (with_part origin part part.unit r)
 ready_next origin part parts r ready = by_unit part.unit ready.few ready.room
   where
     by_unit : (o : Option (List ℕ)) → parcel_count r origin.unit + length (cond (is_none o) (part ∷ filter (λ (x : Part). is_none x.unit) parts) (filter (λ (x : Part). is_none x.unit) parts)) ≤ 256
-        → next_after origin (r.next + numbers_for origin o) parts ≤ 1000000001 → IsReady origin parts (with_part origin part o r)
+        → next_after origin (r.next + numbers_for origin o) parts ≤ last_next → IsReady origin parts (with_part origin part o r)
     by_unit None few room =
         let after_this = next_grows origin (r.next + 1) parts in
         let more = one_more r ready.sound r.parcels (parcel_of_part origin origin.unit part) (all_left r origin.unit) in
         record {
           sound = parcelled_is_sound r ready.sound r.parcels (parcel_of_part origin origin.unit part) (all_left r origin.unit) (ap is_some ready.stands) ready.source
-              (le-ltb 1000000001 (r.next + 1) (omega (arith, after_this, room))) (omega (arith, few));
+              (le-ltb last_next (r.next + 1) (omega (arith, after_this, room))) (omega (arith, few));
           original = ready.original;
           stands = ready.stands;
           marked = ready.marked;
@@ -136,7 +137,7 @@ ready_next origin part parts r ready = by_unit part.unit ready.few ready.room
           marked = ready.marked;
           in_new = refl;
           source = ready.source;
-          room = le-ltb 1000000001 (r.next + (2 + length (list_entries_of r origin.unit))) (omega (arith, after_this, room, long));
+          room = le-ltb last_next (r.next + (2 + length (list_entries_of r origin.unit))) (omega (arith, after_this, room, long));
         } in
         let apart = stands_apart r ready.sound origin.unit new parcel copy origin.unit ready.original ready.stands in
         let same = count_stays r ready.sound origin.unit new parcel copy origin.unit apart in
@@ -148,7 +149,7 @@ ready_next origin part parts r ready = by_unit part.unit ready.few ready.room
           entries = entries_stay r ready.sound origin.unit new parcel copy origin.unit apart ∙ ready.entries;
           source = ready.source;
           few = omega (arith, few, same);
-          room = subst (λ (n : ℕ). next_after origin (r.next + (2 + n)) parts ≤ 1000000001) (sym long) room;
+          room = subst (λ (n : ℕ). next_after origin (r.next + (2 + n)) parts ≤ last_next) (sym long) room;
         }
 
 -- ---- all parts
@@ -180,12 +181,12 @@ subdivided_is_sound r source it sound from unit parcel numbers few = found (map.
         let ends : AreLeft r it.unit left = one_ends r it.unit it.parcel p at here in
         let beside : parcels_in left it.unit ≡ count_other_parcels r it.unit (it.parcel ∷ []) = left_beside r it.unit it.parcel in
         let fits : count_other_parcels r it.unit (it.parcel ∷ []) + count_staying (all_parts it) ≤ 256 = ltb-false 256 (count_other_parcels r it.unit (it.parcel ∷ []) + count_staying (all_parts it)) few in
-        let last : r.next + subdivision_count r it ≤ 1000000001 = ltb-false 1000000001 (r.next + subdivision_count r it) numbers in
+        let last : r.next + subdivision_count r it ≤ last_next = ltb-false last_next (r.next + subdivision_count r it) numbers in
         let counted : next_after origin (r.next + 1) it.rest ≡ r.next + subdivision_count r it = subdivided_next r source it in
         let after_first : r.next + 1 ≤ next_after origin (r.next + 1) it.rest = next_grows origin (r.next + 1) it.rest in
         let more = one_more r sound left first ends in
         parted_is_sound origin it.rest (parcelled r left first) (record {
-          sound = parcelled_is_sound r sound left first ends unit from (le-ltb 1000000001 (r.next + 1) (omega (arith, last, counted, after_first))) (omega (arith, beside, fits));
+          sound = parcelled_is_sound r sound left first ends unit from (le-ltb last_next (r.next + 1) (omega (arith, last, counted, after_first))) (omega (arith, beside, fits));
           original = u;
           stands = e;
           marked = ap (λ o. option_map_or (λ (u : UnitRecord). u.checked) o false) e;

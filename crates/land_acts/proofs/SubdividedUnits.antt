@@ -23,6 +23,7 @@ use Rattle.land_core.proofs.Pairs.{some_pair, later_pairs}
 use Rattle.land_core.proofs.Reflection.{each_there, none_passes, none_at, some_passes, some_at}
 use Rattle.land_core.proofs.SoundRegisters.{refers, refers_back, are_used, are_used_back, used_from, unused_from, used_bounds, next_above_zero}
 use Rattle.land_core.specs.Entries.{has, with_entries}
+use Rattle.land_core.specs.Numbers.{last_next}
 use Rattle.land_core.specs.Soundness.{IsSound, is_used, is_rank_out_of_range}
 use Rattle.land_core.specs.Units.{do_clash, rank_of, has_parcel, has_owner, parcel_count, rrr_count, has_whole_shares}
 use Rattle.land_core.specs.declared.parcel.ParcelRecord.{ParcelRecord}
@@ -49,7 +50,7 @@ pub record IsCopy (r : Register) (unit : ℕ) (new : UnitRecord) (parcel : Parce
   pub marked : new.checked ≡ original.checked
   pub in_new : parcel.unit ≡ r.next
   pub source : has r.sources parcel.source ≡ true
-  pub room : nat_lt 1000000001 (r.next + (2 + length (list_entries_of r unit))) ≡ false
+  pub room : nat_lt last_next (r.next + (2 + length (list_entries_of r unit))) ≡ false
 
 module _ (r : Register) (sound : IsSound r) (unit : ℕ) (new : UnitRecord) (parcel : ParcelRecord) (copy : IsCopy r unit new parcel) where
   abbrev more : Register

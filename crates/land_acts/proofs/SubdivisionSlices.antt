@@ -21,6 +21,7 @@ use Rattle.land_acts.specs.declared.mutations.refusal.Refusal.TheVariants.{NoSuc
 use Rattle.land_core.proofs.Reflection.{entries-entries_where}
 use Rattle.land_core.specs.Entries.{has, entries_where}
 use Rattle.land_core.specs.Mergers.{lists_number}
+use Rattle.land_core.specs.Numbers.{last_next}
 use Rattle.land_core.specs.declared.parcel.ParcelRecord.{ParcelRecord}
 use Rattle.land_core.specs.declared.register.Register.{Register}
 use Rattle.land_core.specs.declared.rrr.RrrRecord.{RrrRecord}
@@ -127,8 +128,8 @@ module _ (s r : Register) (it : Subdivision) (named : ℕ → Bool) (agree : Agr
 
   many_agrees : is_many s ≡ is_many r
   many_agrees =
-      ap (λ next. nat_lt 1000000001 (next + subdivision_count s it) || would_have_many_parcels s it) agree.next
-      ∙ ap (λ count. nat_lt 1000000001 (r.next + count) || would_have_many_parcels s it) count_agrees
+      ap (λ next. nat_lt last_next (next + subdivision_count s it) || would_have_many_parcels s it) agree.next
+      ∙ ap (λ count. nat_lt last_next (r.next + count) || would_have_many_parcels s it) count_agrees
       ∙ ap (λ beside. runs_out_of_numbers r (subdivision_count r it) || nat_lt 256 (beside + count_staying (all_parts it))) (beside_agrees s r named agree it.unit names (it.parcel ∷ []))
 
   lost_agrees : has_parcel_in r it.unit it.parcel ≡ true → is_lost s ≡ is_lost r

@@ -16,6 +16,7 @@ use Rattle.land_core.proofs.FiniteMaps.{none_is_not_some}
 use Rattle.land_core.proofs.RecordLookups.{one_type}
 use Rattle.land_core.specs.Entries.{has}
 use Rattle.land_core.specs.Laws.{EntryRefers, GoTogether, HasOwner, IsInUse, IsSoundByNumber, IsSoundUnit}
+use Rattle.land_core.specs.Numbers.{last_next}
 use Rattle.land_core.specs.Units.{is_type, rank_of, rrr_count, type_of, type_shares}
 use Rattle.land_core.specs.declared.register.Register.{Register}
 use Rattle.land_core.specs.declared.rrr.Class.{Class}
@@ -203,7 +204,7 @@ module _ (r : Register) (rrrs : FinMap nat_cmp RrrRecord) (unit receiver source 
               (before.whole checked t (λ none. some (none_other r rrrs unit receiver source from left number share to moved n t other none)))
         ] refl
 
-    pub moved_is_sound : IsSoundByNumber r → r.next ≤ next → next ≤ 1000000001 → 0 < number → number < next → has r.sources source ≡ true → has r.parties receiver ≡ true
+    pub moved_is_sound : IsSoundByNumber r → r.next ≤ next → next ≤ last_next → 0 < number → number < next → has r.sources source ≡ true → has r.parties receiver ≡ true
         → (to ≡ None → rrr_count new unit ≤ 256) → ((u : UnitRecord) → map.get r.units unit ≡ Some u → u.checked ≡ true → IsWhole (type_shares new unit from.right_type)) → IsSoundByNumber new
     moved_is_sound before grows room above below has_source has_receiver few whole = record {
       room = room;

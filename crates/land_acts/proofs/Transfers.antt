@@ -24,6 +24,7 @@ use Rattle.land_core.proofs.SoundRegisters.{are_used, refers, used_bounds, used_
 use Rattle.land_core.specs.Changes.{after, NamesKeysOnce}
 use Rattle.land_core.specs.Entries.{has, with_changes, are_distinct}
 use Rattle.land_core.specs.Laws.{IsSoundByNumber}
+use Rattle.land_core.specs.Numbers.{last_next}
 use Rattle.land_core.specs.Soundness.{IsSound}
 use Rattle.land_core.specs.Units.{rrr_count, type_shares}
 use Rattle.land_core.specs.declared.content.Transfer.{Transfer}
@@ -284,7 +285,7 @@ module _ (r : Register) (it : Transfer) (from : HeldRight) where
       checked_at : (u : UnitRecord) → map.get r.units it.unit ≡ Some u → u.checked ≡ true → is_checked r it.unit ≡ true
       checked_at u is checked = ap (λ (o : Option UnitRecord). option_map_or (λ u. u.checked) o false) is ∙ checked
 
-      sound_with : (to : Option HeldRight) → IsTransferred to → IsAllowed to → number_after r to ≤ 1000000001 → (to ≡ None → rrr_count (register_after 0 to) it.unit ≤ 256) → IsSound (register_after source to)
+      sound_with : (to : Option HeldRight) → IsTransferred to → IsAllowed to → number_after r to ≤ last_next → (to ≡ None → rrr_count (register_after 0 to) it.unit ≤ 256) → IsSound (register_after source to)
       sound_with to h allow room few =
           (by_look_ups law (register_after source to)).1
           (moved_is_sound r (entries_after source (remaining_share it from) to) it.unit it.receiver source from (left_of (remaining_share it from)) h.number h.share to (h.moved_by source) (number_after r to)
@@ -315,8 +316,8 @@ module _ (r : Register) (it : Transfer) (from : HeldRight) where
           let limits = or_parts (runs_out_of_numbers r 1) (nat_lt 256 (rrr_count (register_after 0 None) it.unit)) many in
           sound_with None h allow (below_end limits.0) (λ is. ltb-false 256 (rrr_count (register_after 0 None) it.unit) limits.1)
         where
-          below_end : runs_out_of_numbers r 1 ≡ false → r.next + 1 ≤ 1000000001
-          below_end room = ltb-false 1000000001 (r.next + 1) room
+          below_end : runs_out_of_numbers r 1 ≡ false → r.next + 1 ≤ last_next
+          below_end room = ltb-false last_next (r.next + 1) room
       sound_after (Some held) h allow many = sound_with (Some held) h allow before.room (λ none. absurd (none_is_not_some (sym none)))
 
 -- a transfer to which no refusal applies keeps a register sound

@@ -21,6 +21,7 @@ use Rattle.land_commands.specs.Words.Names.{HasOptionalNumber, IsCommandIn}
 use Rattle.land_commands.specs.Words.Options.{moment_parser, option_rule, party_parser}
 use Rattle.land_commands.specs.Words.PlainCommands.{PlainCommand, to_extract}
 use Rattle.land_commands.specs.declared.words.choices.Choices.{Choices}
+use Rattle.land_core.specs.Numbers.{last_moment}
 use Rattle.land_core.specs.declared.kind.Kind.{Kind}
 use Rattle.land_core.specs.declared.kind.Kind.TheVariants as kind
 use Rattle.land_core.specs.declared.role.Role.{Role}
@@ -135,7 +136,7 @@ at_told = told (codes "at") false moment_parser
 
 -- an optional option has a moment, or is absent
 pub moment_if_any : (rows : List Row) → (first_of (codes "at") rows ≡ None) ⊎ ((text : Text) × (first_of (codes "at") rows ≡ Some text) × Accepts false moment_parser text)
-    → (at : Option ℤ) × HasOptionalNumber rows (codes "at") (pos 0) (pos 4102444799999) at
+    → (at : Option ℤ) × HasOptionalNumber rows (codes "at") (pos 0) last_moment at
 moment_if_any rows (inl none) = (None, none)
 moment_if_any rows (inr (text, found, accepted)) =
     (Some (signed_digits_value 10 text), record { text = text; found = found; in_range = accepted; value = refl })
@@ -181,7 +182,7 @@ module _ (choices : Choices) (spelled : AreChoiceWords choices) (words : List Te
       (one_keeps (codes "kind") (Accepts false (parser.Names choices.kinds)) (file_shape ∷ clock_shape ∷ party_shape ∷ role_shape choices.roles ∷ []) (kind_shape choices.kinds) (at_told ∷ []) refl refl (λ text h. h))
       ((required_given (extract_built choices) no_defaults words faultless).1.1.1.1.0 refl)
 
-  at_if_any : (at : Option ℤ) × HasOptionalNumber rows (codes "at") (pos 0) (pos 4102444799999) at
+  at_if_any : (at : Option ℤ) × HasOptionalNumber rows (codes "at") (pos 0) last_moment at
   at_if_any =
       moment_if_any rows
       (passes_if_any (extract_built choices) no_defaults words faultless (codes "at") (Accepts false moment_parser)

@@ -16,6 +16,7 @@ use Rattle.land_commands.specs.Words.Names.{NamesBy}
 use Rattle.land_commands.specs.Words.Options.{moment_parser}
 use Rattle.land_commands.specs.Words.PlainCommands.{to_digest}
 use Rattle.land_commands.specs.declared.words.choices.Choices.{Choices}
+use Rattle.land_core.specs.Numbers.{last_millisecond}
 
 -- ---- the walk
 
@@ -106,7 +107,7 @@ module _ (choices : Choices) (program : Text) (x : ℕ) (xs : Text) (sign : (x =
         );
       }
 
-  up_to : (y : ℕ) (ys : Text) (at : ℕ) → IsRead (y ∷ ys) 0 4102444799999 at
+  up_to : (y : ℕ) (ys : Text) (at : ℕ) → IsRead (y ∷ ys) 0 last_millisecond at
       → NamesBy choices (program ∷ codes "digest" ∷ codes "--file" ∷ (x ∷ xs) ∷ codes "--at" ∷ (y ∷ ys) ∷ []) (to_digest (x ∷ xs) (Some (pos at)))
   up_to y ys at at_read =
       let at_sign = no_hyphen y at_read.0 in
@@ -124,10 +125,10 @@ module _ (choices : Choices) (program : Text) (x : ℕ) (xs : Text) (sign : (x =
         );
       }
 
-  up_to_any : (at_digits : Text) (at : ℕ) → IsNumeralIn at_digits 0 4102444799999 at
+  up_to_any : (at_digits : Text) (at : ℕ) → IsNumeralIn at_digits 0 last_millisecond at
       → NamesBy choices (program ∷ codes "digest" ∷ codes "--file" ∷ (x ∷ xs) ∷ codes "--at" ∷ at_digits ∷ []) (to_digest (x ∷ xs) (Some (pos at)))
   up_to_any [] at written = absurd (omega arith)
-  up_to_any (y ∷ ys) at written = up_to y ys at (numeral_reads (y ∷ ys) 0 4102444799999 at (omega arith) written)
+  up_to_any (y ∷ ys) at written = up_to y ys at (numeral_reads (y ∷ ys) 0 last_millisecond at (omega arith) written)
 
 pub plain_digest : PlainDigestLaw
 plain_digest choices program [] plain = absurd plain

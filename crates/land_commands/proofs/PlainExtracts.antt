@@ -21,6 +21,7 @@ use Rattle.land_commands.specs.Words.Names.{NamesBy}
 use Rattle.land_commands.specs.Words.Options.{moment_parser, party_parser}
 use Rattle.land_commands.specs.Words.PlainCommands.{to_extract}
 use Rattle.land_commands.specs.declared.words.choices.Choices.{Choices}
+use Rattle.land_core.specs.Numbers.{last_millisecond}
 use Rattle.land_core.specs.declared.kind.Kind.{Kind}
 use Rattle.land_core.specs.declared.kind.Kind.TheVariants as kind
 use Rattle.land_core.specs.declared.role.Role.{Role}
@@ -244,7 +245,7 @@ module _ (choices : Choices) where
       (answer_on (codes "kind") kind_answers _ kind _ _ taken.kind_plain rest)))))))))
 
   module _ (program file clock_digits party_digits : Text) (clock party : ℕ) (role : Role) (kind : Kind)
-      (taken : AreTaken file clock_digits party_digits (role_word role) (kind_word kind)) (clock_read : IsRead clock_digits 0 4102444799999 clock)
+      (taken : AreTaken file clock_digits party_digits (role_word role) (kind_word kind)) (clock_read : IsRead clock_digits 0 last_millisecond clock)
       (party_read : IsRead party_digits 1 1000000000 party) where
     at_clock : NamesBy choices (program ∷ codes "extract" ∷ extract_words file clock_digits party_digits role kind)
         (to_extract file (pos clock) party role kind None)
@@ -269,7 +270,7 @@ module _ (choices : Choices) where
           );
         }
 
-    at_moment : (at_digits : Text) (at : ℕ) → IsRead at_digits 0 4102444799999 at → accepts false moment_parser at_digits ≡ true
+    at_moment : (at_digits : Text) (at : ℕ) → IsRead at_digits 0 last_millisecond at → accepts false moment_parser at_digits ≡ true
         → NamesBy choices (program ∷ codes "extract" ∷ (extract_words file clock_digits party_digits role kind ++ codes "--at" ∷ at_digits ∷ []))
         (to_extract file (pos clock) party role kind (Some (pos at)))
     at_moment at_digits at at_read at_passes =
@@ -299,7 +300,7 @@ module _ (choices : Choices) where
 
 pub plain_extract : PlainExtractLaw
 plain_extract choices program file clock_digits party_digits clock party role kind spelled plain clock_written party_written =
-    let clock_read = numeral_reads clock_digits 0 4102444799999 clock (omega arith) clock_written in
+    let clock_read = numeral_reads clock_digits 0 last_millisecond clock (omega arith) clock_written in
     let party_read = numeral_reads party_digits 1 1000000000 party (omega arith) party_written in
     let taken : AreTaken choices file clock_digits party_digits (role_word role) (kind_word kind) = record {
       file_plain = plain;
@@ -314,7 +315,7 @@ plain_extract choices program file clock_digits party_digits clock party role ki
     } in (
       at_clock choices program file clock_digits party_digits clock party role kind taken clock_read party_read,
       λ at_digits at at_written.
-          let at_read = numeral_reads at_digits 0 4102444799999 at (omega arith) at_written in
+          let at_read = numeral_reads at_digits 0 last_millisecond at (omega arith) at_written in
           at_moment choices program file clock_digits party_digits clock party role kind taken clock_read party_read at_digits at at_read
           (Accepts-accepts false moment_parser at_digits at_read.1),
     )

@@ -23,6 +23,7 @@ use Rattle.land_commands.specs.Words.Names.{NamesBy}
 use Rattle.land_commands.specs.Words.Options.{count_parser, limit_parser, moment_parser, port_parser}
 use Rattle.land_commands.specs.Words.PlainCommands.{to_talk, to_make, to_serve, to_check, to_migrate}
 use Rattle.land_commands.specs.declared.words.choices.Choices.{Choices}
+use Rattle.land_core.specs.Numbers.{last_millisecond}
 
 pub none_of_both : (a b : Kinds) → a ≡ [] → b ≡ [] → or_else a b ≡ []
 none_of_both [] b e f = f
@@ -190,11 +191,11 @@ talk_rows_below : (choices : Choices) (program digits : Text) → subcommand_of 
 unfolding clap_on_literals
 talk_rows_below choices program digits = refl
 
-pub plain_talk : (choices : Choices) (program digits : Text) (moment : ℕ) → IsNumeralIn digits 0 4102444799999 moment
+pub plain_talk : (choices : Choices) (program digits : Text) (moment : ℕ) → IsNumeralIn digits 0 last_millisecond moment
     → NamesBy choices (program ∷ codes "talk" ∷ codes "--clock" ∷ digits ∷ []) (to_talk (pos moment))
 plain_talk choices program [] moment writes = absurd (omega arith)
 plain_talk choices program (x ∷ xs) moment writes =
-    let read = numeral_reads (x ∷ xs) 0 4102444799999 moment (omega arith) writes in
+    let read = numeral_reads (x ∷ xs) 0 last_millisecond moment (omega arith) writes in
     let leads = talk_leads x xs (no_hyphen x read.0) in
     let ends = talk_ends (x ∷ xs) (Accepts-accepts false moment_parser (x ∷ xs) read.1) in
     record {

@@ -8,6 +8,7 @@ use Rattle.land_core.proofs.FiniteMaps.{none_is_not_some}
 use Rattle.land_core.specs.Entries.{has}
 use Rattle.land_core.specs.Laws.{IsSoundByNumber, SoundnessByNumber}
 use Rattle.land_core.specs.Members.{Members}
+use Rattle.land_core.specs.Numbers.{last_next}
 use Rattle.land_core.specs.Register.{has_group, has_single_party, is_member, empty_register}
 use Rattle.land_core.specs.declared.party.PartyRecord.{PartyRecord}
 use Rattle.land_core.specs.declared.register.Register.{Register}
@@ -76,7 +77,7 @@ refers look_ups r (inl sound) = sound_refers r ((look_ups r).0 sound)
 refers look_ups r (inr none) = subst Refers (sym none) nothing_refers
 
 -- no party has a number out of range
-apart : (n next : ℕ) → IsNeverParty n → 0 < n → n < next → next ≤ 1000000001 → ⊥
+apart : (n next : ℕ) → IsNeverParty n → 0 < n → n < next → next ≤ last_next → ⊥
 apart n next (inl zero) positive below room = omega (arith, zero)
 apart n next (inr past) positive below room = omega (arith, past)
 

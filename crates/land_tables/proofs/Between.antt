@@ -13,7 +13,7 @@ use Rattle.land_tables.proofs.One.{found_at, none_later}
 use Rattle.land_tables.specs.Timelines.{version_of}
 use Rattle.land_tables_history.proofs.MomentOrder.{le_from, le_itself, lt_is_le, lt_through}
 use Rattle.land_tables_history.specs.Intervals.{is_interval, is_stamp}
-use Rattle.land_tables_history.specs.Open.{has_ended}
+use Rattle.land_tables_history.specs.Open.{has_ended, never}
 use Rattle.land_tables_history.specs.Standing.{current_values, is_current}
 use Rattle.land_tables_history.specs.declared.history.History.{History}
 use Rattle.land_tables_history.specs.declared.moment.Moment.{Moment}
@@ -124,14 +124,14 @@ none_after versions m (n ∷ ns) rises u is =
 -- the parts of a lifespan
 record Spans {X : Type 0} (moments : List Moment) (v : Version X) : Type 0 where
   begins : is_stamp moments v.since ≡ true
-  ends : (int_eq v.until (pos 4102444800000) || is_stamp moments v.until) ≡ true
+  ends : (int_eq v.until never || is_stamp moments v.until) ≡ true
 
 spans : {X : Type 0} (moments : List Moment) (v : Version X) → is_interval moments v ≡ true → Spans moments v
 spans moments v h =
-    let parts = and_parts (int_lt v.since v.until && is_stamp moments v.since) (int_eq v.until (pos 4102444800000) || is_stamp moments v.until) h in
+    let parts = and_parts (int_lt v.since v.until && is_stamp moments v.since) (int_eq v.until never || is_stamp moments v.until) h in
     record { begins = (and_parts (int_lt v.since v.until) (is_stamp moments v.since) parts.0).1; ends = parts.1 }
 
-before_never : (t u : ℤ) → t ≤ℤ last_moment → int_eq u (pos 4102444800000) ≡ true → int_lt t u ≡ true
+before_never : (t u : ℤ) → t ≤ℤ last_moment → int_eq u never ≡ true → int_lt t u ≡ true
 before_never t u most is = grind (arith, ints)
 
 other_way : (t u : ℤ) → int_lt t u ≡ not (int_le u t)
@@ -143,11 +143,11 @@ most_too s t h g = omega (arith, ints)
 stands_alike : {X : Type 0} (moments : List Moment) (s t : ℤ) (v : Version X) → s ≤ℤ t → t ≤ℤ last_moment → ((u : ℤ) → is_stamp moments u ≡ true → int_le u t ≡ int_le u s) → is_interval moments v ≡ true → is_current t v ≡ is_current s v
 stands_alike moments s t v least most same interval =
     let its = spans moments v interval in
-    ap (λ b. b && int_lt t v.until) (same v.since its.begins) ∙ ap (λ b. int_le v.since s && b) (go (int_eq v.until (pos 4102444800000)) refl its.ends)
+    ap (λ b. b && int_lt t v.until) (same v.since its.begins) ∙ ap (λ b. int_le v.since s && b) (go (int_eq v.until never) refl its.ends)
   where
-    go : (a : Bool) → int_eq v.until (pos 4102444800000) ≡ a → (a || is_stamp moments v.until) ≡ true → int_lt t v.until ≡ int_lt s v.until
-    go true never is = before_never t v.until most never ∙ sym (before_never s v.until (most_too s t least most) never)
-    go false never is = other_way t v.until ∙ ap not (same v.until is) ∙ sym (other_way s v.until)
+    go : (a : Bool) → int_eq v.until never ≡ a → (a || is_stamp moments v.until) ≡ true → int_lt t v.until ≡ int_lt s v.until
+    go true unended is = before_never t v.until most unended ∙ sym (before_never s v.until (most_too s t least most) unended)
+    go false unended is = other_way t v.until ∙ ap not (same v.until is) ∙ sym (other_way s v.until)
 
 pub same_standing : {X : Type 0} (moments : List Moment) (s t : ℤ) (vs : List (Version X)) → s ≤ℤ t → t ≤ℤ last_moment → ((u : ℤ) → is_stamp moments u ≡ true → int_le u t ≡ int_le u s)
     → list_all (is_interval moments) vs ≡ true → current_values t vs ≡ current_values s vs
@@ -174,7 +174,7 @@ pub all_ended : {X : Type 0} (moments : List Moment) (last : ℤ) (vs : List (Ve
 all_ended moments last [] past intervals = refl
 all_ended moments last (v ∷ vs) past intervals =
     let parts = and_parts (is_interval moments v) (list_all (is_interval moments) vs) intervals in
-    ap (λ b. b && list_all (has_ended last) vs) (go (int_eq v.until (pos 4102444800000)) (spans moments v parts.0).ends) ∙ all_ended moments last vs past parts.1
+    ap (λ b. b && list_all (has_ended last) vs) (go (int_eq v.until never) (spans moments v parts.0).ends) ∙ all_ended moments last vs past parts.1
   where
     go : (a : Bool) → (a || is_stamp moments v.until) ≡ true → (a || int_le v.until last) ≡ true
     go true is = refl

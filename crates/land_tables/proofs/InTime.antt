@@ -6,6 +6,7 @@ use Rattle.std.specs.List.{list_all}
 use Rattle.std.proofs.lemmas.Bool.{and_parts}
 use Rattle.land_core.specs.Numbers.{last_moment}
 use Rattle.land_tables_history.specs.Moments.{follows, last, latest_from}
+use Rattle.land_tables_history.specs.Open.{never}
 use Rattle.land_tables_history.specs.declared.moment.Moment.{Moment}
 use Rattle.land_tables_validity.specs.CoverageSpans.{are_in_range}
 
@@ -49,7 +50,7 @@ none_after : (latest : Moment) (ms : List Moment) → last ms ≡ Some latest �
 none_after latest [] is = refl
 none_after latest (m ∷ ms) is = none_later m latest ms is
 
-before_the_end : (s t : ℤ) → int_le s t ≡ true → t ≤ℤ last_moment → int_lt s (pos 4102444800000) ≡ true
+before_the_end : (s t : ℤ) → int_le s t ≡ true → t ≤ℤ last_moment → int_lt s never ≡ true
 before_the_end s t p q = grind (arith, ints)
 
 all_before : (t : ℤ) → t ≤ℤ last_moment → (ms : List Moment) → are_upto t ms ≡ true → are_in_range ms ≡ true

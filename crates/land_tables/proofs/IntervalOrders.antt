@@ -9,6 +9,7 @@ use Rattle.land_tables_history.proofs.Distinct.{distinct_permuted}
 use Rattle.land_tables_history.proofs.Keys.{grants_flip, mandates_flip, members_flip, namings_flip, numbers_flip, overlap_flips}
 use Rattle.land_tables_history.proofs.Permutations.{all_permuted, any_permuted}
 use Rattle.land_tables_history.specs.Intervals.{are_intervals, is_interval, is_same_grant, is_same_mandate, is_same_member, is_same_naming, is_same_number, overlap}
+use Rattle.land_tables_history.specs.Open.{never}
 use Rattle.land_tables_history.specs.declared.moment.Moment.{Moment}
 use Rattle.land_tables_history.specs.declared.version.Version.{Version}
 
@@ -21,7 +22,7 @@ all_alike p q same (x ∷ xs) = ap₂ (λ a b. a && b) (same x) (all_alike p q s
 
 interval_too : {X : Type 0} (moments others : List Moment) → IsPermutation moments others → (v : Version X) → is_interval others v ≡ is_interval moments v
 interval_too moments others p v =
-    ap₂ (λ a b. int_lt v.since v.until && a && (int_eq v.until (pos 4102444800000) || b))
+    ap₂ (λ a b. int_lt v.since v.until && a && (int_eq v.until never || b))
     (any_permuted (λ m. int_eq m.stamp v.since) moments others p) (any_permuted (λ m. int_eq m.stamp v.until) moments others p)
 
 intervals_too : {X : Type 0} (same : X → X → Bool) → ((x y : X) → same x y ≡ same y x) → (moments others : List Moment) → IsPermutation moments others → (one other : List (Version X)) → IsPermutation one other

@@ -12,6 +12,7 @@ use Rattle.std.specs.declared.cmp.Ordering.TheVariants.{Less, Equal, Greater}
 use Rattle.land_core.proofs.Booleans.{or_true}
 use Rattle.land_tables_history.proofs.Permutations.{any_permuted}
 use Rattle.land_tables_history.specs.Intervals.{is_stamp_among, is_interval, is_interval_of, is_stamp}
+use Rattle.land_tables_history.specs.Open.{never}
 use Rattle.land_tables_history.specs.declared.moment.Moment.{Moment}
 use Rattle.land_tables_history.specs.declared.version.Version.{Version}
 
@@ -56,4 +57,4 @@ same_stamps moments stamps p t = any_permuted (λ s. int_eq s t) (map_list (λ (
 
 pub same_interval : {X : Type 0} (moments : List Moment) (stamps : List ℤ) → IsPermutation (map_list (λ m. m.stamp) moments) stamps → (v : Version X) → is_interval_of stamps v ≡ is_interval moments v
 same_interval moments stamps p v =
-    ap₂ (λ a b. int_lt v.since v.until && a && (int_eq v.until (pos 4102444800000) || b)) (same_stamps moments stamps p v.since) (same_stamps moments stamps p v.until)
+    ap₂ (λ a b. int_lt v.since v.until && a && (int_eq v.until never || b)) (same_stamps moments stamps p v.since) (same_stamps moments stamps p v.until)

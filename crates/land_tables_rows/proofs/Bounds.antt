@@ -1,7 +1,7 @@
 -- Lemmas about successful decoding and about moments.
 use Rattle.std.proofs.Common.{◌≡◌, ◌&&◌, ◌≤ℤ◌, ℤ, pos, Bool, true, false, int_le, if◌then◌else◌, Ok, Err, Result, refl, arith}
 use Rattle.std.proofs.lemmas.Int.{ints}
-use Rattle.land_core.specs.Numbers.{IsMoment}
+use Rattle.land_core.specs.Numbers.{IsMoment, last_moment}
 use Rattle.land_tables_history.specs.Open.{never}
 use Rattle.land_tables_rows.specs.Reading.Cells.{end_in, moment_in}
 use Rattle.land_wire_json.specs.Bodies.WireFaults.{◌>>=◌}
@@ -28,12 +28,12 @@ in_bounds most z low high = grind (arith, ints)
 -- a moment decodes to itself
 pub moment_reads : (z : ℤ) → IsMoment z → moment_in (Int z) ≡ Ok z
 unfolding moment_in
-moment_reads z is = test_passes (int_le (pos 0) z && int_le z (pos 4102444799999)) z fault.Number (in_bounds (pos 4102444799999) z is.0 is.1)
+moment_reads z is = test_passes (int_le (pos 0) z && int_le z last_moment) z fault.Number (in_bounds last_moment z is.0 is.1)
 
 -- and so does a moment as the end of a lifespan
 pub until_says : (z : ℤ) → IsMoment z → end_in (Int z) ≡ Ok z
 unfolding end_in
-until_says z is = test_passes (int_le (pos 0) z && int_le z (pos 4102444800000)) z fault.Number (in_bounds (pos 4102444800000) z is.0 (grind (arith, ints)))
+until_says z is = test_passes (int_le (pos 0) z && int_le z never) z fault.Number (in_bounds never z is.0 (grind (arith, ints)))
 
 -- the open end decodes to itself
 pub end_reads : end_in (Int never) ≡ Ok never
@@ -47,11 +47,11 @@ same_most z s false h = absurd (let k = h in cc)
 
 pub same_moment : (z s : ℤ) → moment_in (Int z) ≡ Ok s → z ≡ s
 unfolding moment_in
-same_moment z s h = same_most z s (int_le (pos 0) z && int_le z (pos 4102444799999)) h
+same_moment z s h = same_most z s (int_le (pos 0) z && int_le z last_moment) h
 
 pub same_end : (z s : ℤ) → end_in (Int z) ≡ Ok s → z ≡ s
 unfolding end_in
-same_end z s h = same_most z s (int_le (pos 0) z && int_le z (pos 4102444800000)) h
+same_end z s h = same_most z s (int_le (pos 0) z && int_le z never) h
 
 -- the continuation of two successful decoding steps
 pub two : {A B X Y : Type 0} (a : Result A WireFault) (b : Result B WireFault) (f : A → B → X) (next : X → Result Y WireFault)

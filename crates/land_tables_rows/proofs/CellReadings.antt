@@ -139,11 +139,11 @@ until_is most c z e =
 
 pub moment_is : (c : Value) (z : ℤ) → moment_in c ≡ Ok z → c ≡ Int z
 unfolding moment_in
-moment_is c z e = until_is (pos 4102444799999) c z e
+moment_is c z e = until_is last_moment c z e
 
 pub end_is : (c : Value) (z : ℤ) → end_in c ≡ Ok z → c ≡ Int z
 unfolding end_in
-end_is c z e = until_is (pos 4102444800000) c z e
+end_is c z e = until_is never c z e
 
 -- ---- a decoded number or end is the integer in its cell
 

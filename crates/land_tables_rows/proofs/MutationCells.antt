@@ -2,7 +2,7 @@
 use Rattle.std.proofs.Common.{◌≡◌, ◌&&◌, ◌==◌, ℕ, ℤ, pos, int_le, List, [], ◌∷◌, Ok, refl, ap, ◌∙◌}
 use Rattle.std.proofs.lemmas.Bool.{and_parts}
 use Rattle.land_core.specs.Contents.{is_well_formed_content}
-use Rattle.land_core.specs.Numbers.{is_number}
+use Rattle.land_core.specs.Numbers.{is_number, last_moment}
 use Rattle.land_core.specs.Texts.{is_reference}
 use Rattle.land_core.specs.Words.{content_word, state_word}
 use Rattle.land_core.specs.declared.mutation.MutationRecord.{MutationRecord}
@@ -95,7 +95,7 @@ mutations_read_back contents e since fits exact moment =
     let r = and_parts (is_storable is_reference e.1.reference) (is_number e.1.source && (is_moment e.1.lodged && kept)) q.1 in
     let s = and_parts (is_number e.1.source) (is_moment e.1.lodged && kept) r.1 in
     let l = and_parts (is_moment e.1.lodged) kept s.1 in
-    let m = and_parts (int_le (pos 0) e.1.lodged) (int_le e.1.lodged (pos 4102444799999)) l.0 in
+    let m = and_parts (int_le (pos 0) e.1.lodged) (int_le e.1.lodged last_moment) l.0 in
     let c = and_parts (is_content_kept e.1.content) (is_well_formed_content e.1.content) l.1 in
     from_cells (whole e.0) (whole e.1.lodger) (Text e.1.reference) (whole e.1.source) (Int e.1.lodged) (Text (content_word e.1.content)) (Text (content_text e.1.content)) (Text (state_word e.1.state))
     (Int since) (Int never) (record { what = e; since = since; until = never })

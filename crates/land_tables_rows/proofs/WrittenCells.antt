@@ -3,9 +3,10 @@ use Rattle.std.proofs.Common.{◌≡◌, ◌<◌, ◌^◌, nat_eq, ◌==◌, ℕ
 use Rattle.std.proofs.lemmas.Bool.Decides.{Decides-eqb, nat_tests}
 use Rattle.std.proofs.lemmas.Str.{is_utf8-from_IsUtf8}
 use Rattle.std.specs.Str.{IsUtf8, is_utf8}
-use Rattle.land_core.specs.Numbers.{is_number}
+use Rattle.land_core.specs.Numbers.{is_number, last_moment}
 use Rattle.land_fraction.proofs.Fractions.{the_answer}
 use Rattle.land_fraction.specs.Ratio.{IsFraction, Ratio}
+use Rattle.land_tables_history.specs.Open.{never}
 use Rattle.land_tables_rows.proofs.Bounds.{bound, same_ok, test_passes}
 use Rattle.land_tables_rows.specs.Reading.Cells.{number_if, end_in, flag_in, flag_of, integer_in, is_next, moment_in, natural_in, natural_of, next_in, number_in, share_in, text_in, until_most}
 use Rattle.land_tables_schema.specs.Rows.Versions.{flag, whole}
@@ -69,13 +70,13 @@ most_is y z false h = absurd (let k = h in cc)
 pub moment_cell : (cell : Value) (z : ℤ) → moment_in cell ≡ Ok z → cell ≡ Int z
 unfolding moment_in
 moment_cell cell z h =
-    let one = bound (integer_in cell) (until_most (pos 4102444799999)) z h in
+    let one = bound (integer_in cell) (until_most last_moment) z h in
     integer_cell cell one.0 one.1 ∙ ap (λ y. Int y) (most_is one.0 z _ one.2)
 
 pub end_cell : (cell : Value) (z : ℤ) → end_in cell ≡ Ok z → cell ≡ Int z
 unfolding end_in
 end_cell cell z h =
-    let one = bound (integer_in cell) (until_most (pos 4102444800000)) z h in
+    let one = bound (integer_in cell) (until_most never) z h in
     integer_cell cell one.0 one.1 ∙ ap (λ y. Int y) (most_is one.0 z _ one.2)
 
 text_is : (t s : List ℕ) (b : Bool) → ◌≡◌ {A = Result (List ℕ) WireFault} (if b then Ok t else Err fault.Text) (Ok s) → t ≡ s

@@ -8,6 +8,7 @@ use Rattle.std.specs.List.{AllByRecursion}
 use Rattle.std.specs.Ordering.{int_eq}
 use Rattle.land_tables_history.proofs.MomentOrder.{le_itself, le_through}
 use Rattle.land_tables_history.specs.Intervals.{is_interval, is_stamp}
+use Rattle.land_tables_history.specs.Open.{never}
 use Rattle.land_tables_history.specs.Standing.{is_current}
 use Rattle.land_tables_history.specs.declared.moment.Moment.{Moment}
 use Rattle.land_tables_history.specs.declared.version.Version.{Version}
@@ -74,14 +75,14 @@ module _ (t : ℤ) where
   not_too : (u s : ℤ) → int_eq s u ≡ true → (s ≤ℤ t → ⊥) → u ≤ℤ t → ⊥
   not_too u s e p = subst (λ (n : ℤ). n ≤ℤ t → ⊥) ((Decides-int_eq s u).0 e) p
 
-  early_too : (u s : ℤ) → int_eq s u ≡ true → int_lt s (pos 4102444800000) ≡ true → int_lt u (pos 4102444800000) ≡ true
+  early_too : (u s : ℤ) → int_eq s u ≡ true → int_lt s never ≡ true → int_lt u never ≡ true
   early_too u s e p = grind (arith, ints)
 
-  early : (ms : List Moment) → are_in_range ms ≡ true → AllByRecursion (λ m. int_lt m.stamp (pos 4102444800000) ≡ true) ms
+  early : (ms : List Moment) → are_in_range ms ≡ true → AllByRecursion (λ m. int_lt m.stamp never ≡ true) ms
   early [] h = tt
-  early (m ∷ ms) h = let parts = and_parts (int_lt m.stamp (pos 4102444800000)) (are_in_range ms) h in (parts.0, early ms parts.1)
+  early (m ∷ ms) h = let parts = and_parts (int_lt m.stamp never) (are_in_range ms) h in (parts.0, early ms parts.1)
 
-  gone_at_the_end : (since until : ℤ) → int_lt t (pos 4102444800000) ≡ false → (int_eq until (pos 4102444800000) ≡ true) ⊎ (int_lt until (pos 4102444800000) ≡ true) → (int_le since t && int_lt t until) ≡ false
+  gone_at_the_end : (since until : ℤ) → int_lt t never ≡ false → (int_eq until never ≡ true) ⊎ (int_lt until never ≡ true) → (int_le since t && int_lt t until) ≡ false
   gone_at_the_end since until late (inl e) = grind (arith, ints)
   gone_at_the_end since until late (inr e) = grind (arith, ints)
 
@@ -92,7 +93,7 @@ module _ (t : ℤ) where
       go false e = refl
       go true e = absurd (none (omega (arith, ints, e)))
 
-  same_life : (best since until : ℤ) → int_lt t (pos 4102444800000) ≡ true → best ≤ℤ t → (since ≤ℤ t → since ≤ℤ best) → (int_eq until (pos 4102444800000) ≡ true) ⊎ (until ≤ℤ t → until ≤ℤ best)
+  same_life : (best since until : ℤ) → int_lt t never ≡ true → best ≤ℤ t → (since ≤ℤ t → since ≤ℤ best) → (int_eq until never ≡ true) ⊎ (until ≤ℤ t → until ≤ℤ best)
       → (int_le since t && int_lt t until) ≡ (int_le since best && int_lt best until)
   same_life best since until soon p s (inl e) = grind (arith, ints)
   same_life best since until soon p s (inr e) = grind (arith, ints)
@@ -109,28 +110,28 @@ pub record Empty (moments : List Moment) (t : ℤ) : Type 1 where
 -- an interval starts at a stamp, and ends at one or never
 pub record Ends (moments : List Moment) (since until : ℤ) : Type 0 where
   pub begins : is_stamp moments since ≡ true
-  pub ends : (int_eq until (pos 4102444800000) ≡ true) ⊎ (is_stamp moments until ≡ true)
+  pub ends : (int_eq until never ≡ true) ⊎ (is_stamp moments until ≡ true)
 
 pub ends_of : {X : Type 0} (moments : List Moment) (v : Version X) → is_interval moments v ≡ true → Ends moments v.since v.until
-ends_of moments v h = go (int_lt v.since v.until) (is_stamp moments v.since) (int_eq v.until (pos 4102444800000)) refl refl h
+ends_of moments v h = go (int_lt v.since v.until) (is_stamp moments v.since) (int_eq v.until never) refl refl h
   where
-    go : (a b c : Bool) → is_stamp moments v.since ≡ b → int_eq v.until (pos 4102444800000) ≡ c → (a && b && (c || is_stamp moments v.until)) ≡ true → Ends moments v.since v.until
+    go : (a b c : Bool) → is_stamp moments v.since ≡ b → int_eq v.until never ≡ c → (a && b && (c || is_stamp moments v.until)) ≡ true → Ends moments v.since v.until
     go true true true e f h = record { begins = e; ends = inl f }
     go true true false e f h = record { begins = e; ends = inr h }
     go true false c e f h = absurd (false≢true h)
     go false b c e f h = absurd (false≢true h)
 
 pub matched : (moments : List Moment) (t : ℤ) → are_in_range moments ≡ true → Matched moments t ⊎ Empty moments t
-matched moments t in_time = go (int_lt t (pos 4102444800000)) refl
+matched moments t in_time = go (int_lt t never) refl
   where
-    within : (u : ℤ) → is_stamp moments u ≡ true → int_lt u (pos 4102444800000) ≡ true
-    within u is = at_stamp t (λ s. int_lt s (pos 4102444800000) ≡ true) u (early_too t u) moments is (early t moments in_time)
+    within : (u : ℤ) → is_stamp moments u ≡ true → int_lt u never ≡ true
+    within u is = at_stamp t (λ s. int_lt s never ≡ true) u (early_too t u) moments is (early t moments in_time)
 
-    ended : {X : Type 0} → int_lt t (pos 4102444800000) ≡ false → (v : Version X) → is_interval moments v ≡ true → is_current t v ≡ false
+    ended : {X : Type 0} → int_lt t never ≡ false → (v : Version X) → is_interval moments v ≡ true → is_current t v ≡ false
     ended late v h = let it = ends_of moments v h in
         elim it.ends [ inl e ↦ gone_at_the_end t v.since v.until late (inl e) | inr e ↦ gone_at_the_end t v.since v.until late (inr (within v.until e)) ]
 
-    by_latest : int_lt t (pos 4102444800000) ≡ true → Latest moments t ⊎ NoneYet moments t → Matched moments t ⊎ Empty moments t
+    by_latest : int_lt t never ≡ true → Latest moments t ⊎ NoneYet moments t → Matched moments t ⊎ Empty moments t
     by_latest soon (inr n) = inr (record { none = λ v h. not_begun t v.since v.until (at_stamp t (λ s. s ≤ℤ t → ⊥) v.since (not_too t v.since) moments (ends_of moments v h).begins n) })
     by_latest soon (inl l) = inl (record {
       moment = l.moment;
@@ -142,6 +143,6 @@ matched moments t in_time = go (int_lt t (pos 4102444800000)) refl
           (elim it.ends [ inl e ↦ inl e | inr e ↦ inr (upto_best v.until e) ]);
     })
 
-    go : (b : Bool) → int_lt t (pos 4102444800000) ≡ b → Matched moments t ⊎ Empty moments t
+    go : (b : Bool) → int_lt t never ≡ b → Matched moments t ⊎ Empty moments t
     go false late = inr (record { none = λ v h. ended late v h })
     go true soon = by_latest soon (latest t moments)

@@ -10,6 +10,7 @@ use Rattle.std.specs.FinMap as map
 use Rattle.std.specs.List.{AllByRecursion, list_all, list_any}
 use Rattle.std.specs.List.Sorted.{IsSorted}
 use Rattle.std.specs.Ordering.{int_eq}
+use Rattle.land_core.specs.Numbers.{last_next}
 use Rattle.land_core.specs.Soundness.{has_rank_out_of_range, has_unused_number, is_rank_out_of_range, exceeds_last_number}
 use Rattle.land_core.specs.Units.{rank_of}
 use Rattle.land_core.specs.declared.register.Register.{Register}
@@ -18,6 +19,7 @@ use Rattle.land_tables_history.proofs.Permutations.{any_permuted}
 use Rattle.land_tables_history.proofs.Proper.{Proper, all_proper}
 use Rattle.land_tables_history.specs.History.{register_of_history}
 use Rattle.land_tables_history.specs.Intervals.{has_intervals, is_interval, is_same_number, is_stamp}
+use Rattle.land_tables_history.specs.Open.{never}
 use Rattle.land_tables_history.specs.ValidHistory.{are_moments}
 use Rattle.land_tables_history.specs.Standing.{part_at, is_current}
 use Rattle.land_tables_history.specs.declared.history.History.{History}
@@ -210,7 +212,7 @@ intervals_too : {X : Type 0} (moments ms : List Moment) → IsPermutation moment
     → list_all (is_interval moments) vs ≡ true → list_all (is_interval ms) vs ≡ true
 intervals_too moments ms p vs intervals =
     all_alike (is_interval ms) (is_interval moments)
-    (λ v. ap₂ (λ a b. int_lt v.since v.until && a && (int_eq v.until (pos 4102444800000) || b))
+    (λ v. ap₂ (λ a b. int_lt v.since v.until && a && (int_eq v.until never || b))
     (any_permuted (λ m. int_eq m.stamp v.since) moments ms p) (any_permuted (λ m. int_eq m.stamp v.until) moments ms p)) vs
     ∙ intervals
 
@@ -246,8 +248,8 @@ module _ (moments ms : List Moment) (p : IsPermutation moments ms) (up : all_go_
         (λ h. same.1 (law.0 h), λ h. law.1 (same.0 h))
 
     -- at none of the sorted commits, and so at no commit
-    never : (fault : Register → Bool) → None_of (λ m. fault (register_of_history m.stamp h m.next)) ms ↔ Never fault moments h
-    never fault = (
+    never_at : (fault : Register → Bool) → None_of (λ m. fault (register_of_history m.stamp h m.next)) ms ↔ Never fault moments h
+    never_at fault = (
       λ none. All-permutation (λ m. fault (register_of_history m.stamp h m.next) ≡ false) ms moments (IsPermutation-sym moments ms p)
           (All-from_recursion (λ m. fault (register_of_history m.stamp h m.next) ≡ false) ms none),
       λ all. recursion_from_All (λ m. fault (register_of_history m.stamp h m.next) ≡ false) ms
@@ -285,21 +287,21 @@ module _ (moments ms : List Moment) (p : IsPermutation moments ms) (up : all_go_
         → (are_all_in_range ms h ≡ true)
         ↔ (Never exceeds_last_number moments h × Never has_unused_number moments h × Never has_rank_out_of_range moments h)
     three intervals =
-        let past = none_left (λ m. nat_lt 1000000001 m.next) ms in
+        let past = none_left (λ m. nat_lt last_next m.next) ms in
         let unused = all_numbers intervals in
         let rank = ranks (all_proper moments h intervals).rrrs in (
           λ e.
               let last = and_parts (are_numbers_left ms && parts_used) ranks_used (sym in_parts ∙ e) in
               let first = and_parts (are_numbers_left ms) parts_used last.0 in (
-                (never exceeds_last_number).0 (past.0 first.0),
-                (never has_unused_number).0 (unused.0 first.1),
-                (never has_rank_out_of_range).0 (rank.0 last.1),
+                (never_at exceeds_last_number).0 (past.0 first.0),
+                (never_at has_unused_number).0 (unused.0 first.1),
+                (never_at has_rank_out_of_range).0 (rank.0 last.1),
               ),
           λ all.
               in_parts ∙ and_from (are_numbers_left ms && parts_used) ranks_used
-              (and_from (are_numbers_left ms) parts_used (past.1 ((never exceeds_last_number).1 all.0))
-              (unused.1 ((never has_unused_number).1 all.1)))
-              (rank.1 ((never has_rank_out_of_range).1 all.2)),
+              (and_from (are_numbers_left ms) parts_used (past.1 ((never_at exceeds_last_number).1 all.0))
+              (unused.1 ((never_at has_unused_number).1 all.1)))
+              (rank.1 ((never_at has_rank_out_of_range).1 all.2)),
         )
 
 -- numbers are in range at all commits if they are, by the sorted commits, when their versions start

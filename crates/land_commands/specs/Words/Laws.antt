@@ -8,6 +8,7 @@ use Rattle.land_commands.specs.Words.Names.{NamesBy}
 use Rattle.land_commands.specs.Words.PlainCommands.{PlainCommand, to_talk, to_make, to_serve, to_check}
 use Rattle.land_commands.specs.Words.PlainCommands.{to_migrate, to_extract, to_digest}
 use Rattle.land_commands.specs.declared.words.choices.Choices.{Choices}
+use Rattle.land_core.specs.Numbers.{last_millisecond}
 use Rattle.land_core.specs.declared.kind.Kind.{Kind}
 use Rattle.land_core.specs.declared.role.Role.{Role}
 
@@ -18,7 +19,7 @@ IsNumeralIn digits least most number =
 
 -- Decimal digits of a moment, in Unix milliseconds.
 abbrev pub IsMomentNumeral : (digits : Text) (moment : ℕ) → Type 0
-IsMomentNumeral digits moment = IsNumeralIn digits 0 4102444799999 moment
+IsMomentNumeral digits moment = IsNumeralIn digits 0 last_millisecond moment
 
 -- A value of an option is not empty and does not start with a hyphen.
 abbrev pub IsPlainText : Text → Type 0

@@ -1,5 +1,5 @@
 //! The cells in which entries of units are written (LA_RRR).
-ghost use Rattle.std.specs.Prelude.{◌≡◌, true};
+ghost use Rattle.std.specs.Prelude.{◌≡◌, Some, true};
 ghost use Rattle.land_tables_rows.specs.Rrr.Cells.{IsExactClass, IsExactRrr, fits_class, fits_rrr};
 ghost use Rattle.land_tables_rows.specs.Rrr.Cells.{rrr_row_of};
 ghost use Rattle.land_tables_schema.specs.Rows.Rrr.{FitsRrr, rrr_of};
@@ -13,6 +13,17 @@ use land_tables_schema::rows::tables::rrr::RrrCells;
 
 /// The lowest rank that no column can hold.
 const TOO_LOW_A_RANK: u64 = 9_223_372_036_854_775_808;
+
+/// Returns the cells of an entry whose class has only a wording, from those without a class.
+fn worded_cells<'a>(class: &'static str, words: &'a str, blank: RrrCells<'a>) -> RrrCells<'a>
+    ensures { result ≡ record blank.entry { class = class.entry; words = Some words.entry } }
+{
+    RrrCells {
+        class,
+        words: Some(words),
+        ..blank
+    }
+}
 
 /// Returns the cells of an entry.
 pub fn rrr_cells(number: u64, entry: &RrrRecord) -> RrrCells<'_>
@@ -39,16 +50,8 @@ pub fn rrr_cells(number: u64, entry: &RrrRecord) -> RrrCells<'_>
             den: Some(share.denominator()),
             ..blank
         },
-        Class::Restriction { words } => RrrCells {
-            class: "restriction",
-            words: Some(words.as_str()),
-            ..blank
-        },
-        Class::Responsibility { words } => RrrCells {
-            class: "responsibility",
-            words: Some(words.as_str()),
-            ..blank
-        },
+        Class::Restriction { words } => worded_cells("restriction", words.as_str(), blank),
+        Class::Responsibility { words } => worded_cells("responsibility", words.as_str(), blank),
         Class::Mortgage {
             amount,
             currency,

@@ -1,9 +1,10 @@
 use Rattle.std.proofs.Common.{◌≡◌, ◌≤◌, ◌+◌, ◌++◌, drop}
 use Rattle.land_acts.specs.Mutations.Subdividing.{all_parts, count_for, origin_of, units_made}
 use Rattle.land_acts.proofs.mutations.subdivide.units_made.Given as goal
+use Rattle.land_core.specs.Numbers.{last_next}
 
 -- the units so far, followed by those of the remaining parts, which get the next numbers
 abbrev pub invariant-loop-part : goal.invariant-loop-part
 invariant-loop-part l =
     (l.units ++ units_made (origin_of l.slice 0 l.it) l.number (drop l.part-index l.it.rest) ≡ units_made (origin_of l.slice 0 l.it) l.slice.next (all_parts l.it))
-    × (l.number + count_for (origin_of l.slice 0 l.it) (drop l.part-index l.it.rest) ≤ 1000000001)
+    × (l.number + count_for (origin_of l.slice 0 l.it) (drop l.part-index l.it.rest) ≤ last_next)

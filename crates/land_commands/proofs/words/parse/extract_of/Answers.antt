@@ -3,6 +3,7 @@ use Rattle.clap.specs.Words.{Row, Text}
 use Rattle.land_commands.specs.Words.Names.{HasOptions, IsCallerOption, IsOptionNumber, HasOptionsOf}
 use Rattle.land_commands.specs.Words.PlainCommands.{to_talk, to_make, to_serve, to_check, to_migrate, to_extract, to_digest, order_of}
 use Rattle.land_commands.specs.declared.words.command.Command.{Command}
+use Rattle.land_core.specs.Numbers.{last_moment}
 use Rattle.land_core.specs.declared.caller.Caller.{Caller}
 use Rattle.land_core.specs.declared.kind.Kind.{Kind}
 use Rattle.land_core.specs.declared.role.Role.{Role}
@@ -29,7 +30,7 @@ none_lacking rows lacks (to_migrate file) word has = codes_differ 109 refl (ap f
 none_lacking rows lacks (to_extract file clock party role kind at) word has = lacks file clock party role kind at has
 none_lacking rows lacks (to_digest file at) word has = cc
 
-without_clock : (rows : List Row) (clock : Option ℤ) → IsOptionNumber rows (codes "clock") (pos 0) (pos 4102444799999) clock → clock ≡ None → Lacks rows
+without_clock : (rows : List Row) (clock : Option ℤ) → IsOptionNumber rows (codes "clock") (pos 0) last_moment clock → clock ≡ None → Lacks rows
 without_clock rows None none e file clock party role kind at has = none clock has.1
 without_clock rows (Some reads) some e file clock party role kind at has = cc
 
