@@ -21,15 +21,25 @@ for folder, names in (("land_select_queries/src/joins", SELECTIONS), ("land_tabl
         STATEMENTS.update({f"{file}/{name}": sql for name, sql in sql_of(f"{folder}/{file}.rt").items()})
 
 
-def of_circle(*names):
+def of_circle(*names, time="now"):
     """Statements that are run for each member of a citizen's circle: its principals, then itself (running::run_union_for)."""
-    others = [f"each MANDATES_OF_AGENT {name} MANDATES_OF_AGENT.principal now" for name in names]
-    return ["MANDATES_OF_AGENT $1 now", *others, *(f"{name} $1 now" for name in names)]
+    others = [f"each MANDATES_OF_AGENT {name} MANDATES_OF_AGENT.principal {time}" for name in names]
+    return [f"MANDATES_OF_AGENT $1 {time}", *others, *each(*names, time=time)]
 
 
-def each(*names):
+def each(*names, time="now"):
     """Statements that are run for the caller."""
-    return [f"{name} $1 now" for name in names]
+    return [f"{name} $1 {time}" for name in names]
+
+
+def latest(*names):
+    """The statements of a list for the caller. A list of the present is read at the last moment (known_roles::reading_moment)."""
+    return each(*names, time=LAST)
+
+
+def latest_of_circle(*names):
+    """Those of a list for a citizen's circle."""
+    return of_circle(*names, time=LAST)
 
 
 # Parts of requests, each with the function of land_select, or of its module verdict, that runs it. $1 is the caller, $2 the number in the
@@ -51,12 +61,12 @@ NAMES = ["PARTIES_OF_UNIT $2 now"]                                              
 # object is object::ObjectQuery, a sheet view::UnitViewQuery; lodgers::has_lodged reads a mutation's lodger. A citizen is known to hold no
 # mandate (known_roles::holds_no_mandate), an agent is a citizen that holds one: it looks up its principals at each list.
 READS = {
-    ("citizen", "list own units"): each("holder/UNITS", "group/UNITS"),                       # SightQuery
-    ("citizen", "list visible entries"): each("holder/ENTRIES", "group/ENTRIES"),             # SightQuery
-    ("citizen", "list visible parties"): each(*PARTIES),                                      # SightQuery
-    ("agent", "list own units"): of_circle("holder/UNITS", "group/UNITS"),                    # SightQuery
-    ("agent", "list visible entries"): of_circle("holder/ENTRIES", "group/ENTRIES"),          # SightQuery
-    ("agent", "list visible parties"): of_circle(*PARTIES),                                   # SightQuery
+    ("citizen", "list own units"): latest("holder/UNITS", "group/UNITS"),                     # SightQuery
+    ("citizen", "list visible entries"): latest("holder/ENTRIES", "group/ENTRIES"),           # SightQuery
+    ("citizen", "list visible parties"): latest(*PARTIES),                                    # SightQuery
+    ("agent", "list own units"): latest_of_circle("holder/UNITS", "group/UNITS"),             # SightQuery
+    ("agent", "list visible entries"): latest_of_circle("holder/ENTRIES", "group/ENTRIES"),   # SightQuery
+    ("agent", "list visible parties"): latest_of_circle(*PARTIES),                            # SightQuery
     ("citizen", "view a visible party"): [                                                    # party::is_party_visible, ObjectQuery
         *GROUPS, "VIEWERS_BY_HOLDING $2 now", "PARTY $2 now", "ROLES_OF_PARTY $2 now", "MEMBERS_OF_GROUP $2 now"],
     ("citizen", "view a visible entry"): OWN,                                                 # interest::read_shown_entry
@@ -65,8 +75,8 @@ READS = {
     ("citizen", "view own unit"): [*UNIT, *RECORD],                                           # interest::is_unit_shown, ObjectQuery
     ("citizen", "own title sheet"): [*UNIT, *RECORD, *PARCELS, *NAMES],                       # interest::read_shown_unit, UnitViewQuery
     ("citizen", "denied title sheet"): [*UNIT, *GROUPS],                                      # interest::read_shown_unit
-    ("bank", "list visible units"): ["creditor/UNITS $1 now"],                                # SightQuery
-    ("bank", "list visible entries"): ["creditor/ENTRIES $1 now"],                            # SightQuery
+    ("bank", "list visible units"): latest("creditor/UNITS"),                                 # SightQuery
+    ("bank", "list visible entries"): latest("creditor/ENTRIES"),                             # SightQuery
     ("bank", "view own mortgage"): OWN,                                                       # interest::read_shown_entry
     ("bank", "view a denied entry"): ENTRY,                                                   # interest::read_shown_entry
     ("bank", "title sheet"): [*UNIT, *RECORD, *PARCELS, *NAMES],                              # interest::read_shown_unit, UnitViewQuery
@@ -81,8 +91,8 @@ READS = {
     ("notary", "view an entry"): ["ENTRY $2 now"],                                            # view::read_object
     ("notary", "view a missing entry"): ["ENTRY $2 now"],                                     # view::read_object
     ("notary", "title sheet"): [*RECORD, *PARCELS, "ENTRIES_OF_UNIT $2 now", *NAMES],         # view::read_object, UnitViewQuery
-    ("notary", "list all units"): ["all/UNITS $1 now"],                                       # SightQuery
-    ("citizen", "list all parcels"): ["all/PARCELS $1 now"],                                  # SightQuery, which has no circle for parcels
+    ("notary", "list all units"): latest("all/UNENDED_UNITS"),                                # SightQuery, running::selection_of_all
+    ("citizen", "list all parcels"): latest("all/UNENDED_PARCELS"),                           # the same; a list of parcels has no circle
 }
 
 # The statements that version 0.4.0 ran for the reads of which SPEED.md states a target. It looked up the roles of the caller each time.
@@ -93,6 +103,8 @@ EARLIER = {
     ("citizen", "view own unit"): [*CALLER, *UNIT, *GROUPS, *RECORD],
     ("bank", "view own mortgage"): [*CALLER, *ENTRY],
     ("notary", "view an entry"): [*CALLER, "ENTRY $2 now"],
+    ("notary", "list all units"): [*CALLER, "all/UNITS $1 now"],
+    ("citizen", "list all parcels"): [*CALLER, "all/PARCELS $1 now"],
 }
 
 

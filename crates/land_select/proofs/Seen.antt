@@ -1,7 +1,8 @@
 -- Results of queries on tables are facts of the timeline's registers.
 use Rattle.std.proofs.Common.{◌≡◌, ◌∙◌, ap, refl, sym, Bool, true, false, List, ℕ, Result, Ok, Err, IfOk, arith, subst}
 use Rattle.std.proofs.lemmas.Int.{ints}
-use Rattle.std.specs.Prelude.{ℤ, int_lt}
+use Rattle.std.specs.Int.{int_min}
+use Rattle.std.specs.Prelude.{ℤ, if◌then◌else◌, int_le, int_lt}
 use Rattle.land_core.specs.Laws.{SoundnessByNumber}
 use Rattle.land_core.specs.Numbers.{IsMoment, last_moment}
 use Rattle.land_core.specs.declared.act.Act.{Act}
@@ -12,11 +13,12 @@ use Rattle.land_core.specs.declared.register.Register.{Register}
 use Rattle.land_keep.proofs.Timelines.{last_is_moment, sound_or_nothing}
 use Rattle.land_keep.specs.Keeping.{Closes}
 use Rattle.land_keep.specs.Machine.{asked_moment, verdict_at}
-use Rattle.land_keep.specs.Timeline.{last_register, register_at}
+use Rattle.land_keep.specs.Timeline.{last_register, last_stamp, register_at}
 use Rattle.land_keep.specs.declared.store_fault.StoreFault.{StoreFault}
 use Rattle.land_rules.specs.Denials.Standing.{mutation_of_act, mutation_of_ask}
 use Rattle.land_rules.specs.Rules.{seen_of, verdict_of}
 use Rattle.land_rules.specs.declared.verdict.Verdict.{Verdict}
+use Rattle.land_select.proofs.KnownRoles.{reaches}
 use Rattle.land_select.specs.Results.{IsResult}
 use Rattle.land_select.specs.Slices.Gathered.{HoldsOfRegister, read_slice_of}
 use Rattle.land_select.specs.Cache.{IsMutationValue, IsValueFor}
@@ -26,20 +28,36 @@ use Rattle.land_select.specs.Views.{AgreesIfGiven}
 use Rattle.land_select.specs.declared.cache.CachedValue.{CachedValue}
 use Rattle.land_select_queries.specs.Joins.Sight.{HoldsNoMandateIf, IsSightWith}
 use Rattle.land_select_queries.specs.Lookups.Parts.{ReadsPart}
-use Rattle.land_tables.proofs.LookedAt.{IsLookedAt}
+use Rattle.land_tables.proofs.LookedAt.{IsLookedAt, look_moment}
 use Rattle.land_tables.proofs.One.{have_members}
 use Rattle.land_tables.proofs.WrittenTimelines.{stays_last}
 use Rattle.land_tables.specs.Standing.{decoded_timeline}
+use Rattle.land_tables.specs.TablesState.{HoldsRegister}
+use Rattle.land_tables_history.specs.History.{IsRegisterAt}
 use Rattle.sqlite.specs.State.{State}
+
+-- in a state, a request for time t that reads at u returns the register at t
+abbrev pub IsReadAs : State → (t u : ℤ) → Type 0
+IsReadAs s t u = (register : HoldsRegister s) → IsRegisterAt u register.holds.history (register_at (decoded_timeline s.now.trees) t)
+
+-- if no change is later than the time, its register is that of the last moment
+pub read_latest : (s : State) (t u : ℤ) (is_latest : Bool) → is_latest ≡ int_le (last_stamp (decoded_timeline s.now.trees)) t → u ≡ (if is_latest then last_moment else int_min t last_moment) → IsReadAs s t u
+read_latest s t u true latest is register =
+    let tl = decoded_timeline s.now.trees in
+    let rising = register.sound.rising in
+    let same : register_at tl t ≡ register_at tl last_moment = stays_last tl t rising (reaches (last_stamp tl) t (sym latest)) ∙ sym (stays_last tl last_moment rising (last_is_moment tl register.sound)) in
+    subst (λ (x : ℤ). IsRegisterAt x register.holds.history (register_at tl t)) (sym is)
+    (subst (λ (r : Register). IsRegisterAt last_moment register.holds.history r) (sym same) (look_moment last_moment last_moment refl s register))
+read_latest s t u false latest is register = look_moment t u is s register
 
 -- the numbers selected at a time are those that the policy lets the caller see in the register at that time;
 -- and a caller that is found to hold no mandate holds none in it
-pub sight_seen : (s : State) (caller : Caller) (holds_none : Bool) (kind : Kind) (t u : ℤ) → IsLookedAt t u → (it : List ℕ × Bool) → IsResult (IsSightWith caller holds_none kind u) s it
+pub sight_seen : (s : State) (caller : Caller) (holds_none : Bool) (kind : Kind) (t u : ℤ) → IsReadAs s t u → (it : List ℕ × Bool) → IsResult (IsSightWith caller holds_none kind u) s it
     → HoldsNoMandateIf holds_none (register_at (decoded_timeline s.now.trees) t) caller.party → (it.0 ≡ seen_of (register_at (decoded_timeline s.now.trees) t) caller kind) × HoldsNoMandateIf it.1 (register_at (decoded_timeline s.now.trees) t) caller.party
 sight_seen s caller holds_none kind t u place it answer given =
     let tl = decoded_timeline s.now.trees in
     let holds = answer.register.holds in
-    answer.answer holds.listed holds.history holds.holds (register_at tl t) (sound_or_nothing tl t answer.register.sound) (place s answer.register) given
+    answer.answer holds.listed holds.history holds.holds (register_at tl t) (sound_or_nothing tl t answer.register.sound) (place answer.register) given
 
 -- a part of the register that is read at a time is that of the register at that time
 pub part_stands : SoundnessByNumber → {T : Type 0} (part : Register → T) (s : State) (t u : ℤ) → IsLookedAt t u → (r : Result T StoreFault) → IfOk r (IsResult (ReadsPart part u) s)

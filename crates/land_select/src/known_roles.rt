@@ -1,8 +1,10 @@
 //! Remembers which roles callers hold, and which citizens hold no mandate, so that the next request does not
 //! look them up again.
-ghost use Rattle.std.specs.Prelude.{◌≡◌, int_le, true};
+ghost use Rattle.std.specs.Int.{int_min};
+ghost use Rattle.std.specs.Prelude.{◌≡◌, if◌then◌else◌, int_le, true};
 ghost use Rattle.land_core.specs.Changes.{after};
 ghost use Rattle.land_core.specs.Grants.{grant_to};
+ghost use Rattle.land_core.specs.Numbers.{last_moment};
 ghost use Rattle.land_core.specs.Register.{holds};
 ghost use Rattle.land_core.specs.declared.register.Register.{Register};
 ghost use Rattle.land_select.specs.KnownRoles.{AreKnownIn, HoldsRoleIf, IsKnownIn, shows_role};
@@ -10,6 +12,7 @@ ghost use Rattle.land_select_queries.specs.Joins.Sight.{HoldsNoMandate, HoldsNoM
 
 use land_core::caller::Caller;
 use land_core::change::Change;
+use land_core::limits::LAST_MOMENT;
 use land_core::roles::{Grant, Roles};
 use land_rules::verdict::Verdict;
 use std::alloc::Global;
@@ -53,6 +56,18 @@ pub(crate) fn is_latest(last: i64, at: i64) -> bool
     ensures { result ≡ int_le last at }
 {
     last <= at
+}
+
+/// Returns the moment at which to read the register of a time: the last one if no change is later than the
+/// time, since fewer comparisons find what is current then.
+pub(crate) fn reading_moment(at: i64, is_latest: bool) -> i64
+    ensures { result ≡ (if is_latest then last_moment else int_min at last_moment) }
+{
+    if is_latest {
+        LAST_MOMENT
+    } else {
+        at.min(LAST_MOMENT)
+    }
 }
 
 /// Checks if a caller is known to hold no mandate. Nothing is known of earlier times than the latest.

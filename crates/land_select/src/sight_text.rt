@@ -84,6 +84,8 @@ fn surveyor_texts(kind: Kind) -> &'static [&'static str]
 
 /// Returns the SQL statements that together select the objects of a kind that a role sees without mandates: 0
 /// to 4 of 23. Parameter 1 is the caller or one of its circle, parameter 2 the time in Unix milliseconds.
+/// At the last moment, a list of all units or parcels runs an equivalent statement with one comparison less
+/// (`joins::all::UNENDED_UNITS` and `UNENDED_PARCELS` of `land_select_queries`).
 pub fn sight_text(role: Role, kind: Kind) -> &'static [&'static str]
     ensures { map (λ text. text.now) result.now ≡ sight_texts role kind }
 {

@@ -4,7 +4,7 @@ ghost use Rattle.land_core.specs.Numbers.{last_moment};
 
 use crate::cache::{Cache, cache_for, take_mutation, take_object, take_value};
 use crate::known_roles::{
-    KnownRoles, forget_outdated, holds_no_mandate, is_known, is_latest, remember,
+    KnownRoles, forget_outdated, holds_no_mandate, is_known, is_latest, reading_moment, remember,
     remember_no_mandate,
 };
 use crate::object::ObjectQuery;
@@ -165,7 +165,7 @@ impl<S: Alter> Keeper for SqlKeeper<S> {
             caller,
             holds_none,
             kind,
-            moment: at.min(LAST_MOMENT),
+            moment: reading_moment(at, latest),
         };
         let told = execute(alloc, &mut self.tables, &sight)?;
         let (numbers, is_none) = told;

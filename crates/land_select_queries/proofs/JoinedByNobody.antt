@@ -41,6 +41,8 @@ module _ (db : Trees) (moments : List Moment) (h : History) (held : HoldsHistory
   -- two callers out of range get the same numbers
   alike : (s : Selection) (caller other : ℕ) → is_number caller ≡ false → selects s t h caller number → selects s t h other number
   alike (selection.All k) caller other out x = x
+  alike selection.UnendedUnits caller other out x = x
+  alike selection.UnendedParcels caller other out x = x
   alike selection.Itself caller other out x = none caller out (somebody x.0.0 caller x.2 (party_within x.0 x.1))
   alike selection.ItsGroups caller other out x = none caller out (somebody x.0.member.party caller x.2 (member_within x.0 x.1))
   alike selection.ItsLodgings caller other out x = none caller out (somebody x.0.1.lodger caller x.2 (lodger_within x.0 x.1))

@@ -73,6 +73,36 @@ all_units_join = record {
   known = λ caller t v. refl;
 }
 
+-- a version has not ended: the end of its lifespan is in this column
+abbrev pub unended : ℕ → ℕ → List Term
+unended slot until = op2 (Compare Lt Binary) moment (col slot until) ∷ []
+
+abbrev pub unended_units : List Term
+unended_units = unended 1 5
+
+pub unended_units_join : IsJoin (selection_text selection.UnendedUnits) (units ∷ []) unended_units (col 1 1)
+unfolding understood everything
+unended_units_join = record {
+  asks = λ indexes. record { names = codes "number" ∷ []; command = refl; unlisted = refl; plain = (refl, refl) };
+  meant = λ indexes. refl;
+  accepted = λ indexes caller t. refl;
+  simple = refl;
+  known = λ caller t v. refl;
+}
+
+abbrev pub unended_parcels : List Term
+unended_parcels = unended 1 7
+
+pub unended_parcels_join : IsJoin (selection_text selection.UnendedParcels) (parcels ∷ []) unended_parcels (col 1 1)
+unfolding understood everything
+unended_parcels_join = record {
+  asks = λ indexes. record { names = codes "number" ∷ []; command = refl; unlisted = refl; plain = (refl, refl) };
+  meant = λ indexes. refl;
+  accepted = λ indexes caller t. refl;
+  simple = refl;
+  known = λ caller t v. refl;
+}
+
 abbrev pub all_parcels : List Term
 all_parcels = still 1 6
 

@@ -35,6 +35,7 @@ pub mod Shapes
 pub mod Standing
 pub mod Streamed
 pub mod Tested
+pub mod Unended
 pub mod United
 pub mod Views
 pub mod Ways

@@ -30,6 +30,8 @@ module _ (t : ℤ) (h : History) (p : ℕ) where
   -- a selected number is selected for all, or for a party in use
   given : (s : Selection) (n : ℕ) → selects s t h p n → ((other : ℕ) → selects s t h other n) ⊎ IsNamedAt t h p
   given (selection.All k) n it = inl (λ other. it)
+  given selection.UnendedUnits n it = inl (λ other. it)
+  given selection.UnendedParcels n it = inl (λ other. it)
   given selection.Itself n it = inr (inl (it.0, it.1, it.2))
   given selection.ItsGroups n it = inr (inr (inl (it.0, it.1, it.2)))
   given selection.ItsLodgings n it = inr (inr (inr (inr (it.0, it.1, it.2))))

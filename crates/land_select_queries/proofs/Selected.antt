@@ -205,6 +205,20 @@ module _ (h : History) (caller : ℕ) (t : ℤ) (number : ℕ) where
     (λ s. let v = version t h.mutations s.0 s.1 in (of s.0 v.since v.until, v.has, ((v.begun, (v.going, tt)), s.2))),
   )
 
+  -- objects of which a version has not ended
+
+  unended_units : Says (units ∷ []) known.unended_units (col 1 1) h caller t number ↔ selects selection.UnendedUnits t h caller number
+  unended_units = (
+    (λ g. (g.0, contains_had h.units g.0 g.1, g.2.0.0, g.2.1)),
+    (λ s. (s.0, has_contained h.units s.0 s.1, ((s.2, tt), s.3))),
+  )
+
+  unended_parcels : Says (parcels ∷ []) known.unended_parcels (col 1 1) h caller t number ↔ selects selection.UnendedParcels t h caller number
+  unended_parcels = (
+    (λ g. (g.0, contains_had h.parcels g.0 g.1, g.2.0.0, g.2.1)),
+    (λ s. (s.0, has_contained h.parcels s.0 s.1, ((s.2, tt), s.3))),
+  )
+
   -- the caller itself, its groups, its lodgings
 
   itself : Says (parties ∷ []) known.itself (col 1 1) h caller t number ↔ selects selection.Itself t h caller number
@@ -593,6 +607,8 @@ places_of (selection.All kind.Parcel) = parcels ∷ []
 places_of (selection.All kind.Rrr) = rrrs ∷ []
 places_of (selection.All kind.Source) = sources ∷ []
 places_of (selection.All kind.Mutation) = mutations ∷ []
+places_of selection.UnendedUnits = units ∷ []
+places_of selection.UnendedParcels = parcels ∷ []
 places_of selection.Itself = parties ∷ []
 places_of selection.ItsGroups = members ∷ []
 places_of selection.ItsLodgings = mutations ∷ []
@@ -618,6 +634,8 @@ filter_of (selection.All kind.Parcel) = known.all_parcels
 filter_of (selection.All kind.Rrr) = known.all_rrrs
 filter_of (selection.All kind.Source) = known.all_sources
 filter_of (selection.All kind.Mutation) = known.all_mutations
+filter_of selection.UnendedUnits = known.unended_units
+filter_of selection.UnendedParcels = known.unended_parcels
 filter_of selection.Itself = known.itself
 filter_of selection.ItsGroups = known.its_groups
 filter_of selection.ItsLodgings = known.its_lodgings
@@ -638,6 +656,8 @@ filter_of selection.LodgedParties = known.lodged_rrrs
 
 abbrev pub shown_of : Selection → Term
 shown_of (selection.All any) = col 1 1
+shown_of selection.UnendedUnits = col 1 1
+shown_of selection.UnendedParcels = col 1 1
 shown_of selection.Itself = col 1 1
 shown_of selection.ItsGroups = col 1 1
 shown_of selection.ItsLodgings = col 1 1
@@ -663,6 +683,8 @@ join_of (selection.All kind.Parcel) = known.all_parcels_join
 join_of (selection.All kind.Rrr) = known.all_rrrs_join
 join_of (selection.All kind.Source) = known.all_sources_join
 join_of (selection.All kind.Mutation) = known.all_mutations_join
+join_of selection.UnendedUnits = known.unended_units_join
+join_of selection.UnendedParcels = known.unended_parcels_join
 join_of selection.Itself = known.itself_join
 join_of selection.ItsGroups = known.its_groups_join
 join_of selection.ItsLodgings = known.its_lodgings_join
@@ -689,6 +711,8 @@ selected (selection.All kind.Parcel) = all_parcels
 selected (selection.All kind.Rrr) = all_rrrs
 selected (selection.All kind.Source) = all_sources
 selected (selection.All kind.Mutation) = all_mutations
+selected selection.UnendedUnits = unended_units
+selected selection.UnendedParcels = unended_parcels
 selected selection.Itself = itself
 selected selection.ItsGroups = its_groups
 selected selection.ItsLodgings = its_lodgings

@@ -66,7 +66,7 @@ fn push_after_commas(text: &mut String, numbers: &[u64]) -> Result<(), AllocErro
         ≡ string_bytes text.old ++ after_comma (map decimal numbers.now)) }
 {
     for number in numbers {
-        text.push_str(",")?;
+        text.push(',')?;
         text.push_str(Buffer::new().format(*number))?;
     }
     Ok(())

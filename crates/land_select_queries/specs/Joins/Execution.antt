@@ -2,9 +2,10 @@
 use Rattle.std.specs.Prelude.{◌≡◌, ◌⊎◌, ◌↔◌, ℕ, ℤ, List, [], ◌∷◌, if◌then◌else◌}
 use Rattle.std.specs.List.{Contains}
 use Rattle.land_core.specs.Numbers.{is_number}
+use Rattle.land_core.specs.declared.kind.Kind.{Kind}
 use Rattle.land_select_queries.specs.Joins.Meaning.{AreNumberRows}
 use Rattle.land_select_queries.specs.Sights.{AnySelects}
-use Rattle.land_select_queries.specs.Sights.Selections.{selects}
+use Rattle.land_select_queries.specs.Sights.Selections.{all_selects, selects}
 use Rattle.land_select_queries.specs.declared.sights.selection.Selection.{Selection}
 use Rattle.land_tables_history.specs.declared.history.History.{History}
 use Rattle.land_tables_history.specs.declared.moment.Moment.{Moment}
@@ -34,6 +35,11 @@ AreRowsOf s t caller db rows = HoldsOfHistory db (λ h. AreNumberRows rows (sele
 -- the numbers that a selection returns for a caller at a time
 abbrev pub AreNumbersOf : Selection → (t : ℤ) → (caller : ℕ) → Trees → List ℕ → Type 0
 AreNumbersOf s t caller db numbers = HoldsOfHistory db (λ h. AreExactly numbers (selects s t h caller))
+
+-- a selection returns all objects of a kind at a time
+abbrev pub SelectsAll : Selection → Kind → (t : ℤ) → Trees → Type 0
+SelectsAll s kind t db = HoldsOfHistory db
+    (λ h. (caller number : ℕ) → selects s t h caller number ↔ all_selects kind t h number)
 
 -- the numbers that at least one of these selections returns for a caller at a time
 abbrev pub AreNumbersOfAny : List Selection → (t : ℤ) → (caller : ℕ) → Trees → List ℕ → Type 0

@@ -23,6 +23,8 @@ all_text kind.Mutation = all.MUTATIONS.now
 
 abbrev pub selection_text : Selection → List ℕ
 selection_text (selection.All kind) = all_text kind
+selection_text selection.UnendedUnits = all.UNENDED_UNITS.now
+selection_text selection.UnendedParcels = all.UNENDED_PARCELS.now
 selection_text selection.Itself = own.ITSELF.now
 selection_text selection.ItsGroups = own.GROUPS.now
 selection_text selection.ItsLodgings = own.LODGINGS.now

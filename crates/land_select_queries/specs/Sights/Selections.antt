@@ -1,5 +1,5 @@
 -- The selections that make up the sight of a role: the numbers that each returns for a caller.
-use Rattle.std.specs.Prelude.{◌≡◌, ◌⊎◌, ℕ, ℤ, true, false, List}
+use Rattle.std.specs.Prelude.{◌≡◌, ◌⊎◌, ℕ, ℤ, true, false, List, int_lt}
 use Rattle.std.specs.List.{Contains}
 use Rattle.land_core.specs.Mutations.{is_undecided}
 use Rattle.land_core.specs.Units.{is_right_of}
@@ -28,6 +28,11 @@ IsCurrent t versions x = Contains (current_values t versions) x
 -- a current record has this number
 abbrev pub IsCurrentUnder : {V : Type 0} → ℤ → List (Version (ℕ × V)) → (number : ℕ) → Type 0
 IsCurrentUnder {V = V} t versions number = (it : ℕ × V) × IsCurrent t versions it × (it.0 ≡ number)
+
+-- a version of a record with this number has not ended by time t
+abbrev pub IsUnendedUnder : {V : Type 0} → ℤ → List (Version (ℕ × V)) → (number : ℕ) → Type 0
+IsUnendedUnder {V = V} t versions number =
+    (v : Version (ℕ × V)) × Contains versions v × (int_lt t v.until ≡ true) × (v.what.0 ≡ number)
 
 -- an entry with its number
 abbrev pub Entry : Type 0
@@ -128,6 +133,8 @@ all_selects kind.Mutation t h number = IsCurrentUnder t h.mutations number
 -- whether a selection returns a number for a caller at a time
 abbrev pub selects : Selection → (t : ℤ) → History → (caller : ℕ) → (number : ℕ) → Type 0
 selects (selection.All k) t h caller number = all_selects k t h number
+selects selection.UnendedUnits t h caller number = IsUnendedUnder t h.units number
+selects selection.UnendedParcels t h caller number = IsUnendedUnder t h.parcels number
 selects selection.Itself t h caller number =
     (it : ℕ × PartyRecord) × IsCurrent t h.parties it × (it.0 ≡ caller) × (it.0 ≡ number)
 selects selection.ItsGroups t h caller number =

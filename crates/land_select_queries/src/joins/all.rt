@@ -15,6 +15,12 @@ pub const PARCELS: &str = "SELECT number FROM parcel WHERE since <= ?2 AND ?2 < 
 /// All entries.
 pub const ENTRIES: &str = "SELECT number FROM rrr WHERE since <= ?2 AND ?2 < until";
 
+/// The units of which a version has not ended. This is faster than `UNITS`, by a comparison for each row.
+pub const UNENDED_UNITS: &str = "SELECT number FROM unit WHERE ?2 < until";
+
+/// The parcels of which a version has not ended.
+pub const UNENDED_PARCELS: &str = "SELECT number FROM parcel WHERE ?2 < until";
+
 /// All sources.
 pub const SOURCES: &str = "SELECT number FROM source WHERE since <= ?2 AND ?2 < until";
 

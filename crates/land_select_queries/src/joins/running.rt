@@ -3,7 +3,7 @@ ghost use Rattle.std.specs.Prelude.{◌<◌, ◌≡◌, ◌≢◌, ◌∷◌, �
 ghost use Rattle.std.specs.List.{Contains};
 ghost use Rattle.std.specs.List.Sorted.{IsStrictlyIncreasing};
 ghost use Rattle.land_select_queries.specs.Joins.Execution.{AreExactly, AreNumbersForAny, AreNumbersOf};
-ghost use Rattle.land_select_queries.specs.Joins.Execution.{AreNumbersOfAny, AreRowsOf, known_or_zero};
+ghost use Rattle.land_select_queries.specs.Joins.Execution.{AreNumbersOfAny, AreRowsOf, SelectsAll, known_or_zero};
 ghost use Rattle.land_select_queries.specs.TableReads.{FailsOnlyWithoutHistory, ReadsTables};
 ghost use Rattle.land_tables_rows.specs.Listing.Reading.{IsRead};
 ghost use Rattle.land_tables_rows.specs.Reading.Cells.{natural_in};
@@ -12,11 +12,13 @@ ghost use Rattle.land_tables_rows.specs.declared.listing.fault.ReadFault.TheVari
 ghost use Rattle.land_tables_schema.specs.Connections.{HasRegisterTables, IsUsable, LeavesAutocommit};
 ghost use Rattle.land_wire_json.specs.Bodies.WireFaults.{Returns};
 ghost use Rattle.land_wire_json.specs.declared.bodies.wire_fault.WireFault.TheVariants as wire;
+ghost use Rattle.sqlite_trees.specs.Tree.{Trees};
 ghost use Rattle.sqlite_value.specs.Order.{column};
 
 use crate::joins::text::text_of;
 use crate::sights::selection::Selection;
-use land_core::limits::is_number;
+use land_core::kind::Kind;
+use land_core::limits::{LAST_MOMENT, is_number};
 use land_core::sequence::{NumberList, Sequence};
 use land_tables_rows::listing::fault::ReadFault;
 use land_tables_rows::reading::cells::natural_at;
@@ -84,6 +86,21 @@ pub(crate) fn read(alloc: Global, rows: &[Row]) -> Result<NumberList, ReadFault>
     Ok(each_number(alloc, rows)?)
 }
 
+/// Returns the selection that returns all objects of a kind at a time. At the last moment all versions have
+/// begun, so those that have not ended are the current ones.
+fn selection_of_all(kind: Kind, at: i64) -> Selection
+    ensures { (db : Trees) → SelectsAll result kind at db }
+{
+    if at < LAST_MOMENT {
+        return Selection::All(kind);
+    }
+    match kind {
+        Kind::Unit => Selection::UnendedUnits,
+        Kind::Parcel => Selection::UnendedParcels,
+        _ => Selection::All(kind),
+    }
+}
+
 /// Returns the numbers of a selection for a caller at a time, in any order. Decodes each row as it comes, so
 /// there is no list of rows. This is faster for 20 rows or more, and slower for two to 19.
 fn stream_numbers<S: Alter>(
@@ -121,8 +138,8 @@ pub fn numbers<S: Alter>(
     ensures unreadable { FailsOnlyWithoutHistory S.Store result conn.old conn.new }
     ensures autocommit { LeavesAutocommit conn.old conn.new }
 {
-    if let Selection::All(_) = selection {
-        return stream_numbers(alloc, conn, selection, caller, at);
+    if let Selection::All(kind) = selection {
+        return stream_numbers(alloc, conn, selection_of_all(kind, at), caller, at);
     }
     let rows = rows_of(conn, selection, caller, at)?;
     read(alloc, rows.as_slice())

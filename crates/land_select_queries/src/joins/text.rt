@@ -27,6 +27,8 @@ pub fn text_of(selection: Selection) -> &'static str
 {
     match selection {
         Selection::All(kind) => all_of(kind),
+        Selection::UnendedUnits => all::UNENDED_UNITS,
+        Selection::UnendedParcels => all::UNENDED_PARCELS,
         Selection::Itself => own::ITSELF,
         Selection::ItsGroups => own::GROUPS,
         Selection::ItsLodgings => own::LODGINGS,

@@ -6,6 +6,10 @@ use land_core::kind::Kind;
 pub enum Selection {
     /// All objects of a kind: of parcels for each role, of all kinds for notaries and state administrators.
     All(Kind),
+    /// The units of which a version has not ended by the time. At the last moment these are all units.
+    UnendedUnits,
+    /// The parcels of which a version has not ended by the time. At the last moment these are all parcels.
+    UnendedParcels,
     /// The caller, for the roles that do not see all parties.
     Itself,
     /// The groups of which a citizen is a member.
