@@ -43,6 +43,9 @@ CHANGES = [
     (f"{RULES}/rules/standing/act.rt", "is_mandate_act(act) && caller.role != Role::Citizen", "is_mandate_act(act) && false"),
     (f"{RULES}/rules/standing/act.rt", "mandate.principal == party || mandate.agent", "mandate.agent"),
     ("land_select_queries/src/lookups/texts.rt", "FROM mandate WHERE agent = ?1", "FROM mandate WHERE principal = ?1"),
+    ("land_select_queries/src/joins/running.rt", "if at < LAST_MOMENT {", "if at < 0 {"),
+    ("land_select_queries/src/joins/all.rt", "FROM parcel WHERE ?2 < until", "FROM parcel WHERE ?2 <= until"),
+    ("land_select_queries/src/joins/text.rt", "Selection::UnendedUnits => all::UNENDED_UNITS", "Selection::UnendedUnits => all::UNENDED_PARCELS"),
     ("land_core/src/words.rt", 'Role::Bank => "bank"', 'Role::Bank => bank_word()'),
 ]
 

@@ -10,10 +10,16 @@ from land_mirror import MirrorError
 
 KINDS = {"Party": "party", "Unit": "unit", "Parcel": "parcel", "Rrr": "rrr", "Source": "source", "Mutation": "mutation"}
 STATEMENTS = 23
+# Selections of the program that return the same as All(kind) at the last moment, and their statements. They are not part of the policy.
+REPEATED = {
+    "UnendedUnits": "SELECT number FROM unit WHERE ?2 < until",
+    "UnendedParcels": "SELECT number FROM parcel WHERE ?2 < until",
+}
 
 # Where each part of the policy is: file, below the folder of the crates.
 TEXTS = "land_select_queries/src/joins"
 TEXT_OF = "land_select_queries/src/joins/text.rt"
+RUNNING = "land_select_queries/src/joins/running.rt"
 SIGHT = "land_select_queries/src/sights/sight.rt"
 CIRCLE = "land_select_queries/src/joins/sight.rt"
 LOOKUPS = "land_select_queries/src/lookups/texts.rt"
@@ -25,6 +31,9 @@ WORDS = "land_core/src/words.rt"
 # (file, function): the body that sql/standing.sql and generate.py translate.
 PINNED = {
     (CIRCLE, "has_circle"): "role == Role::Citizen && !sees_all(role, kind)",
+    (RUNNING, "selection_of_all"):
+        "if at < LAST_MOMENT { return Selection::All(kind); } match kind { Kind::Unit => Selection::UnendedUnits, "
+        "Kind::Parcel => Selection::UnendedParcels, _ => Selection::All(kind), }",
     (DENIALS, "sees_all"): "kind == Kind::Parcel || role == Role::Notary || role == Role::StateAdministrator",
     (DENIALS, "is_unit_of_conveyancer"): "kind == Kind::Unit && role == Role::Conveyancer",
     (DENIALS, "views_itself"): "kind == Kind::Party && number == caller.party",
@@ -127,9 +136,15 @@ class Policy:
         unknown = set(chosen.values()) - set(constants)
         if unknown:
             raise Unexpected(TEXT_OF, f"no constant {', '.join(sorted(unknown))}")
-        if len(chosen) != STATEMENTS or set(chosen.values()) != set(constants):
-            raise Unexpected(TEXTS, f"{len(chosen)} selections and {len(constants)} statements, not {STATEMENTS} of each")
-        return {selection: constants[name] for selection, name in chosen.items()}
+        count = STATEMENTS + len(REPEATED)
+        if len(chosen) != count or set(chosen.values()) != set(constants):
+            raise Unexpected(TEXTS, f"{len(chosen)} selections and {len(constants)} statements, not {count} of each")
+        texts = {selection: constants[name] for selection, name in chosen.items()}
+        for selection, wanted in REPEATED.items():
+            found = texts.pop(selection, None)
+            if found != wanted:
+                raise Unexpected(TEXTS, f"selection `{selection}` has the statement `{found}`, not `{wanted}`")
+        return texts
 
     def read_sight(self):
         sight = {}
